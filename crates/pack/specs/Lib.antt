@@ -1,0 +1,6 @@
+pub mod Limits
+pub mod Names
+pub mod Syntax
+pub mod Forms
+pub mod Read
+pub mod Write

@@ -1,0 +1,202 @@
+-- Laws that carry the code's answers along the definitions: one for each way in which a definition puts answers together.
+use Prim.Native.Nat.{ℕ, _+_, _*_, _-_, _<_, zero, suc}
+use mathlib.Core.List.{List, [], _∷_}
+use mathlib.Core.Bool.{Bool, true, false, cond}
+use mathlib.Core.Path.{_≡_, refl, sym, ap, _∙_}
+use lib.Dec.{ltb}
+use native.Mathlib.Omega.{arith}
+use Rattle.wire.specs.declared.answer.Skipped.{Skipped}
+use Rattle.wire.specs.declared.answer.Skipped.the-variants as sk
+use Rattle.wire.specs.declared.answer.Read.{Read}
+use Rattle.wire.specs.declared.answer.Read.the-variants as rd
+use Rattle.wire.specs.Answer.{Answer, below, bind, byte, deep, early, guard, illegal, index, many, mapA, u16, u32, u64, value}
+use Rattle.wire.specs.Code.{after, becomesOf, checkedOf, next, nextR, nextS, pastOf, read, rep, skip, thenIs}
+
+-- laws
+pub checked-read : (a : Answer ℕ) (n at : ℕ) → checkedOf (read a) n at ≡ read (guard (λ i. ltb i n) at a)
+unfolding checkedOf read guard
+checked-read (value v q) n at = go (ltb v n)
+  where
+    go : (b : Bool) → cond b (rd.Is v q) (rd.Illegal at) ≡ read (cond b (value v q) (illegal at))
+    go true = refl
+    go false = refl
+checked-read early n at = refl
+checked-read (illegal o) n at = refl
+checked-read (deep o) n at = refl
+
+pub past-read : (a : Answer ℕ) → pastOf (read a) ≡ skip a
+unfolding pastOf read skip
+past-read (value v q) = refl
+past-read early = refl
+past-read (illegal o) = refl
+past-read (deep o) = refl
+
+pub skip-bind : {A B : Type 0} (a : Answer A) (k : A → ℕ → Answer B) → skip (bind a k) ≡ after a (λ x q. skip (k x q))
+unfolding skip bind after
+skip-bind (value x q) k = refl
+skip-bind early k = refl
+skip-bind (illegal o) k = refl
+skip-bind (deep o) k = refl
+
+pub after-skip : {A : Type 0} (a : Answer A) (t : ℕ → Skipped) → after a (λ x q. t q) ≡ next (skip a) t
+unfolding skip after next
+after-skip (value x q) t = refl
+after-skip early t = refl
+after-skip (illegal o) t = refl
+after-skip (deep o) t = refl
+
+pub skip-last : {A B : Type 0} (a : Answer A) (f : A → B) → skip (bind a (λ x q. value (f x) q)) ≡ skip a
+unfolding skip bind
+skip-last (value x q) f = refl
+skip-last early f = refl
+skip-last (illegal o) f = refl
+skip-last (deep o) f = refl
+
+pub skip-map : {A B : Type 0} (f : A → B) (a : Answer A) → skip (mapA f a) ≡ skip a
+unfolding skip mapA
+skip-map f (value x q) = refl
+skip-map f early = refl
+skip-map f (illegal o) = refl
+skip-map f (deep o) = refl
+
+pub after-map : {A B : Type 0} (f : A → B) (a : Answer A) (k : B → ℕ → Skipped) → after (mapA f a) k ≡ after a (λ x q. k (f x) q)
+unfolding after mapA
+after-map f (value x q) k = refl
+after-map f early k = refl
+after-map f (illegal o) k = refl
+after-map f (deep o) k = refl
+
+-- to go on from what was found is to go on from each value that may have been found
+pub after-cong : {A : Type 0} (a : Answer A) (j k : A → ℕ → Skipped) → ((x : A) (q : ℕ) → a ≡ value x q → j x q ≡ k x q) → after a j ≡ after a k
+unfolding after
+after-cong (value x q) j k h = h x q refl
+after-cong early j k h = refl
+after-cong (illegal o) j k h = refl
+after-cong (deep o) j k h = refl
+
+pub next-cong : (a : Skipped) (j k : ℕ → Skipped) → ((q : ℕ) → a ≡ sk.To q → j q ≡ k q) → next a j ≡ next a k
+unfolding next
+next-cong (sk.To q) j k h = h q refl
+next-cong sk.Early j k h = refl
+next-cong (sk.Illegal o) j k h = refl
+next-cong (sk.Deep o) j k h = refl
+
+pub next-after : {A : Type 0} (a : Answer A) (j : A → ℕ → Skipped) (k : ℕ → Skipped) → next (after a j) k ≡ after a (λ x q. next (j x q) k)
+unfolding next after
+next-after (value x q) j k = refl
+next-after early j k = refl
+next-after (illegal o) j k = refl
+next-after (deep o) j k = refl
+
+pub below-read : (n : ℕ) (s : List ℕ) (at : ℕ) → checkedOf (read (byte s at)) n at ≡ read (below n s at)
+unfolding below
+below-read n s at = checked-read (byte s at) n at
+
+pub index-read : (n : ℕ) (s : List ℕ) (at : ℕ) → checkedOf (read (u16 s at)) n at ≡ read (index n s at)
+unfolding index
+index-read n s at = checked-read (u16 s at) n at
+
+pub becomes-read : {A : Type 0} (f : ℕ → A) (g : A → ℕ) (n : ℕ) (a : Answer ℕ) → ((x : ℕ) → g (f x) ≡ n) → becomesOf (read a) n ≡ read (mapA g (mapA f a))
+unfolding becomesOf read mapA
+becomes-read f g n (value x q) h = ap (λ (k : ℕ). rd.Is k q) (sym (h x))
+becomes-read f g n early h = refl
+becomes-read f g n (illegal o) h = refl
+becomes-read f g n (deep o) h = refl
+
+pub read-bind : (a : Answer ℕ) (k : ℕ → ℕ → Answer ℕ) → read (bind a k) ≡ nextR (read a) (λ x q. read (k x q))
+unfolding read bind nextR
+read-bind (value x q) k = refl
+read-bind early k = refl
+read-bind (illegal o) k = refl
+read-bind (deep o) k = refl
+
+pub u32-read : (s : List ℕ) (at : ℕ) → read (u32 s at) ≡ nextR (read (u16 s at)) (λ a p. read (bind (u16 s p) (λ b q. value (a + 65536 * b) q)))
+unfolding u32
+u32-read s at = read-bind (u16 s at) _
+
+pub skip-many : {A : Type 0} (r : ℕ → Answer A) (n at : ℕ) → skip (many r n at) ≡ rep (λ p. skip (r p)) n at
+unfolding many rep skip
+skip-many r zero at = refl
+skip-many r (suc n) at =
+    skip-bind (r at) _ ∙
+    after-cong (r at) _ _ (λ x p e. skip-last (many r n p) (λ xs. x ∷ xs) ∙ skip-many r n p) ∙
+    after-skip (r at) (rep (λ p. skip (r p)) n)
+
+pub rep-step : (k : ℕ → Skipped) (n at : ℕ) → 0 < n → rep k n at ≡ next (k at) (rep k (n - 1))
+unfolding rep
+rep-step k zero at h = absurd (omega arith)
+rep-step k (suc n) at h = let e : suc n - 1 ≡ n = omega arith in rw e
+
+pub rep-none : (k : ℕ → Skipped) (at : ℕ) → rep k 0 at ≡ sk.To at
+unfolding rep
+rep-none k at = refl
+
+pub thenIs-read : {A : Type 0} (g : A → ℕ) (n : ℕ) (a : Answer A) → ((x : A) (q : ℕ) → a ≡ value x q → g x ≡ n) → thenIs (skip a) n ≡ read (mapA g a)
+unfolding thenIs skip read mapA
+thenIs-read g n (value x q) h = ap (λ (k : ℕ). rd.Is k q) (sym (h x q refl))
+thenIs-read g n early h = refl
+thenIs-read g n (illegal o) h = refl
+thenIs-read g n (deep o) h = refl
+
+-- a head's fields, as the code goes through them
+pub read-map-bind : {H : Type 0} (g : H → ℕ) (a : Answer ℕ) (k : ℕ → ℕ → Answer H) (t : ℕ → ℕ → Read) → ((x q : ℕ) → read (mapA g (k x q)) ≡ t x q) → read (mapA g (bind a k)) ≡ nextR (read a) t
+unfolding read mapA bind nextR
+read-map-bind g (value x q) k t h = h x q
+read-map-bind g early k t h = refl
+read-map-bind g (illegal o) k t h = refl
+read-map-bind g (deep o) k t h = refl
+
+pub read-map-map : {H : Type 0} (g : H → ℕ) (f : ℕ → H) (a : Answer ℕ) → read (mapA g (mapA f a)) ≡ nextR (read a) (λ x q. rd.Is (g (f x)) q)
+unfolding read mapA nextR
+read-map-map g f (value x q) = refl
+read-map-map g f early = refl
+read-map-map g f (illegal o) = refl
+read-map-map g f (deep o) = refl
+
+pub read-map-id : {H : Type 0} (g : H → ℕ) (f : ℕ → H) (a : Answer ℕ) → ((x : ℕ) → g (f x) ≡ x) → read (mapA g (mapA f a)) ≡ read a
+unfolding read mapA
+read-map-id g f (value x q) h = ap (λ (k : ℕ). rd.Is k q) (h x)
+read-map-id g f early h = refl
+read-map-id g f (illegal o) h = refl
+read-map-id g f (deep o) h = refl
+
+pub skip-bindS : {B : Type 0} (a : Answer ℕ) (k : ℕ → ℕ → Answer B) (t : ℕ → ℕ → Skipped) → ((x q : ℕ) → skip (k x q) ≡ t x q) → skip (bind a k) ≡ nextS (read a) t
+unfolding skip bind read nextS
+skip-bindS (value x q) k t h = h x q
+skip-bindS early k t h = refl
+skip-bindS (illegal o) k t h = refl
+skip-bindS (deep o) k t h = refl
+
+-- one thing after another, where the second does not depend on the first's value
+pub skip-seq : {A B : Type 0} (a : Answer A) (k : A → ℕ → Answer B) (t : ℕ → Skipped) → ((x : A) (q : ℕ) → skip (k x q) ≡ t q) → skip (bind a k) ≡ next (skip a) t
+unfolding skip bind next
+skip-seq (value x q) k t h = h x q
+skip-seq early k t h = refl
+skip-seq (illegal o) k t h = refl
+skip-seq (deep o) k t h = refl
+
+pub u64-skip : (s : List ℕ) (at : ℕ) → skip (u64 s at) ≡ next (skip (u32 s at)) (λ p. skip (u32 s p))
+unfolding u64
+u64-skip s at = skip-seq (u32 s at) _ _ (λ a p. skip-last (u32 s p) _)
+
+pub guard-read : (t : ℕ → Bool) (at : ℕ) (a : Answer ℕ) → read (guard t at a) ≡ nextR (read a) (λ v q. cond (t v) (rd.Is v q) (rd.Illegal at))
+unfolding read guard nextR
+guard-read t at (value v q) = go (t v)
+  where
+    go : (b : Bool) → read (cond b (value v q) (illegal at)) ≡ cond b (rd.Is v q) (rd.Illegal at)
+    go true = refl
+    go false = refl
+guard-read t at early = refl
+guard-read t at (illegal o) = refl
+guard-read t at (deep o) = refl
+
+pub guard-skip : (t : ℕ → Bool) (at : ℕ) (a : Answer ℕ) → skip (guard t at a) ≡ nextS (read a) (λ v q. cond (t v) (sk.To q) (sk.Illegal at))
+unfolding read skip guard nextS
+guard-skip t at (value v q) = go (t v)
+  where
+    go : (b : Bool) → skip (cond b (value v q) (illegal at)) ≡ cond b (sk.To q) (sk.Illegal at)
+    go true = refl
+    go false = refl
+guard-skip t at early = refl
+guard-skip t at (illegal o) = refl
+guard-skip t at (deep o) = refl

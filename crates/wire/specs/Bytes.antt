@@ -1,0 +1,11 @@
+-- Numbers as bytes, lowest first.
+use Prim.Native.Nat.{ℕ, zero, suc, _/_, _%_}
+use mathlib.Core.List.{List, [], _∷_}
+
+-- n bytes of a number, lowest first
+unfoldable pub bytes : ℕ → ℕ → List ℕ
+bytes zero k = []
+bytes (suc n) k = (k % 256) ∷ bytes n (k / 256)
+
+unfoldable pub two : ℕ → List ℕ
+two k = (k % 256) ∷ (k / 256 % 256) ∷ []

@@ -1,0 +1,4 @@
+pub mod Answer
+pub mod Preorder
+pub mod Bytes
+pub mod Code

@@ -1,0 +1,3 @@
+// Numbers on lent bytes, read and written; knows nothing of packs.
+pub mod answer; // what reading answers, and the steps on answers
+pub mod number; // numbers, lowest byte first

@@ -1,0 +1,68 @@
+// Numbers on lent bytes, lowest byte first.
+use crate::answer::{becomes, checked, past, Read, Skipped};
+ghost use mathlib.Core.Path.{_≡_};
+ghost use Rattle.wire.specs.Answer.{byte, u16, u32, u64, index, below};
+ghost use Rattle.wire.specs.Code.{read, skip};
+
+pub fn read_byte(s: &[u8], at: usize) -> Read
+    ensures { λ r. ⌜ r ≡ read (byte (now (s .entry)) at) ⌝ }
+{
+    if at < s.len() {
+        Read::Is { value: s[at] as usize, next: at + 1 }
+    } else {
+        Read::Early
+    }
+}
+
+pub fn read_u16(s: &[u8], at: usize) -> Read
+    ensures { λ r. ⌜ r ≡ read (u16 (now (s .entry)) at) ⌝ }
+{
+    if s.len() <= at {
+        return Read::Early;
+    }
+    let low = s[at] as usize;
+    let b = at + 1;
+    if s.len() <= b {
+        return Read::Early;
+    }
+    let high = s[b] as usize;
+    Read::Is { value: low + 256 * high, next: b + 1 }
+}
+
+// A byte below a bound.
+pub fn read_below(s: &[u8], bound: usize, at: usize) -> Read
+    ensures { λ r. ⌜ r ≡ read (below bound (now (s .entry)) at) ⌝ }
+{
+    checked(read_byte(s, at), bound, at)
+}
+
+// A name index, below the number of names.
+pub fn read_index(s: &[u8], names: usize, at: usize) -> Read
+    ensures { λ r. ⌜ r ≡ read (index names (now (s .entry)) at) ⌝ }
+{
+    checked(read_u16(s, at), names, at)
+}
+
+pub fn read_u32(s: &[u8], at: usize) -> Read
+    ensures { λ r. ⌜ r ≡ read (u32 (now (s .entry)) at) ⌝ }
+{
+    let r = read_u16(s, at);
+    let Read::Is { value: low, next: p } = r else {
+        return r;
+    };
+    let t = read_u16(s, p);
+    let Read::Is { value: high, next: q } = t else {
+        return t;
+    };
+    Read::Is { value: low + 65536 * high, next: q }
+}
+
+pub fn skip_u64(s: &[u8], at: usize) -> Skipped
+    ensures { λ r. ⌜ r ≡ skip (u64 (now (s .entry)) at) ⌝ }
+{
+    let r = past(read_u32(s, at));
+    let Skipped::To(p) = r else {
+        return r;
+    };
+    past(read_u32(s, p))
+}
