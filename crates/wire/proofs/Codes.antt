@@ -1,5 +1,5 @@
 -- Laws that carry the code's answers along the definitions: one for each way in which a definition puts answers together.
-use Prim.Native.Nat.{ℕ, _+_, _*_, _-_, _<_, zero, suc}
+use Prim.Native.Nat.{ℕ, _+_, _*_, _-_, _<_, _≤_, zero, suc}
 use mathlib.Core.List.{List, [], _∷_}
 use mathlib.Core.Bool.{Bool, true, false, cond}
 use mathlib.Core.Path.{_≡_, refl, sym, ap, _∙_}
@@ -9,8 +9,8 @@ use Rattle.wire.specs.declared.answer.Skipped.{Skipped}
 use Rattle.wire.specs.declared.answer.Skipped.the-variants as sk
 use Rattle.wire.specs.declared.answer.Read.{Read}
 use Rattle.wire.specs.declared.answer.Read.the-variants as rd
-use Rattle.wire.specs.Answer.{Answer, below, bind, byte, deep, early, guard, illegal, index, many, mapA, u16, u32, u64, value}
-use Rattle.wire.specs.Code.{after, becomesOf, checkedOf, next, nextR, nextS, pastOf, read, rep, skip, thenIs}
+use Rattle.wire.specs.Answer.{Answer, below, bind, byte, deep, early, guard, illegal, index, many, mapA, u16, u32, u64, value, counted}
+use Rattle.wire.specs.Code.{after, becomesOf, checkedOf, next, nextR, nextS, pastOf, read, rep, skip, thenIs, skips, onward, listed, leftOf}
 
 -- laws
 pub checked-read : (a : Answer ℕ) (n at : ℕ) → checkedOf (read a) n at ≡ read (guard (λ i. ltb i n) at a)
@@ -200,3 +200,93 @@ guard-skip t at (value v q) = go (t v)
 guard-skip t at early = refl
 guard-skip t at (illegal o) = refl
 guard-skip t at (deep o) = refl
+
+-- straight-line code: a production's parts, in order
+unfoldable pub steps : List (ℕ → Skipped) → Skipped → Skipped
+steps [] r = r
+steps (f ∷ fs) r = steps fs (next r f)
+
+steps-early : (fs : List (ℕ → Skipped)) → sk.Early ≡ steps fs sk.Early
+unfolding steps next
+steps-early [] = refl
+steps-early (f ∷ fs) = steps-early fs
+
+steps-illegal : (fs : List (ℕ → Skipped)) (o : ℕ) → sk.Illegal o ≡ steps fs (sk.Illegal o)
+unfolding steps next
+steps-illegal [] o = refl
+steps-illegal (f ∷ fs) o = steps-illegal fs o
+
+steps-deep : (fs : List (ℕ → Skipped)) (o : ℕ) → sk.Deep o ≡ steps fs (sk.Deep o)
+unfolding steps next
+steps-deep [] o = refl
+steps-deep (f ∷ fs) o = steps-deep fs o
+
+-- the part that is read first, then the others
+pub bind-steps : {A B : Type 0} (f : ℕ → Answer A) (p : ℕ) (k : A → ℕ → Answer B) (fs : List (ℕ → Skipped)) → ((x : A) (q : ℕ) → skip (k x q) ≡ steps fs (sk.To q)) → skip (bind (f p) k) ≡ steps (skips f ∷ fs) (sk.To p)
+unfolding steps next skips skip bind
+bind-steps {A} f p k fs h = go (f p)
+  where
+    go : (a : Answer A) → skip (bind a k) ≡ steps fs (skip a)
+    go (value x q) = h x q
+    go early = steps-early fs
+    go (illegal o) = steps-illegal fs o
+    go (deep o) = steps-deep fs o
+
+pub last-step : {A B : Type 0} (f : ℕ → Answer A) (p : ℕ) (c : A → B) → skip (mapA c (f p)) ≡ steps (skips f ∷ []) (sk.To p)
+unfolding steps next skips
+last-step f p c = skip-map c (f p)
+
+pub from-steps : {A : Type 0} (h : ℕ → Answer A) (fs : List (ℕ → Skipped)) → ((p : ℕ) → skip (h p) ≡ steps fs (sk.To p)) → (r : Skipped) → onward h r ≡ steps fs r
+unfolding onward next skips
+from-steps h fs e (sk.To p) = e p
+from-steps h fs e sk.Early = steps-early fs
+from-steps h fs e (sk.Illegal o) = steps-illegal fs o
+from-steps h fs e (sk.Deep o) = steps-deep fs o
+
+-- a list after its count
+pub listed-counted : {A : Type 0} (f : ℕ → Answer A) (s : List ℕ) (r : Skipped) → listed s (skips f) r ≡ onward (counted f s) r
+unfolding listed onward counted skips
+listed-counted f s r = next-cong r _ _ (λ p e. sym (skip-bindS (u16 s p) _ _ (λ n q. skip-many f n q)))
+
+left-same : (k : ℕ → Skipped) (r : Skipped) (n : ℕ) → next r (rep k (leftOf r n)) ≡ next r (rep k n)
+unfolding next leftOf
+left-same k (sk.To q) n = refl
+left-same k sk.Early n = refl
+left-same k (sk.Illegal o) n = refl
+left-same k (sk.Deep o) n = refl
+
+pub left-less : (r : Skipped) (n : ℕ) → leftOf r n ≤ n
+unfolding leftOf
+left-less (sk.To q) n = omega arith
+left-less sk.Early n = omega arith
+left-less (sk.Illegal o) n = omega arith
+left-less (sk.Deep o) n = omega arith
+
+next-next : (r : Skipped) (f g : ℕ → Skipped) → next (next r f) g ≡ next r (λ p. next (f p) g)
+unfolding next
+next-next (sk.To q) f g = refl
+next-next sk.Early f g = refl
+next-next (sk.Illegal o) f g = refl
+next-next (sk.Deep o) f g = refl
+
+next-to : (r : Skipped) → next r sk.To ≡ r
+unfolding next
+next-to (sk.To q) = refl
+next-to sk.Early = refl
+next-to (sk.Illegal o) = refl
+next-to (sk.Deep o) = refl
+
+-- the loop over a list: one element more, and the end
+pub list-more : {A : Type 0} (f : ℕ → Answer A) (n : ℕ) (r t z : Skipped) (m : ℕ) → 0 < n → t ≡ onward f r → m ≡ leftOf t (n - 1) → next r (rep (skips f) n) ≡ z → next t (rep (skips f) m) ≡ z
+unfolding onward
+list-more f n r t z m l e g h =
+    ap (λ (i : ℕ). next t (rep (skips f) i)) g ∙
+    left-same (skips f) t (n - 1) ∙
+    ap (λ (x : Skipped). next x (rep (skips f) (n - 1))) e ∙
+    next-next r (skips f) (rep (skips f) (n - 1)) ∙
+    next-cong r _ _ (λ p d. sym (rep-step (skips f) n p l)) ∙ h
+
+pub list-end : {A : Type 0} (f : ℕ → Answer A) (n : ℕ) (r z : Skipped) → n ≤ 0 → next r (rep (skips f) n) ≡ z → r ≡ z
+unfolding rep
+list-end f zero r z l h = sym (next-to r) ∙ h
+list-end f (suc n) r z l h = absurd (omega arith)

@@ -14,7 +14,7 @@ use Rattle.wire.specs.declared.answer.Skipped.the-variants as sk
 use Rattle.wire.specs.declared.answer.Read.{Read}
 use Rattle.wire.specs.declared.answer.Read.the-variants as rd
 use Rattle.wire.specs.Answer.{Answer, below, deep, early, guard, illegal, many, mapA, u16, value}
-use Rattle.wire.specs.Code.{after, becomesOf, checkedOf, next, nextR, nextS, pastOf, read, rep, skip, thenIs}
+use Rattle.wire.specs.Code.{after, becomesOf, checkedOf, next, nextR, nextS, pastOf, read, rep, skip, thenIs, skips, onward, listed, leftOf}
 use Rattle.wire.proofs.Codes.{becomes-read, checked-read, past-read, rep-none, rep-step, skip-many, thenIs-read}
 use Rattle.wire.proofs.Answers.{byte-value, guard-value, map-map, u16-value}
 use Rattle.wire.proofs.Preorders.{Moves, pending, pending-none, pending-step}
@@ -151,3 +151,52 @@ list-done k n at z h f = let e : 0 ≡ n = omega arith in sym (rep-none k at) �
 -- a number that is at least k and is not k: `omega` takes at most 6 such facts at once, so a `match` of more arms goes by this step
 pub step : (k n : ℕ) → k ≤ n → (n ≡ k → ⊥) → k + 1 ≤ n
 step k n h d = omega arith
+
+-- a step from where reading stands: what stopped stays so
+pub stays : {A : Type 0} (f : ℕ → Answer A) (r : Skipped) → OneOf (1 ∷ 2 ∷ 3 ∷ []) (tagOf Skipped-enum.the-type r) → r ≡ onward f r
+unfolding onward
+stays f r h = stops r (skips f) h
+
+pub reaches : {A : Type 0} (f : ℕ → Answer A) (from r : Skipped) (q : ℕ) → from ≡ sk.To q → r ≡ skip (f q) → r ≡ onward f from
+unfolding onward next skips
+reaches f from r q e g = g ∙ ap (λ (x : Skipped). next x (skips f)) (sym e)
+
+pub reaches-number : (f : ℕ → Answer ℕ) (from r : Skipped) (q : ℕ) (x : Read) → from ≡ sk.To q → x ≡ read (f q) → r ≡ pastOf x → r ≡ onward f from
+reaches-number f from r q x e g h = reaches f from r q e (past-skip x r (f q) g h)
+
+pub left-stopped : (r : Skipped) (n : ℕ) → OneOf (1 ∷ 2 ∷ 3 ∷ []) (tagOf Skipped-enum.the-type r) → 0 ≡ leftOf r n
+unfolding leftOf
+left-stopped (sk.To q) n h = absurd (never h)
+left-stopped sk.Early n h = refl
+left-stopped (sk.Illegal o) n h = refl
+left-stopped (sk.Deep o) n h = refl
+
+pub left-goes : (r : Skipped) (n : ℕ) → OneOf (0 ∷ []) (tagOf Skipped-enum.the-type r) → n ≡ leftOf r n
+unfolding leftOf
+left-goes (sk.To q) n h = refl
+left-goes sk.Early n h = absurd (omega arith)
+left-goes (sk.Illegal o) n h = absurd (omega arith)
+left-goes (sk.Deep o) n h = absurd (omega arith)
+
+-- a count from where reading stands
+pub count-stays : (s : List ℕ) (k : ℕ → Skipped) (r : Skipped) → OneOf (1 ∷ 2 ∷ 3 ∷ []) (tagOf Skipped-enum.the-type r) → next r (rep k 0) ≡ listed s k r
+unfolding listed next nextS pastOf
+count-stays s k (sk.To q) h = absurd (never h)
+count-stays s k sk.Early h = refl
+count-stays s k (sk.Illegal o) h = refl
+count-stays s k (sk.Deep o) h = refl
+
+pub count-stops : (s : List ℕ) (k : ℕ → Skipped) (from p : Skipped) (q : ℕ) (x : Read) → from ≡ sk.To q → x ≡ read (u16 s q) → OneOf (1 ∷ 2 ∷ 3 ∷ []) (tagOf Read-enum.the-type x) → p ≡ pastOf x → next p (rep k 0) ≡ listed s k from
+unfolding listed next nextS pastOf
+count-stops s k from p q x e g h d =
+    ap (λ (y : Skipped). next y (rep k 0)) d ∙ go x h ∙ ap (λ (y : Read). nextS y (rep k)) g ∙ ap (λ (y : Skipped). next y (λ p. nextS (read (u16 s p)) (rep k))) (sym e)
+  where
+    go : (y : Read) → OneOf (1 ∷ 2 ∷ 3 ∷ []) (tagOf Read-enum.the-type y) → next (pastOf y) (rep k 0) ≡ nextS y (rep k)
+    go (rd.Is v t) h = absurd (never h)
+    go rd.Early h = refl
+    go (rd.Illegal o) h = refl
+    go (rd.Deep o) h = refl
+
+pub count-goes : (s : List ℕ) (k : ℕ → Skipped) (from : Skipped) (q : ℕ) (x : Read) (n p : ℕ) → from ≡ sk.To q → x ≡ read (u16 s q) → x ≡ rd.Is n p → next (sk.To p) (rep k n) ≡ listed s k from
+unfolding listed next nextS
+count-goes s k from q x n p e g h = ap (λ (y : Read). nextS y (rep k)) (sym h ∙ g) ∙ ap (λ (y : Skipped). next y (λ p. nextS (read (u16 s p)) (rep k))) (sym e)
