@@ -4,3 +4,5 @@ pub mod Syntax
 pub mod Forms
 pub mod Read
 pub mod Write
+pub mod RawNames
+pub mod Heads

@@ -1,1 +1,2 @@
 // The pack format.
+pub mod names; // the name section

@@ -10,11 +10,11 @@ use Rattle.wire.specs.declared.answer.Read.the-variants as rd
 use Rattle.wire.specs.Answer.{Answer, value, early, illegal, deep, u16}
 
 -- what the code answers
-unfoldable pub read : Answer ℕ → Read
-read (value n q) = rd.Is n q
-read early = rd.Early
-read (illegal o) = rd.Illegal o
-read (deep o) = rd.Deep o
+unfoldable pub readOf : Answer ℕ → Read
+readOf (value n q) = rd.Is n q
+readOf early = rd.Early
+readOf (illegal o) = rd.Illegal o
+readOf (deep o) = rd.Deep o
 
 unfoldable pub skip : {A : Type 0} → Answer A → Skipped
 skip (value a q) = sk.To q
@@ -84,7 +84,7 @@ onward f r = next r (skips f)
 
 -- a count, then as many times k
 unfoldable pub listed : List ℕ → (ℕ → Skipped) → Skipped → Skipped
-listed s k r = next r (λ p. nextS (read (u16 s p)) (rep k))
+listed s k r = next r (λ p. nextS (readOf (u16 s p)) (rep k))
 
 -- how many are left to skip: none once reading stopped
 unfoldable pub leftOf : Skipped → ℕ → ℕ

@@ -4,10 +4,10 @@ ghost use mathlib.Core.Path.{_≡_};
 ghost use Prim.Native.Nat.{ℕ};
 ghost use Rattle.wire.specs.declared.answer.Skipped.{Skipped};
 ghost use Rattle.wire.specs.Answer.{byte, u16, u32, u64, index, below};
-ghost use Rattle.wire.specs.Code.{read, skip, next, onward, listed, rep};
+ghost use Rattle.wire.specs.Code.{readOf, skip, next, onward, listed, rep};
 
 pub fn read_byte(s: &[u8], at: usize) -> Read
-    ensures { λ r. ⌜ r ≡ read (byte (now (s .entry)) at) ⌝ }
+    ensures { λ r. ⌜ r ≡ readOf (byte (now (s .entry)) at) ⌝ }
 {
     if at < s.len() {
         Read::Is { value: s[at] as usize, next: at + 1 }
@@ -17,7 +17,7 @@ pub fn read_byte(s: &[u8], at: usize) -> Read
 }
 
 pub fn read_u16(s: &[u8], at: usize) -> Read
-    ensures { λ r. ⌜ r ≡ read (u16 (now (s .entry)) at) ⌝ }
+    ensures { λ r. ⌜ r ≡ readOf (u16 (now (s .entry)) at) ⌝ }
 {
     if s.len() <= at {
         return Read::Early;
@@ -33,20 +33,20 @@ pub fn read_u16(s: &[u8], at: usize) -> Read
 
 // A byte below a bound.
 pub fn read_below(s: &[u8], bound: usize, at: usize) -> Read
-    ensures { λ r. ⌜ r ≡ read (below bound (now (s .entry)) at) ⌝ }
+    ensures { λ r. ⌜ r ≡ readOf (below bound (now (s .entry)) at) ⌝ }
 {
     checked(read_byte(s, at), bound, at)
 }
 
 // A name index, below the number of names.
 pub fn read_index(s: &[u8], names: usize, at: usize) -> Read
-    ensures { λ r. ⌜ r ≡ read (index names (now (s .entry)) at) ⌝ }
+    ensures { λ r. ⌜ r ≡ readOf (index names (now (s .entry)) at) ⌝ }
 {
     checked(read_u16(s, at), names, at)
 }
 
 pub fn read_u32(s: &[u8], at: usize) -> Read
-    ensures { λ r. ⌜ r ≡ read (u32 (now (s .entry)) at) ⌝ }
+    ensures { λ r. ⌜ r ≡ readOf (u32 (now (s .entry)) at) ⌝ }
 {
     let r = read_u16(s, at);
     let Read::Is { value: low, next: p } = r else {
