@@ -1,1 +1,4 @@
 pub mod NameLaws
+pub mod TypeLaws
+pub mod ExprLaws
+pub mod NodeLaws

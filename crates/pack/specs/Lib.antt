@@ -6,3 +6,4 @@ pub mod Read
 pub mod Write
 pub mod RawNames
 pub mod Heads
+pub mod Nodes

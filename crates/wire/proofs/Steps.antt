@@ -25,7 +25,7 @@ use lib.ListN.{length, getD}
 never : OneOf (1 ∷ 2 ∷ 3 ∷ []) 0 → ⊥
 never h = ⊎-elim (λ e. omega arith) (⊎-elim (λ e. omega arith) (λ e. omega arith)) h
 
-never-is : (r : Read) (v q : ℕ) → OneOf (1 ∷ 2 ∷ 3 ∷ []) (tagOf Read-enum.the-type r) → r ≡ rd.Is v q → ⊥
+pub never-is : (r : Read) (v q : ℕ) → OneOf (1 ∷ 2 ∷ 3 ∷ []) (tagOf Read-enum.the-type r) → r ≡ rd.Is v q → ⊥
 never-is (rd.Is w p) v q h e = never h
 never-is rd.Early v q h e = let z : _≡_ {A = ℕ} 0 1 = cc in omega arith
 never-is (rd.Illegal o) v q h e = let z : _≡_ {A = ℕ} 0 1 = cc in omega arith
