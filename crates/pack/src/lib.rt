@@ -1,4 +1,8 @@
-// The pack format.
+// The pack format: what a pack is, read and checked.
+pub mod record; // the pack record, with the limits
 pub mod names; // the name section
 pub mod types; // types
 pub mod exprs; // expressions
+pub mod parts; // ports, equations, transitions
+pub mod charts; // states and regions
+pub mod sections; // the sections after the names

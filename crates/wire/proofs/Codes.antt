@@ -255,12 +255,15 @@ left-same k sk.Early n = refl
 left-same k (sk.Illegal o) n = refl
 left-same k (sk.Deep o) n = refl
 
-pub left-less : (r : Skipped) (n : ℕ) → leftOf r n ≤ n
+left-less : (r : Skipped) (n : ℕ) → leftOf r n ≤ n
 unfolding leftOf
 left-less (sk.To q) n = omega arith
 left-less sk.Early n = omega arith
 left-less (sk.Illegal o) n = omega arith
 left-less (sk.Deep o) n = omega arith
+
+pub left-fewer : (r : Skipped) (n m : ℕ) → 0 < n → m ≡ leftOf r (n - 1) → m < n
+left-fewer r n m l e = omega (arith, left-less r (n - 1))
 
 next-next : (r : Skipped) (f g : ℕ → Skipped) → next (next r f) g ≡ next r (λ p. next (f p) g)
 unfolding next

@@ -14,7 +14,7 @@ use Rattle.wire.specs.declared.answer.Skipped.the-variants as sk
 use Rattle.wire.specs.declared.answer.Read.{Read}
 use Rattle.wire.specs.declared.answer.Read.the-variants as rd
 use Rattle.wire.specs.Answer.{Answer, below, deep, early, guard, illegal, many, mapA, u16, value}
-use Rattle.wire.specs.Code.{after, becomesOf, checkedOf, next, nextR, nextS, pastOf, readOf, rep, skip, thenIs, skips, onward, listed, leftOf}
+use Rattle.wire.specs.Code.{after, becomesOf, checkedOf, next, nextR, nextS, pastOf, readOf, rep, skip, thenIs, skips, onward, listed, leftOf, tooDeep}
 use Rattle.wire.proofs.Codes.{becomes-read, checked-read, past-read, rep-none, rep-step, skip-many, thenIs-read}
 use Rattle.wire.proofs.Answers.{byte-value, guard-value, map-map, u16-value}
 use Rattle.wire.proofs.Preorders.{Moves, pending, pending-none, pending-step}
@@ -200,3 +200,10 @@ count-stops s k from p q x e g h d =
 pub count-goes : (s : List ℕ) (k : ℕ → Skipped) (from : Skipped) (q : ℕ) (x : Read) (n p : ℕ) → from ≡ sk.To q → x ≡ readOf (u16 s q) → x ≡ rd.Is n p → next (sk.To p) (rep k n) ≡ listed s k from
 unfolding listed next nextS
 count-goes s k from q x n p e g h = ap (λ (y : Read). nextS y (rep k)) (sym h ∙ g) ∙ ap (λ (y : Skipped). next y (λ p. nextS (readOf (u16 s p)) (rep k))) (sym e)
+
+pub deep-stays : (r : Skipped) → OneOf (1 ∷ 2 ∷ 3 ∷ []) (tagOf Skipped-enum.the-type r) → r ≡ tooDeep r
+unfolding tooDeep
+deep-stays (sk.To q) h = absurd (never h)
+deep-stays sk.Early h = refl
+deep-stays (sk.Illegal o) h = refl
+deep-stays (sk.Deep o) h = refl

@@ -92,3 +92,10 @@ leftOf (sk.To q) n = n
 leftOf sk.Early n = 0
 leftOf (sk.Illegal o) n = 0
 leftOf (sk.Deep o) n = 0
+
+-- what may not open is refused at its offset
+unfoldable pub tooDeep : Skipped → Skipped
+tooDeep (sk.To q) = sk.Deep q
+tooDeep sk.Early = sk.Early
+tooDeep (sk.Illegal o) = sk.Illegal o
+tooDeep (sk.Deep o) = sk.Deep o

@@ -1,6 +1,6 @@
 // What reading answers, and the steps on answers.
 ghost use mathlib.Core.Path.{_≡_};
-ghost use Rattle.wire.specs.Code.{checkedOf, pastOf, becomesOf, thenIs, leftOf};
+ghost use Rattle.wire.specs.Code.{checkedOf, pastOf, becomesOf, thenIs, leftOf, tooDeep};
 
 // A number with the offset after it, or why there is none.
 pub enum Read {
@@ -71,5 +71,15 @@ pub fn left(r: Skipped, n: usize) -> usize
     match r {
         Skipped::To(_) => n,
         _ => 0,
+    }
+}
+
+// What may not open is refused at its offset.
+pub fn too_deep(from: Skipped) -> Skipped
+    ensures { λ r. ⌜ r ≡ tooDeep from ⌝ }
+{
+    match from {
+        Skipped::To(at) => Skipped::Deep(at),
+        _ => from,
     }
 }
