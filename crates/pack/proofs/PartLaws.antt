@@ -1,5 +1,5 @@
 -- One law for each production: what it skips is what its parts skip, one after the other.
-use Prim.Native.Nat.{ℕ, _≤_, _<_}
+use Prim.Native.Nat.{ℕ, zero, suc, _-_, _≤_, _<_}
 use mathlib.Core.List.{List, [], _∷_}
 use mathlib.Core.Path.{_≡_, refl, sym, ap, _∙_}
 use lib.ListN.{length}
@@ -9,18 +9,18 @@ use native.Mathlib.Omega.{arith}
 use types.Run.{OneOf}
 use denote.Enum.Declared.{tagOf}
 use borrow.Author.Tests.{lt-ltb, le-ltb, eq-eqb, ne-eqb}
+use Rattle.wire.specs.Code.{next, onward, pastOf, readOf, skip, skips, tooDeep}
+use Rattle.pack.specs.Read.{OneRegion, activationIn, branchIn, enumIn, equationIn, equationsIn, exprIn, machineIn, nameIn, namesIn, nodeIn, optionalIn, originIn, portIn, portsIn, regionAt, stateAt, stateWith, transitionIn, typeIn}
 use Rattle.wire.proofs.answer.Read as Read-enum
 use Rattle.wire.specs.declared.answer.Read.{Read}
 use Rattle.wire.specs.declared.answer.Read.the-variants as rd
 use Rattle.wire.specs.Answer.{Answer, below, counted, guard, index, u16}
-use Rattle.wire.specs.Code.{next, onward, pastOf, readOf, skip, skips}
 use Rattle.pack.specs.Limits.{absent}
 use Rattle.wire.proofs.Steps.{goesR, past-skip, stoppedR}
 use Rattle.wire.proofs.Codes.{bind-steps, from-steps, guard-read, last-step, next-cong, skip-map, steps}
 use Rattle.wire.specs.declared.answer.Skipped.{Skipped}
 use Rattle.wire.specs.declared.answer.Skipped.the-variants as sk
 use Rattle.pack.specs.Names.{Name}
-use Rattle.pack.specs.Read.{activationIn, branchIn, enumIn, equationIn, equationsIn, exprIn, machineIn, nameIn, namesIn, nodeIn, optionalIn, originIn, portIn, portsIn, regionAt, stateAt, stateWith, transitionIn, typeIn}
 use Rattle.pack.specs.Forms.{exprAt, typeAt}
 
 module _ (ns : List Name) (s : List ℕ) where
@@ -161,3 +161,36 @@ optional-past ns s at names r q e g h =
     past-skip r q _ g h
     ∙ ap (λ (n : ℕ). skip (guard (λ i. ltb i n || eqb i absent) at (u16 s at))) (sym e)
     ∙ sym (skip-map _ (guard (λ i. ltb i (length ns) || eqb i absent) at (u16 s at)))
+
+-- a state, given how a region is read; a region, which may not open with no level left
+module _ (ns : List Name) (s : List ℕ) (region : ℕ → Answer OneRegion) where
+  abbrev stateParts : List (ℕ → Skipped)
+  stateParts = skips (nameIn ns s) ∷ skips (equationsIn ns s) ∷ skips (counted (transitionIn ns s) s) ∷ skips (counted region s) ∷ skips (optionalIn ns s) ∷ []
+
+  state-parts : (p : ℕ) → skip (stateWith region ns s p) ≡ steps stateParts (sk.To p)
+  unfolding stateWith
+  state-parts p = bind-steps (nameIn ns s) p _ _ (λ x0 p0. bind-steps (equationsIn ns s) p0 _ _ (λ x1 p1. bind-steps (counted (transitionIn ns s) s) p1 _ _ (λ x2 p2. bind-steps (counted region s) p2 _ _ (λ x3 p3. last-step (optionalIn ns s) p3 _))))
+
+  pub state-steps : (r : Skipped) → onward (optionalIn ns s) (onward (counted region s) (onward (counted (transitionIn ns s) s) (onward (equationsIn ns s) (onward (nameIn ns s) r)))) ≡ onward (stateWith region ns s) r
+  unfolding onward steps
+  state-steps r = sym (from-steps (stateWith region ns s) stateParts state-parts r)
+
+module _ (ns : List Name) (s : List ℕ) where
+  pub region-none : (levels : ℕ) (r : Skipped) → levels ≡ 0 → tooDeep r ≡ onward (regionAt levels ns s) r
+  unfolding regionAt onward skips skip next tooDeep
+  region-none levels (sk.To p) e = rw e
+  region-none levels sk.Early e = refl
+  region-none levels (sk.Illegal o) e = refl
+  region-none levels (sk.Deep o) e = refl
+
+  abbrev regionParts : ℕ → List (ℕ → Skipped)
+  regionParts levels = skips (nameIn ns s) ∷ skips (below 2 s) ∷ skips (counted (stateWith (regionAt levels ns s) ns s) s) ∷ []
+
+  region-parts : (levels p : ℕ) → skip (regionAt (suc levels) ns s p) ≡ steps (regionParts levels) (sk.To p)
+  unfolding regionAt
+  region-parts levels p = bind-steps (nameIn ns s) p _ _ (λ x0 p0. bind-steps (below 2 s) p0 _ _ (λ x1 p1. last-step (counted (stateWith (regionAt levels ns s) ns s) s) p1 _))
+
+  pub region-steps : (levels : ℕ) (r : Skipped) → (levels ≡ 0 → ⊥) → onward (counted (stateWith (regionAt (levels - 1) ns s) ns s) s) (onward (below 2 s) (onward (nameIn ns s) r)) ≡ onward (regionAt levels ns s) r
+  unfolding onward steps
+  region-steps zero r h = absurd (h refl)
+  region-steps (suc levels) r h = let e : suc levels - 1 ≡ levels = omega arith in rw e (sym (from-steps (regionAt (suc levels) ns s) (regionParts levels) (region-parts levels) r))
