@@ -4,6 +4,8 @@ pub mod Syntax
 pub mod Forms
 pub mod Read
 pub mod Write
+pub mod Outcome
 pub mod RawNames
 pub mod Heads
 pub mod Nodes
+pub mod Verdict

@@ -6,3 +6,4 @@ pub mod exprs; // expressions
 pub mod parts; // ports, equations, transitions
 pub mod charts; // states and regions
 pub mod sections; // the sections after the names
+pub mod check; // the check, and where a pack's sections stand

@@ -206,17 +206,17 @@ unfoldable pub steps : List (ℕ → Skipped) → Skipped → Skipped
 steps [] r = r
 steps (f ∷ fs) r = steps fs (next r f)
 
-steps-early : (fs : List (ℕ → Skipped)) → sk.Early ≡ steps fs sk.Early
+pub steps-early : (fs : List (ℕ → Skipped)) → sk.Early ≡ steps fs sk.Early
 unfolding steps next
 steps-early [] = refl
 steps-early (f ∷ fs) = steps-early fs
 
-steps-illegal : (fs : List (ℕ → Skipped)) (o : ℕ) → sk.Illegal o ≡ steps fs (sk.Illegal o)
+pub steps-illegal : (fs : List (ℕ → Skipped)) (o : ℕ) → sk.Illegal o ≡ steps fs (sk.Illegal o)
 unfolding steps next
 steps-illegal [] o = refl
 steps-illegal (f ∷ fs) o = steps-illegal fs o
 
-steps-deep : (fs : List (ℕ → Skipped)) (o : ℕ) → sk.Deep o ≡ steps fs (sk.Deep o)
+pub steps-deep : (fs : List (ℕ → Skipped)) (o : ℕ) → sk.Deep o ≡ steps fs (sk.Deep o)
 unfolding steps next
 steps-deep [] o = refl
 steps-deep (f ∷ fs) o = steps-deep fs o

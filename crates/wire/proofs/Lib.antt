@@ -1,4 +1,5 @@
 pub mod Answers
+pub mod Bounds
 pub mod Codes
 pub mod Preorders
 pub mod Steps

@@ -3,12 +3,6 @@ use Rattle.pack.proofs.NodeLaws.{node-stops, node-goes, called-made}
 use borrow.Author.Needs.{needs}
 use Rattle.pack.proofs.exprs.call_fields.Statement.{statement}
 use Rattle.pack.proofs.exprs.call_fields.Tie as tie
-use Rattle.pack.proofs.exprs.call_fields.Reads as reads
-use Rattle.pack.proofs.exprs.call_fields.Lts as lts
-use Rattle.pack.proofs.exprs.called.Reads as called-reads
-use Rattle.pack.proofs.exprs.other.Reads as other-reads
-use Rattle.wire.proofs.number.read_index.Reads as read-index-reads
-use Rattle.wire.proofs.number.read_u16.Reads as read-u16-reads
 
 read-index-requires : tie.Need-read-index-requires
 read-index-requires c κs = search needs

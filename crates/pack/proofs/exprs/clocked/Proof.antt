@@ -5,9 +5,6 @@ use Rattle.pack.proofs.NodeLaws.{rest-other}
 use borrow.Author.Needs.{needs}
 use Rattle.pack.proofs.exprs.clocked.Statement.{statement}
 use Rattle.pack.proofs.exprs.clocked.Tie as tie
-use Rattle.pack.proofs.exprs.clocked.Reads as reads
-use Rattle.pack.proofs.exprs.clocked.Lts as lts
-use Rattle.pack.proofs.exprs.other.Reads as other-reads
 
 enum-known-r : tie.Need-enum-known-r
 enum-known-r c = search needs

@@ -8,22 +8,6 @@ use Rattle.pack.proofs.NodeLaws.{row, row-none, other-made, variable-ma
 use borrow.Author.Needs.{needs}
 use Rattle.pack.proofs.exprs.expr_fields.Statement.{statement}
 use Rattle.pack.proofs.exprs.expr_fields.Tie as tie
-use Rattle.pack.proofs.exprs.expr_fields.Reads as reads
-use Rattle.pack.proofs.exprs.expr_fields.Lts as lts
-use Rattle.pack.proofs.exprs.call_fields.Reads as call-fields-reads
-use Rattle.pack.proofs.exprs.iterate_fields.Reads as iterate-fields-reads
-use Rattle.pack.proofs.exprs.merge_fields.Reads as merge-fields-reads
-use Rattle.pack.proofs.exprs.other.Reads as other-reads
-use Rattle.pack.proofs.exprs.skip_literal.Reads as skip-literal-reads
-use Rattle.pack.proofs.exprs.struct_fields.Reads as struct-fields-reads
-use Rattle.pack.proofs.exprs.variable.Reads as variable-reads
-use Rattle.pack.proofs.exprs.when_fields.Reads as when-fields-reads
-use Rattle.pack.proofs.types.skip_type.Reads as skip-type-reads
-use Rattle.wire.proofs.answer.becomes.Reads as becomes-reads
-use Rattle.wire.proofs.answer.then_is.Reads as then-is-reads
-use Rattle.wire.proofs.number.read_below.Reads as read-below-reads
-use Rattle.wire.proofs.number.read_index.Reads as read-index-reads
-use Rattle.wire.proofs.number.read_u16.Reads as read-u16-reads
 
 skip-literal-requires : tie.Need-skip-literal-requires
 skip-literal-requires c κs = search needs

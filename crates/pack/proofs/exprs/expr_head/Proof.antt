@@ -3,10 +3,6 @@ use Rattle.pack.proofs.NodeLaws.{more-decoded}
 use borrow.Author.Needs.{needs}
 use Rattle.pack.proofs.exprs.expr_head.Statement.{statement}
 use Rattle.pack.proofs.exprs.expr_head.Tie as tie
-use Rattle.pack.proofs.exprs.expr_head.Reads as reads
-use Rattle.pack.proofs.exprs.expr_head.Lts as lts
-use Rattle.pack.proofs.exprs.more.Reads as more-reads
-use Rattle.pack.proofs.exprs.read_node.Reads as read-node-reads
 
 read-node-requires : tie.Need-read-node-requires
 read-node-requires c κs = search needs

@@ -2,10 +2,6 @@ use Rattle.pack.proofs.NodeLaws.{merge-stops, merge-goes}
 use borrow.Author.Needs.{needs}
 use Rattle.pack.proofs.exprs.merge_fields.Statement.{statement}
 use Rattle.pack.proofs.exprs.merge_fields.Tie as tie
-use Rattle.pack.proofs.exprs.merge_fields.Reads as reads
-use Rattle.pack.proofs.exprs.merge_fields.Lts as lts
-use Rattle.pack.proofs.exprs.other.Reads as other-reads
-use Rattle.wire.proofs.number.read_index.Reads as read-index-reads
 
 read-index-requires : tie.Need-read-index-requires
 read-index-requires c κs = search needs

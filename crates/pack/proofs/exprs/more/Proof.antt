@@ -4,9 +4,6 @@ use Rattle.pack.proofs.NodeLaws.{more-is}
 use borrow.Author.Needs.{needs}
 use Rattle.pack.proofs.exprs.more.Statement.{statement}
 use Rattle.pack.proofs.exprs.more.Tie as tie
-use Rattle.pack.proofs.exprs.more.Reads as reads
-use Rattle.pack.proofs.exprs.more.Lts as lts
-use Rattle.pack.proofs.exprs.under.Reads as under-reads
 
 enum-known-d : tie.Need-enum-known-d
 enum-known-d c = search needs

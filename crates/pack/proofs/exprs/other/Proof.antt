@@ -3,8 +3,6 @@ use Rattle.pack.specs.Nodes.{otherOf}
 use borrow.Author.Needs.{needs}
 use Rattle.pack.proofs.exprs.other.Statement.{statement}
 use Rattle.pack.proofs.exprs.other.Tie as tie
-use Rattle.pack.proofs.exprs.other.Reads as reads
-use Rattle.pack.proofs.exprs.other.Lts as lts
 
 enum-known-r : tie.Need-enum-known-r
 enum-known-r c = search needs

@@ -3,11 +3,6 @@ use Rattle.pack.proofs.NodeLaws.{node-stops, node-goes}
 use borrow.Author.Needs.{needs}
 use Rattle.pack.proofs.exprs.read_node.Statement.{statement}
 use Rattle.pack.proofs.exprs.read_node.Tie as tie
-use Rattle.pack.proofs.exprs.read_node.Reads as reads
-use Rattle.pack.proofs.exprs.read_node.Lts as lts
-use Rattle.pack.proofs.exprs.expr_fields.Reads as expr-fields-reads
-use Rattle.pack.proofs.exprs.other.Reads as other-reads
-use Rattle.wire.proofs.number.read_below.Reads as read-below-reads
 
 read-below-requires : tie.Need-read-below-requires
 read-below-requires c κs = search needs

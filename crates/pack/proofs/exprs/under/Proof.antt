@@ -4,8 +4,6 @@ use Rattle.pack.proofs.NodeLaws.{under-var}
 use borrow.Author.Needs.{needs}
 use Rattle.pack.proofs.exprs.under.Statement.{statement}
 use Rattle.pack.proofs.exprs.under.Tie as tie
-use Rattle.pack.proofs.exprs.under.Reads as reads
-use Rattle.pack.proofs.exprs.under.Lts as lts
 
 enum-told : tie.Need-enum-told
 enum-told c = search needs

@@ -3,13 +3,6 @@ use Rattle.pack.proofs.NodeLaws.{node-stops, node-goes, sample-made}
 use borrow.Author.Needs.{needs}
 use Rattle.pack.proofs.exprs.when_fields.Statement.{statement}
 use Rattle.pack.proofs.exprs.when_fields.Tie as tie
-use Rattle.pack.proofs.exprs.when_fields.Reads as reads
-use Rattle.pack.proofs.exprs.when_fields.Lts as lts
-use Rattle.pack.proofs.exprs.clocked.Reads as clocked-reads
-use Rattle.pack.proofs.exprs.other.Reads as other-reads
-use Rattle.wire.proofs.answer.becomes.Reads as becomes-reads
-use Rattle.wire.proofs.number.read_below.Reads as read-below-reads
-use Rattle.wire.proofs.number.read_index.Reads as read-index-reads
 
 read-index-requires : tie.Need-read-index-requires
 read-index-requires c κs = search needs

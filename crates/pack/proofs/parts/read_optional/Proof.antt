@@ -2,9 +2,6 @@ use Rattle.pack.proofs.PartLaws.{optional-stops, optional-name, optiona
 use borrow.Author.Needs.{needs}
 use Rattle.pack.proofs.parts.read_optional.Statement.{statement}
 use Rattle.pack.proofs.parts.read_optional.Tie as tie
-use Rattle.pack.proofs.parts.read_optional.Reads as reads
-use Rattle.pack.proofs.parts.read_optional.Lts as lts
-use Rattle.wire.proofs.number.read_u16.Reads as read-u16-reads
 
 read-u16-requires : tie.Need-read-u16-requires
 read-u16-requires c κs = search needs

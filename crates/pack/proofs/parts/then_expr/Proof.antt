@@ -3,9 +3,6 @@ use Rattle.pack.proofs.PartLaws.{expr-skip}
 use borrow.Author.Needs.{needs}
 use Rattle.pack.proofs.parts.then_expr.Statement.{statement}
 use Rattle.pack.proofs.parts.then_expr.Tie as tie
-use Rattle.pack.proofs.parts.then_expr.Reads as reads
-use Rattle.pack.proofs.parts.then_expr.Lts as lts
-use Rattle.pack.proofs.exprs.skip_expr.Reads as skip-expr-reads
 
 enum-known-from : tie.Need-enum-known-from
 enum-known-from c = search needs

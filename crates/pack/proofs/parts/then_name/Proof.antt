@@ -6,9 +6,6 @@ use Rattle.pack.proofs.PartLaws.{name-steps}
 use borrow.Author.Needs.{needs}
 use Rattle.pack.proofs.parts.then_name.Statement.{statement}
 use Rattle.pack.proofs.parts.then_name.Tie as tie
-use Rattle.pack.proofs.parts.then_name.Reads as reads
-use Rattle.pack.proofs.parts.then_name.Lts as lts
-use Rattle.wire.proofs.number.then_index.Reads as then-index-reads
 
 then-index-requires : tie.Need-then-index-requires
 then-index-requires c κs = search needs

@@ -3,10 +3,6 @@ use Rattle.pack.proofs.PartLaws.{optional-past}
 use borrow.Author.Needs.{needs}
 use Rattle.pack.proofs.parts.then_optional.Statement.{statement}
 use Rattle.pack.proofs.parts.then_optional.Tie as tie
-use Rattle.pack.proofs.parts.then_optional.Reads as reads
-use Rattle.pack.proofs.parts.then_optional.Lts as lts
-use Rattle.pack.proofs.parts.read_optional.Reads as read-optional-reads
-use Rattle.wire.proofs.answer.past.Reads as past-reads
 
 enum-known-from : tie.Need-enum-known-from
 enum-known-from c = search needs

@@ -3,9 +3,6 @@ use Rattle.pack.proofs.PartLaws.{type-skip}
 use borrow.Author.Needs.{needs}
 use Rattle.pack.proofs.parts.then_type.Statement.{statement}
 use Rattle.pack.proofs.parts.then_type.Tie as tie
-use Rattle.pack.proofs.parts.then_type.Reads as reads
-use Rattle.pack.proofs.parts.then_type.Lts as lts
-use Rattle.pack.proofs.types.skip_type.Reads as skip-type-reads
 
 enum-known-from : tie.Need-enum-known-from
 enum-known-from c = search needs

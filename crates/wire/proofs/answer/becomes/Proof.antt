@@ -4,20 +4,15 @@ use Rattle.wire.specs.Code.{becomesOf}
 use Rattle.wire.proofs.Steps.{becomes-rest}
 use Rattle.wire.proofs.answer.becomes.Statement.{statement}
 use Rattle.wire.proofs.answer.becomes.Tie as tie
-use Rattle.wire.proofs.answer.becomes.Reads as reads
-use Rattle.wire.proofs.answer.becomes.Lts as lts
 use borrow.Author.Needs.{needs}
 
--- src/lib.rt:89:30
 enum-known-r : tie.Need-enum-known-r
 enum-known-r c = search needs
 
--- src/lib.rt:85:1
 returns : tie.Need-returns
 unfolding becomesOf
 returns c = sym (ap (λ (x : Read). becomesOf x (c .before .before .before .args .n)) (c .before .r .given .1))
 
--- src/lib.rt:85:1
 returns-2 : tie.Need-returns-2
 returns-2 c = becomes-rest _ _ (c .match .keys2)
 

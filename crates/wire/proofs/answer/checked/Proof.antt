@@ -5,25 +5,19 @@ use Rattle.wire.specs.Code.{checkedOf}
 use Rattle.wire.proofs.Steps.{checked-rest}
 use Rattle.wire.proofs.answer.checked.Statement.{statement}
 use Rattle.wire.proofs.answer.checked.Tie as tie
-use Rattle.wire.proofs.answer.checked.Reads as reads
-use Rattle.wire.proofs.answer.checked.Lts as lts
 use borrow.Author.Needs.{needs}
 
--- src/lib.rt:50:20
 enum-known-r : tie.Need-enum-known-r
 enum-known-r c = search needs
 
--- src/lib.rt:46:1
 returns : tie.Need-returns
 unfolding checkedOf
 returns c = sym (ap (λ (x : Read). checkedOf x (c .before .before .before .before .args .bound) (c .before .before .before .before .args .at)) (c .before .before .r .given .1) ∙ rw (lt-ltb _ _ (c .if1 .taken)))
 
--- src/lib.rt:46:1
 returns-2 : tie.Need-returns-2
 unfolding checkedOf
 returns-2 c = sym (ap (λ (x : Read). checkedOf x (c .before .before .before .before .args .bound) (c .before .before .before .before .args .at)) (c .before .before .r .given .1) ∙ rw (le-ltb _ _ (c .if1 .left)))
 
--- src/lib.rt:46:1
 returns-3 : tie.Need-returns-3
 returns-3 c = checked-rest _ _ _ (c .match .keys2)
 

@@ -2,8 +2,6 @@ use Rattle.wire.proofs.Steps.{left-goes, left-stopped}
 use borrow.Author.Needs.{needs}
 use Rattle.wire.proofs.answer.left.Statement.{statement}
 use Rattle.wire.proofs.answer.left.Tie as tie
-use Rattle.wire.proofs.answer.left.Reads as reads
-use Rattle.wire.proofs.answer.left.Lts as lts
 
 enum-told : tie.Need-enum-told
 enum-told c = search needs

@@ -3,41 +3,31 @@ use Rattle.wire.specs.Code.{pastOf}
 use borrow.Author.Needs.{needs}
 use Rattle.wire.proofs.answer.past.Statement.{statement}
 use Rattle.wire.proofs.answer.past.Tie as tie
-use Rattle.wire.proofs.answer.past.Reads as reads
-use Rattle.wire.proofs.answer.past.Lts as lts
 
--- src/answer.rt:38:30
 enum-known-r : tie.Need-enum-known-r
 enum-known-r c = search needs
 
--- src/answer.rt:39:24
 enum-told : tie.Need-enum-told
 enum-told c = search needs
 
--- src/answer.rt:40:23
 enum-known-r-2 : tie.Need-enum-known-r-2
 enum-known-r-2 c = search needs
 
--- src/answer.rt:41:20
 enum-known-r-3 : tie.Need-enum-known-r-3
 enum-known-r-3 c = search needs
 
--- src/answer.rt:34:1
 returns : tie.Need-returns
 unfolding pastOf
 returns c = sym (ap pastOf (c .before .r .given .1))
 
--- src/answer.rt:34:1
 returns-2 : tie.Need-returns-2
 unfolding pastOf
 returns-2 c = search needs
 
--- src/answer.rt:34:1
 returns-3 : tie.Need-returns-3
 unfolding pastOf
 returns-3 c = sym (ap pastOf (c .before .r2 .given .1))
 
--- src/answer.rt:34:1
 returns-4 : tie.Need-returns-4
 unfolding pastOf
 returns-4 c = sym (ap pastOf (c .before .r3 .given .1))

@@ -4,8 +4,6 @@ use Rattle.wire.proofs.Steps.{deep-stays}
 use borrow.Author.Needs.{needs}
 use Rattle.wire.proofs.answer.too_deep.Statement.{statement}
 use Rattle.wire.proofs.answer.too_deep.Tie as tie
-use Rattle.wire.proofs.answer.too_deep.Reads as reads
-use Rattle.wire.proofs.answer.too_deep.Lts as lts
 
 enum-known-from : tie.Need-enum-known-from
 enum-known-from c = search needs

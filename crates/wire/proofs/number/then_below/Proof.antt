@@ -2,10 +2,6 @@ use Rattle.wire.proofs.Steps.{stays, reaches-number}
 use borrow.Author.Needs.{needs}
 use Rattle.wire.proofs.number.then_below.Statement.{statement}
 use Rattle.wire.proofs.number.then_below.Tie as tie
-use Rattle.wire.proofs.number.then_below.Reads as reads
-use Rattle.wire.proofs.number.then_below.Lts as lts
-use Rattle.wire.proofs.answer.past.Reads as past-reads
-use Rattle.wire.proofs.number.read_below.Reads as read-below-reads
 
 enum-known-from : tie.Need-enum-known-from
 enum-known-from c = search needs

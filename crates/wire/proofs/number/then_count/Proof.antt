@@ -2,10 +2,6 @@ use Rattle.wire.proofs.Steps.{count-stays, count-stops, count-goes}
 use borrow.Author.Needs.{needs}
 use Rattle.wire.proofs.number.then_count.Statement.{statement}
 use Rattle.wire.proofs.number.then_count.Tie as tie
-use Rattle.wire.proofs.number.then_count.Reads as reads
-use Rattle.wire.proofs.number.then_count.Lts as lts
-use Rattle.wire.proofs.answer.past.Reads as past-reads
-use Rattle.wire.proofs.number.read_u16.Reads as read-u16-reads
 
 enum-known-from : tie.Need-enum-known-from
 enum-known-from c = search needs

@@ -2,10 +2,6 @@ use Rattle.wire.proofs.Steps.{stays, reaches-number}
 use borrow.Author.Needs.{needs}
 use Rattle.wire.proofs.number.then_u16.Statement.{statement}
 use Rattle.wire.proofs.number.then_u16.Tie as tie
-use Rattle.wire.proofs.number.then_u16.Reads as reads
-use Rattle.wire.proofs.number.then_u16.Lts as lts
-use Rattle.wire.proofs.answer.past.Reads as past-reads
-use Rattle.wire.proofs.number.read_u16.Reads as read-u16-reads
 
 enum-known-from : tie.Need-enum-known-from
 enum-known-from c = search needs

@@ -1,0 +1,76 @@
+use lib.ListN.{length}
+use mathlib.Core.Path.{refl, ap, _∙_}
+use Rattle.wire.specs.declared.answer.Skipped.{Skipped}
+use Rattle.pack.specs.Verdict.{judgedOf}
+use Rattle.pack.proofs.CheckLaws.{Went, went-skip, went-stands}
+use borrow.Author.Needs.{needs}
+use Rattle.pack.proofs.check.read_sections.Statement.{statement}
+use Rattle.pack.proofs.check.read_sections.Tie as tie
+
+name-count-requires : tie.Need-name-count-requires
+name-count-requires c κs = search needs
+
+skip-names-requires : tie.Need-skip-names-requires
+skip-names-requires c κs = search needs
+
+then-enums-requires : tie.Need-then-enums-requires
+then-enums-requires c κs = search needs
+
+then-nodes-requires : tie.Need-then-nodes-requires
+then-nodes-requires c κs = search needs
+
+then-machines-requires : tie.Need-then-machines-requires
+then-machines-requires c κs = search needs
+
+then-activations-requires : tie.Need-then-activations-requires
+then-activations-requires c κs = search needs
+
+then-origins-requires : tie.Need-then-origins-requires
+then-origins-requires c κs = search needs
+
+offset-requires : tie.Need-offset-requires
+offset-requires c κs = search needs
+
+offset-requires-2 : tie.Need-offset-requires-2
+offset-requires-2 c κs = search needs
+
+offset-requires-3 : tie.Need-offset-requires-3
+offset-requires-3 c κs = search needs
+
+offset-requires-4 : tie.Need-offset-requires-4
+offset-requires-4 c κs = search needs
+
+offset-requires-5 : tie.Need-offset-requires-5
+offset-requires-5 c κs = search needs
+
+offset-requires-6 : tie.Need-offset-requires-6
+offset-requires-6 c κs = search needs
+
+judged-requires : tie.Need-judged-requires
+judged-requires c κs = search needs
+
+returns : tie.Need-returns
+returns c = 
+    let w : Went (c .before .before .before .before .before .before .before .before .before .before .before .before .before .before .before .args .s .now) (c .before .before .before .before .before .before .before .before .before .before .before .before .before .name-count .result) (c .before .before .before .before .before .before .before .before .before .before .before .before .skip-names .result) (c .before .before .before .before .before .before .before .before .before .before .before .then-enums .result) (c .before .before .before .before .before .before .before .before .before .before .then-nodes .result) (c .before .before .before .before .before .before .before .before .before .then-machines .result) (c .before .before .before .before .before .before .before .before .then-activations .result) (c .before .before .before .before .before .before .before .then-origins .result) = record { few = c .before .before .before .before .before .before .before .before .before .before .before .before .before .name-count .ensures; past-names = c .before .before .before .before .before .before .before .before .before .before .before .before .skip-names .ensures; past-enums = c .before .before .before .before .before .before .before .before .before .before .before .then-enums .ensures; past-nodes = c .before .before .before .before .before .before .before .before .before .before .then-nodes .ensures; past-machines = c .before .before .before .before .before .before .before .before .before .then-machines .ensures; past-activations = c .before .before .before .before .before .before .before .before .then-activations .ensures; past-origins = c .before .before .before .before .before .before .before .then-origins .ensures } in
+    (c .judged .ensures ∙ ap (λ (r : Skipped). judgedOf r (length (c .before .before .before .before .before .before .before .before .before .before .before .before .before .before .before .args .s .now))) (went-skip _ _ _ _ _ _ _ _ w),
+    went-stands _ _ _ _ _ _ _ _ w _ refl (c .before .before .before .before .before .before .offset .ensures) (c .before .before .before .before .before .offset2 .ensures) (c .before .before .before .before .offset3 .ensures) (c .before .before .before .offset4 .ensures) (c .before .before .offset5 .ensures) (c .before .offset6 .ensures))
+
+pub read-sections-spec : {M : Type 1} → statement M
+read-sections-spec =
+    tie.close
+    (tie.spec
+    name-count-requires
+    skip-names-requires
+    then-enums-requires
+    then-nodes-requires
+    then-machines-requires
+    then-activations-requires
+    then-origins-requires
+    offset-requires
+    offset-requires-2
+    offset-requires-3
+    offset-requires-4
+    offset-requires-5
+    offset-requires-6
+    judged-requires
+    returns)

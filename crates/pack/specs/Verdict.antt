@@ -1,0 +1,64 @@
+-- The code's verdict on bytes, and where a pack's sections stand.
+use mathlib.Core.List.{List}
+use mathlib.Core.Bool.{cond}
+use mathlib.Core.Path.{_≡_}
+use Prim.Native.Nat.{ℕ, _+_, _*_, _≤_}
+use lib.ListN.{length}
+use lib.Dec.{ltb}
+use Rattle.wire.specs.declared.answer.Skipped.{Skipped}
+use Rattle.wire.specs.declared.answer.Skipped.the-variants as sk
+use Rattle.pack.specs.declared.check.Verdict.{Verdict}
+use Rattle.pack.specs.declared.check.Verdict.the-variants as vd
+use Rattle.pack.specs.declared.record.Pack.{Pack}
+use Rattle.wire.specs.Answer.{counted, value}
+use Rattle.pack.specs.Syntax.{Package}
+use Rattle.pack.specs.Read.{Reading, activationIn, bytesAfter, deepAt, endsEarly, enumIn, illegalAt, machineIn, nameSection, nodeIn, originIn, tooLong, whole}
+
+unfoldable pub verdictOf : Reading → Verdict
+verdictOf tooLong = vd.TooLong
+verdictOf endsEarly = vd.EndsEarly
+verdictOf (illegalAt o) = vd.Illegal o
+verdictOf (deepAt o) = vd.Deep o
+verdictOf (bytesAfter o) = vd.After o
+verdictOf (whole p) = vd.Whole
+
+-- what reading all sections of n bytes came to
+unfoldable pub judgedOf : Skipped → ℕ → Verdict
+judgedOf (sk.To q) n = cond (ltb q n) (vd.After q) vd.Whole
+judgedOf sk.Early n = vd.EndsEarly
+judgedOf (sk.Illegal o) n = vd.Illegal o
+judgedOf (sk.Deep o) n = vd.Deep o
+
+-- the number and the value of a verdict on n bytes, as the C interface returns them
+unfoldable pub codeOf : Verdict → ℕ → ℕ
+codeOf vd.Whole n = 0 * 4294967296 + n
+codeOf vd.TooLong n = 1 * 4294967296 + 65536
+codeOf vd.EndsEarly n = 2 * 4294967296 + n
+codeOf (vd.Illegal o) n = 3 * 4294967296 + o
+codeOf (vd.Deep o) n = 4 * 4294967296 + o
+codeOf (vd.After o) n = 5 * 4294967296 + o
+
+-- what a verdict on n bytes tells is no number over 65,536
+unfoldable pub Small : Verdict → ℕ → Type 0
+Small vd.Whole n = n ≤ 65536
+Small vd.TooLong n = 0 ≤ n
+Small vd.EndsEarly n = n ≤ 65536
+Small (vd.Illegal o) n = o ≤ 65536
+Small (vd.Deep o) n = o ≤ 65536
+Small (vd.After o) n = o ≤ 65536
+
+unfoldable pub offsetOf : Skipped → ℕ
+offsetOf (sk.To q) = q
+offsetOf sk.Early = 0
+offsetOf (sk.Illegal o) = 0
+offsetOf (sk.Deep o) = 0
+
+-- each section of the package stands where the pack record says
+pub record Stands (s : List ℕ) (k : Pack) (p : Package) : Type 0 where
+  pub count : length (p .names) ≡ k .names
+  pub names : nameSection s 0 ≡ value (p .names) (k .enums)
+  pub enums : counted (enumIn (p .names) s) s (k .enums) ≡ value (p .enums) (k .nodes)
+  pub nodes : counted (nodeIn (p .names) s) s (k .nodes) ≡ value (p .nodes) (k .machines)
+  pub machines : counted (machineIn (p .names) s) s (k .machines) ≡ value (p .machines) (k .activations)
+  pub activations : counted (activationIn (p .names) s) s (k .activations) ≡ value (p .activations) (k .origins)
+  pub origins : counted (originIn (p .names) s) s (k .origins) ≡ value (p .origins) (k .end)

@@ -1,0 +1,128 @@
+// The check: what a byte slice is as a pack, and where its sections stand.
+use crate::names::skip_names;
+use crate::record::Pack;
+use crate::sections::{then_activations, then_enums, then_machines, then_nodes, then_origins};
+use wire::answer::{Read, Skipped};
+use wire::number::read_u16;
+ghost use mathlib.Core.List.{List};
+ghost use mathlib.Core.Path.{_≡_};
+ghost use Prim.Native.Nat.{ℕ, _≤_, _<_};
+ghost use lib.ListN.{length};
+ghost use Rattle.wire.specs.Answer.{value};
+ghost use Rattle.wire.specs.Code.{skip};
+ghost use Rattle.pack.specs.Names.{Name};
+ghost use Rattle.pack.specs.Syntax.{Package};
+ghost use Rattle.pack.specs.Read.{nameSection, packAt, read, whole};
+ghost use Rattle.pack.specs.Outcome.{check as checked, returned};
+ghost use Rattle.pack.specs.Verdict.{verdictOf, judgedOf, codeOf, offsetOf, Small, Stands};
+
+// What a byte slice is as a pack: the table's answers 1 to 5 with their offsets, or a whole pack.
+pub enum Verdict {
+    Whole,
+    TooLong,
+    EndsEarly,
+    Illegal(usize),
+    Deep(usize),
+    After(usize),
+}
+
+// The verdict, and the record of a whole pack.
+pub struct Opened {
+    pub verdict: Verdict,
+    pub pack: Pack,
+}
+
+// How many names the name section counts.
+fn name_count(s: &[u8]) -> usize
+    ensures { λ r. ⌜ ((ns : List Name) (q : ℕ) → nameSection (now (s .entry)) 0 ≡ value ns q → length ns ≡ r) ⌝ }
+{
+    let r = read_u16(s, 0);
+    let Read::Is { value, next: _ } = r else {
+        return 0;
+    };
+    value
+}
+
+fn offset(r: Skipped) -> usize
+    ensures { λ q. ⌜ q ≡ offsetOf r ⌝ }
+{
+    match r {
+        Skipped::To(at) => at,
+        _ => 0,
+    }
+}
+
+// What reading all sections came to.
+fn judged(r: Skipped, len: usize) -> Verdict
+    ensures { λ q. ⌜ q ≡ judgedOf r len ⌝ }
+{
+    match r {
+        Skipped::To(at) => {
+            if at < len { Verdict::After(at) } else { Verdict::Whole }
+        }
+        Skipped::Early => Verdict::EndsEarly,
+        Skipped::Illegal(o) => Verdict::Illegal(o),
+        Skipped::Deep(o) => Verdict::Deep(o),
+    }
+}
+
+// Reads all sections.
+fn read_sections(s: &[u8]) -> Opened
+    requires { ⌜ length (now s) ≤ 65536 ⌝ }
+    ensures { λ r. ⌜ r .verdict ≡ judgedOf (skip (packAt (now (s .entry)) 0)) (length (now (s .entry))) ⌝ }
+    ensures { λ r. ⌜ ((p : Package) (q : ℕ) → packAt (now (s .entry)) 0 ≡ value p q → Stands (now (s .entry)) (r .pack) p) ⌝ }
+{
+    let names = name_count(s);
+    let a = skip_names(s, 0);
+    let b = then_enums(s, names, a);
+    let c = then_nodes(s, names, b);
+    let d = then_machines(s, names, c);
+    let e = then_activations(s, names, d);
+    let f = then_origins(s, names, e);
+    let pack = Pack {
+        names,
+        enums: offset(a),
+        nodes: offset(b),
+        machines: offset(c),
+        activations: offset(d),
+        origins: offset(e),
+        end: offset(f),
+    };
+    Opened { verdict: judged(f, s.len()), pack }
+}
+
+// Reads a pack: the verdict on every byte slice, and the record of where the sections of a whole pack stand.
+pub fn read_pack(s: &[u8]) -> Opened
+    ensures { λ r. ⌜ r .verdict ≡ verdictOf (read (now (s .entry))) ⌝ }
+    ensures { λ r. ⌜ ((p : Package) → read (now (s .entry)) ≡ whole p → Stands (now (s .entry)) (r .pack) p) ⌝ }
+{
+    if Pack::BYTES < s.len() {
+        return Opened { verdict: Verdict::TooLong, pack: Pack::empty() };
+    }
+    read_sections(s)
+}
+
+// The number times 2^32 plus the value.
+fn code(v: Verdict, len: usize) -> u64
+    requires { ⌜ Small v len ⌝ }
+    ensures { λ r. ⌜ r ≡ codeOf v len ⌝ }
+{
+    match v {
+        Verdict::Whole => len as u64,
+        Verdict::TooLong => 0x1_0000_0000 + 65536,
+        Verdict::EndsEarly => 0x2_0000_0000 + (len as u64),
+        Verdict::Illegal(o) => 0x3_0000_0000 + (o as u64),
+        Verdict::Deep(o) => 0x4_0000_0000 + (o as u64),
+        Verdict::After(o) => 0x5_0000_0000 + (o as u64),
+    }
+}
+
+// Checks a pack.
+#[no_mangle]
+pub extern "C" fn ol_pack_check(pack: &[u8]) -> u64
+    ensures { λ r. ⌜ r ≡ returned (checked (now (pack .entry))) ⌝ }
+{
+    let opened = read_pack(pack);
+    let v = opened.verdict;
+    code(v, pack.len())
+}
