@@ -4,3 +4,4 @@ pub mod Syntax
 pub mod Forms
 pub mod Read
 pub mod Write
+pub mod Intern

@@ -1,1 +1,2 @@
 // The pack format.
+pub mod intern; // names by number, new ones added in order of first use
