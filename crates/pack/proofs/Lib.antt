@@ -1,1 +1,2 @@
 pub mod Interns
+pub mod Written

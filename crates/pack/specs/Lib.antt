@@ -5,3 +5,4 @@ pub mod Forms
 pub mod Read
 pub mod Write
 pub mod Intern
+pub mod Outcome
