@@ -1,2 +1,3 @@
 pub mod Interns
 pub mod Written
+pub mod Finished

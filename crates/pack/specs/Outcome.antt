@@ -1,6 +1,7 @@
 -- What a call answers: the table of numbers and values, and what the buffers hold.
 use Prim.Native.Nat.{ℕ, _+_}
 use mathlib.Core.List.{List, _++_}
+use mathlib.Core.Path.{_≡_}
 use mathlib.Core.Bool.{cond}
 use lib.ListN.{length, drop}
 use lib.Dec.{ltb}
@@ -39,6 +40,12 @@ unfoldable pub outputOf : Outcome → List ℕ → List ℕ
 outputOf (answers n v) d = d
 outputOf (reports r) d = d
 outputOf (writes b) d = begins b d
+
+-- a call's number, value and output buffer are an outcome's
+pub record Gives (x : Outcome) (number value : ℕ) (entry exit : List ℕ) : Type 0 where
+  pub number-is : number ≡ numberOf x
+  pub value-is : value ≡ valueOf x
+  pub output-is : exit ≡ outputOf x entry
 
 -- the report buffer: only a report changes it
 unfoldable pub reportOf : Outcome → List ℕ → List ℕ

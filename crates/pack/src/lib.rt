@@ -1,2 +1,3 @@
 // The pack format.
 pub mod intern; // names by number, new ones added in order of first use
+pub mod finish; // the pack, copied to the caller's buffer
