@@ -5,9 +5,9 @@ use native.Mathlib.Numerals.{add-one}
 use native.Mathlib.Omega.{arith}
 use mathlib.Core.Logic.{⊎-elim}
 use mathlib.Core.Bool.{Bool, true, false, cond, _&&_}
-use mathlib.Core.Path.{_≡_, refl, sym, ap, _∙_}
+use mathlib.Core.Path.{_≡_, refl, ap, _∙_}
 use mathlib.Core.List.{List, [], _∷_, _++_}
-use lib.ListN.{length, take, drop, getD, drop-of-length-le, length-drop}
+use lib.ListN.{length, take, drop, getD, drop-of-length-le}
 use lib.Seq.{drop-cons}
 use lib.Dec.{ltb, leb, eqb}
 use borrow.Author.Tests.{lt-ltb, le-ltb, le-leb, lt-leb, eq-eqb, ne-eqb}
@@ -18,7 +18,7 @@ use Rattle.wire.proofs.Writers.{lt-or-le, puts-full, puts-fit, take-part, take-
 use Rattle.pack.specs.Limits.{maxName}
 use Rattle.pack.specs.Names.{Name, eqName}
 use Rattle.pack.specs.Write.{Item, Found, At, Missing, lookup}
-use Rattle.pack.specs.Intern.{tableF, table, entry, added, newName, place, name, built, item, render}
+use Rattle.pack.specs.Intern.{tableF, table, putEntry, putAdded, putNew, putFound, putName, putBuilt, putItem, render}
 
 and-false : (t : Bool) {u : Bool} → u ≡ false → t && u ≡ false
 and-false true e = e
@@ -123,68 +123,71 @@ table-length t = tableF-length (length t) t
 pub found-number : (t : List ℕ) (n : Name) (f : Found) → f ≡ lookup (table t) n 0 → number f ≤ length t
 found-number t n f e = rw e (omega (arith, lookup-number (table t) n 0, table-length t))
 
-pub entry-steps : (n : Name) (s : State) → swapped (puts n (put (length n) (swapped s))) ≡ entry n s
-unfolding entry puts
+pub entry-steps : (n : Name) (s : State) → swapped (puts n (put (length n) (swapped s))) ≡ putEntry n s
+unfolding putEntry puts
 entry-steps n s = refl
 
 -- a full writer stays full
-pub entry-full : (n : Name) → entry n full ≡ full
-unfolding entry swapped
+pub entry-full : (n : Name) → putEntry n full ≡ full
+unfolding putEntry swapped
 entry-full n = ap swapped (puts-full (length n ∷ n))
 
-added-full : (f : Found) (b : ℕ) (n : Name) → added f b n full ≡ full
-unfolding added
+added-full : (f : Found) (b : ℕ) (n : Name) → putAdded f b n full ≡ full
+unfolding putAdded
 added-full (At k) b n = puts-full (two (b + k))
 added-full (Missing k) b n = ap (puts (two (b + k))) (entry-full n) ∙ puts-full (two (b + k))
 
-pub place-full : (f : Found) (n : Name) → place f n full ≡ full
-unfolding place newName
-place-full (At k) n = puts-full (two k)
-place-full (Missing b) n = refl
+pub putFound-full : (f : Found) (n : Name) → putFound f n full ≡ full
+unfolding putFound putNew
+putFound-full (At k) n = puts-full (two k)
+putFound-full (Missing b) n = refl
 
 -- what was found in the part of `made` that the writer has used is what is found among the new names
-pub newName-is : (o m n : List ℕ) (w : Writer) (b e : ℕ) (f : Found) → e ≡ min (0 + w .made) (length m) → f ≡ lookup (table (take e m)) n 0
-    → added f b n (stateOf o m w) ≡ newName b n (stateOf o m w)
-unfolding stateOf newName
-newName-is o m n w b e f p q = go (w .full)
+pub putNew-is : (o m n : List ℕ) (w : Writer) (b e : ℕ) (f : Found) → e ≡ min (0 + w .made) (length m) → f ≡ lookup (table (take e m)) n 0
+    → putAdded f b n (stateOf o m w) ≡ putNew b n (stateOf o m w)
+unfolding stateOf putNew
+putNew-is o m n w b e f p q = go (w .full)
   where
-    go : (t : Bool) → added f b n (cond t full (st (length o) (length m) (take (w .at) o) (take (w .made) m)))
-        ≡ newName b n (cond t full (st (length o) (length m) (take (w .at) o) (take (w .made) m)))
+    go : (t : Bool) → putAdded f b n (cond t full (st (length o) (length m) (take (w .at) o) (take (w .made) m)))
+        ≡ putNew b n (cond t full (st (length o) (length m) (take (w .at) o) (take (w .made) m)))
     go true = added-full f b n
     go false = rw (q, take-part m (w .made) e p)
 
 -- a name by its length, and by what was found
-pub name-long : (old n : List ℕ) (s : State) → 255 < length n → full ≡ name old n s
-unfolding name maxName
+pub name-long : (old n : List ℕ) (s : State) → 255 < length n → full ≡ putName old n s
+unfolding putName maxName
 name-long old n s h = rw (lt-ltb 255 (length n) h)
 
-pub name-place : (old n : List ℕ) (s : State) (f : Found) → length n ≤ 255 → f ≡ lookup (table old) n 0 → place f n s ≡ name old n s
-unfolding name maxName
-name-place old n s f h e = rw (le-ltb 255 (length n) h, e)
+pub name-found : (old n : List ℕ) (s : State) (f : Found) → length n ≤ 255 → f ≡ lookup (table old) n 0 → putFound f n s ≡ putName old n s
+unfolding putName maxName
+name-found old n s f h e = rw (le-ltb 255 (length n) h, e)
 
 -- a made name that was written to a buffer of 255 bytes is that name
-pub built-is : (old n : List ℕ) (cm : ℕ) (md : List ℕ) (s : State) → built old (puts n (st 255 cm [] md)) s ≡ name old n s
-unfolding built name maxName
+pub built-is : (old n : List ℕ) (cm : ℕ) (md : List ℕ) (s : State) → putBuilt old (puts n (st 255 cm [] md)) s ≡ putName old n s
+unfolding putBuilt putName maxName
 built-is old n cm md s = rw (puts-fit 255 cm md n [] zero-le, zero-add) (⊎-elim over fits (lt-or-le 255 (length n)))
   where
     over : 255 < length n
-        → built old (cond (leb (length n) 255) (st 255 cm n md) full) s ≡ cond (ltb 255 (length n)) full (place (lookup (table old) n 0) n s)
+        → putBuilt old (cond (leb (length n) 255) (st 255 cm n md) full) s ≡ cond (ltb 255 (length n)) full (putFound (lookup (table old) n 0) n s)
     over g = rw (lt-leb _ _ g, lt-ltb _ _ g)
     fits : length n ≤ 255
-        → built old (cond (leb (length n) 255) (st 255 cm n md) full) s ≡ cond (ltb 255 (length n)) full (place (lookup (table old) n 0) n s)
+        → putBuilt old (cond (leb (length n) 255) (st 255 cm n md) full) s ≡ cond (ltb 255 (length n)) full (putFound (lookup (table old) n 0) n s)
     fits g = rw (le-leb _ _ g, le-ltb _ _ g)
 
-pub built-full : (old buf : List ℕ) (v : Writer) (s : State) → v .full ≡ true → full ≡ built old (stateOf buf [] v) s
-unfolding built stateOf
+pub built-of : (old n : List ℕ) (x s : State) → x ≡ puts n (st 255 0 [] []) → putBuilt old x s ≡ putName old n s
+built-of old n x s e = rw e (built-is old n 0 [] s)
+
+pub built-full : (old buf : List ℕ) (v : Writer) (s : State) → v .full ≡ true → full ≡ putBuilt old (stateOf buf [] v) s
+unfolding putBuilt stateOf
 built-full old buf v s e = rw e
 
 pub built-part : (old buf : List ℕ) (v : Writer) (s : State) (e : ℕ) → v .full ≡ false → e ≡ min (0 + v .at) (length buf)
-    → name old (take e buf) s ≡ built old (stateOf buf [] v) s
-unfolding built stateOf
+    → putName old (take e buf) s ≡ putBuilt old (stateOf buf [] v) s
+unfolding putBuilt stateOf
 built-part old buf v s e h p = rw (h, take-part buf (v .at) e p)
 
 -- items one list after the other
 pub render-append : (old : List ℕ) (is js : List Item) (s : State) → render old (is ++ js) s ≡ render old js (render old is s)
 unfolding render
 render-append old [] js s = refl
-render-append old (i ∷ is) js s = render-append old is js (item old i s)
+render-append old (i ∷ is) js s = render-append old is js (putItem old i s)

@@ -5,10 +5,9 @@ use mathlib.Core.Bool.{Bool, true, false, cond, _&&_}
 use mathlib.Core.Logic.{_⊎_, inl, inr, ⊎-elim}
 use mathlib.Core.Path.{_≡_, refl, sym, ap, _∙_}
 use mathlib.Core.List.{List, [], _∷_, _++_, append-nil, append-assoc}
-use lib.ListN.{length, take, drop, length-append}
+use lib.ListN.{length, length-append, replicate, length-replicate}
 use lib.Seq.{take-append-seam, drop-append-seam}
-use lib.Dec.{ltb, leb}
-use borrow.Author.Tests.{lt-ltb, le-ltb, le-leb, lt-leb}
+use borrow.Author.Tests.{lt-ltb, le-leb, lt-leb}
 use Rattle.wire.specs.Bytes.{two}
 use Rattle.wire.specs.Writer.{State, full, st, puts, swapped}
 use Rattle.wire.proofs.Writers.{lt-or-le, puts-fit, puts-full}
@@ -16,9 +15,9 @@ use Rattle.pack.specs.Limits.{maxBytes, maxName}
 use Rattle.pack.specs.Names.{Name}
 use Rattle.pack.specs.Syntax.{Package}
 use Rattle.pack.specs.Write.{Item, raw, nm, enc, Found, At, Missing, lookup, Spelt, spelt, newIn, oldIn, spellOne, before, andThen, spell, joined, encode, short, shorts, packageItems}
-use Rattle.pack.specs.Intern.{tableF, table, entry, added, newName, place, name, item, render}
+use Rattle.pack.specs.Intern.{tableF, table, putEntry, putAdded, putNew, putFound, putItem, render}
 use Rattle.pack.specs.Outcome.{Outcome, answers, sized, written, packOf, answered}
-use Rattle.pack.proofs.Interns.{entry-full, place-full, name-long, name-place}
+use Rattle.pack.proofs.Interns.{putFound-full, name-long, name-found}
 
 -- the bytes and the new names that are spelt
 abbrev pub bytesOf : Spelt → List ℕ
@@ -72,51 +71,51 @@ puts-reach co cm bs xs ns h g = ⊎-elim
 
 -- a new name
 entry-fits : (co cm : ℕ) (bs : List ℕ) (n : Name) (ns : List Name) → length (enc (ns ++ (n ∷ []))) ≤ cm
-    → entry n (st co cm bs (enc ns)) ≡ st co cm bs (enc (ns ++ (n ∷ [])))
-unfolding entry swapped
+    → putEntry n (st co cm bs (enc ns)) ≡ st co cm bs (enc (ns ++ (n ∷ [])))
+unfolding putEntry swapped
 entry-fits co cm bs n ns h =
     let e = enc-more ns n in
     let l : length (enc ns) + suc (length n) ≤ cm = omega (arith, ap length e, length-append (enc ns) (length n ∷ n), h) in
     rw (puts-fit cm co bs (length n ∷ n) (enc ns) (omega arith), le-leb _ _ l, e)
 
 entry-over : (co cm : ℕ) (bs : List ℕ) (n : Name) (ns : List Name) → length (enc ns) ≤ cm → cm < length (enc (ns ++ (n ∷ [])))
-    → entry n (st co cm bs (enc ns)) ≡ full
-unfolding entry swapped
+    → putEntry n (st co cm bs (enc ns)) ≡ full
+unfolding putEntry swapped
 entry-over co cm bs n ns g h =
     let e = enc-more ns n in
     let l : cm < length (enc ns) + suc (length n) = omega (arith, ap length e, length-append (enc ns) (length n ∷ n), h) in
     rw (puts-fit cm co bs (length n ∷ n) (enc ns) g, lt-leb _ _ l)
 
 added-reach : (f : Found) (co cm : ℕ) (bs : List ℕ) (n : Name) (b : ℕ) (ns : List Name) → length bs ≤ co → length (enc ns) ≤ cm
-    → Reached (added f b n (st co cm bs (enc ns))) co cm bs true (bytesOf (newIn f b n ns)) (namesOf (newIn f b n ns))
-unfolding added newIn
+    → Reached (putAdded f b n (st co cm bs (enc ns))) co cm bs true (bytesOf (newIn f b n ns)) (namesOf (newIn f b n ns))
+unfolding putAdded newIn
 added-reach (At k) co cm bs n b ns h g = puts-reach co cm bs (two (b + k)) ns h g
 added-reach (Missing k) co cm bs n b ns h g = ⊎-elim
     (λ (o : cm < length (enc (ns ++ (n ∷ [])))). inr (inr (inr o), ap (puts (two (b + k))) (entry-over co cm bs n ns g o) ∙ puts-full (two (b + k))))
     (λ (o : length (enc (ns ++ (n ∷ []))) ≤ cm). rw (entry-fits co cm bs n ns o) (puts-reach co cm bs (two (b + k)) (ns ++ (n ∷ [])) h o))
     (lt-or-le cm (length (enc (ns ++ (n ∷ [])))))
 
-newName-enc : (co cm : ℕ) (bs : List ℕ) (n : Name) (b : ℕ) (ns : List Name)
-    → newName b n (st co cm bs (enc ns)) ≡ added (lookup ns n 0) b n (st co cm bs (enc ns))
-unfolding newName
-newName-enc co cm bs n b ns = rw (table-enc ns)
+putNew-enc : (co cm : ℕ) (bs : List ℕ) (n : Name) (b : ℕ) (ns : List Name)
+    → putNew b n (st co cm bs (enc ns)) ≡ putAdded (lookup ns n 0) b n (st co cm bs (enc ns))
+unfolding putNew
+putNew-enc co cm bs n b ns = rw (table-enc ns)
 
-place-reach : (f : Found) (co cm : ℕ) (bs : List ℕ) (n : Name) (ns : List Name) → length bs ≤ co → length (enc ns) ≤ cm
-    → Reached (place f n (st co cm bs (enc ns))) co cm bs true (bytesOf (oldIn f n ns)) (namesOf (oldIn f n ns))
-unfolding place oldIn
-place-reach (At k) co cm bs n ns h g = puts-reach co cm bs (two k) ns h g
-place-reach (Missing b) co cm bs n ns h g = rw (newName-enc co cm bs n b ns) (added-reach (lookup ns n 0) co cm bs n b ns h g)
+putFound-reach : (f : Found) (co cm : ℕ) (bs : List ℕ) (n : Name) (ns : List Name) → length bs ≤ co → length (enc ns) ≤ cm
+    → Reached (putFound f n (st co cm bs (enc ns))) co cm bs true (bytesOf (oldIn f n ns)) (namesOf (oldIn f n ns))
+unfolding putFound oldIn
+putFound-reach (At k) co cm bs n ns h g = puts-reach co cm bs (two k) ns h g
+putFound-reach (Missing b) co cm bs n ns h g = rw (putNew-enc co cm bs n b ns) (added-reach (lookup ns n 0) co cm bs n b ns h g)
 
 -- one item
 one-reach : (olds : List Name) (i : Item) (co cm : ℕ) (bs : List ℕ) (ns : List Name) → length bs ≤ co → length (enc ns) ≤ cm
-    → Reached (item (enc olds) i (st co cm bs (enc ns))) co cm bs (short i) (bytesOf (spellOne olds i ns)) (namesOf (spellOne olds i ns))
-unfolding item spellOne short maxName
+    → Reached (putItem (enc olds) i (st co cm bs (enc ns))) co cm bs (short i) (bytesOf (spellOne olds i ns)) (namesOf (spellOne olds i ns))
+unfolding putItem spellOne short maxName
 one-reach olds (raw xs) co cm bs ns h g = puts-reach co cm bs xs ns h g
 one-reach olds (nm n) co cm bs ns h g = ⊎-elim
     (λ (o : 255 < length n). inr (inl (lt-leb _ _ o), sym (name-long (enc olds) n (st co cm bs (enc ns)) o)))
     (λ (o : length n ≤ 255).
       let e : lookup olds n 0 ≡ lookup (table (enc olds)) n 0 = rw (table-enc olds) in
-      rw (le-leb _ _ o, ← name-place (enc olds) n (st co cm bs (enc ns)) (lookup olds n 0) o e) (place-reach (lookup olds n 0) co cm bs n ns h g))
+      rw (le-leb _ _ o, ← name-found (enc olds) n (st co cm bs (enc ns)) (lookup olds n 0) o e) (putFound-reach (lookup olds n 0) co cm bs n ns h g))
     (lt-or-le 255 (length n))
 
 -- names only grow
@@ -170,12 +169,12 @@ spell-grows olds (i ∷ is) ns =
     rw (spell-names olds i is ns) (omega (arith, one-grows olds i ns, spell-grows olds is (namesOf (spellOne olds i ns))))
 
 -- a full writer stays full
-item-full : (old : List ℕ) (i : Item) → item old i full ≡ full
-unfolding item
+item-full : (old : List ℕ) (i : Item) → putItem old i full ≡ full
+unfolding putItem
 item-full old (raw xs) = puts-full xs
 item-full old (nm n) = ⊎-elim
     (λ (o : 255 < length n). sym (name-long old n full o))
-    (λ (o : length n ≤ 255). sym (name-place old n full (lookup (table old) n 0) o refl) ∙ place-full (lookup (table old) n 0) n)
+    (λ (o : length n ≤ 255). sym (name-found old n full (lookup (table old) n 0) o refl) ∙ putFound-full (lookup (table old) n 0) n)
     (lt-or-le 255 (length n))
 
 pub render-full : (old : List ℕ) (is : List Item) → render old is full ≡ full
@@ -261,3 +260,13 @@ pub written-is : (room : ℕ) (p : Package)
     → answered room (enc (p .names)) (render (enc (p .names)) (packageItems p) (st maxBytes maxBytes [] [])) ≡ written room p
 unfolding written encode
 written-is room p = answered-reach room (p .names) _ _ (spell (p .names) (packageItems p) []) (spelt-reach (p .names) (packageItems p))
+
+-- for a caller: the state s that its writer reached from empty buffers is that of the package's items
+pub finished-is : (room : ℕ) (p : Package) (old : List ℕ) (s : State) → old ≡ enc (p .names)
+    → s ≡ render old (packageItems p) (st maxBytes maxBytes [] []) → answered room old s ≡ written room p
+finished-is room p old s e f = rw (f, e) (written-is room p)
+
+-- the two buffers of a caller, before anything is written
+pub empty-buffers : st (length {A = ℕ} (replicate 65536 0)) (length {A = ℕ} (replicate 65536 0)) [] [] ≡ st maxBytes maxBytes [] []
+unfolding maxBytes
+empty-buffers = rw (length-replicate {A = ℕ} 65536 0)

@@ -28,39 +28,39 @@ unfoldable pub table : List ℕ → List Name
 table t = tableF (length t) t
 
 -- a name more in the second buffer, after its length byte
-unfoldable pub entry : Name → State → State
-entry n s = swapped (puts (length n ∷ n) (swapped s))
+unfoldable pub putEntry : Name → State → State
+putEntry n s = swapped (puts (length n ∷ n) (swapped s))
 
 -- by what was found among the new names: each stands there once
-unfoldable pub added : Found → ℕ → Name → State → State
-added (At k) old n s = puts (two (old + k)) s
-added (Missing k) old n s = puts (two (old + k)) (entry n s)
+unfoldable pub putAdded : Found → ℕ → Name → State → State
+putAdded (At k) old n s = puts (two (old + k)) s
+putAdded (Missing k) old n s = puts (two (old + k)) (putEntry n s)
 
 -- a name that is not among the `old` old ones
-unfoldable pub newName : ℕ → Name → State → State
-newName old n full = full
-newName old n (st co cm bs md) = added (lookup (table md) n 0) old n (st co cm bs md)
+unfoldable pub putNew : ℕ → Name → State → State
+putNew old n full = full
+putNew old n (st co cm bs md) = putAdded (lookup (table md) n 0) old n (st co cm bs md)
 
 -- by what was found among the old names
-unfoldable pub place : Found → Name → State → State
-place (At k) n s = puts (two k) s
-place (Missing k) n s = newName k n s
+unfoldable pub putFound : Found → Name → State → State
+putFound (At k) n s = puts (two k) s
+putFound (Missing k) n s = putNew k n s
 
 -- a name; one over 255 bytes fills the writer
-unfoldable pub name : List ℕ → Name → State → State
-name old n s = cond (ltb maxName (length n)) full (place (lookup (table old) n 0) n s)
+unfoldable pub putName : List ℕ → Name → State → State
+putName old n s = cond (ltb maxName (length n)) full (putFound (lookup (table old) n 0) n s)
 
 -- a made name, which stands in a buffer of its own
-unfoldable pub built : List ℕ → State → State → State
-built old full s = full
-built old (st co cm bs md) s = name old bs s
+unfoldable pub putBuilt : List ℕ → State → State → State
+putBuilt old full s = full
+putBuilt old (st co cm bs md) s = putName old bs s
 
 -- bytes as they are, or a name
-unfoldable pub item : List ℕ → Item → State → State
-item old (raw xs) s = puts xs s
-item old (nm n) s = name old n s
+unfoldable pub putItem : List ℕ → Item → State → State
+putItem old (raw xs) s = puts xs s
+putItem old (nm n) s = putName old n s
 
 -- items in order
 unfoldable pub render : List ℕ → List Item → State → State
 render old [] s = s
-render old (i ∷ is) s = render old is (item old i s)
+render old (i ∷ is) s = render old is (putItem old i s)

@@ -7,7 +7,7 @@ ghost use lib.ListN.{length, getD};
 ghost use Rattle.wire.specs.Writer.{stateOf};
 ghost use Rattle.pack.specs.Names.{eqName};
 ghost use Rattle.pack.specs.Write.{lookup};
-ghost use Rattle.pack.specs.Intern.{foundOf, table, entry, newName, name as nameStep, built};
+ghost use Rattle.pack.specs.Intern.{foundOf, table, putEntry, putNew, putName, putBuilt};
 
 // A name's number in a table; where it is missing, how many names there are.
 pub enum Found {
@@ -75,7 +75,7 @@ pub fn count_names(t: &[u8]) -> usize
 // A name more in the table of new names, after its length byte.
 fn put_entry(n: &[u8], made: &mut [u8], w: Writer) -> Writer
     requires { ⌜ length (now n) ≤ 255 ⌝ }
-    ensures { λ r. ⌜ ((o : List ℕ) → stateOf o (now (made .exit)) r ≡ entry (now (n .entry)) (stateOf o (now (made .entry)) w)) ⌝ }
+    ensures { λ r. ⌜ ((o : List ℕ) → stateOf o (now (made .exit)) r ≡ putEntry (now (n .entry)) (stateOf o (now (made .entry)) w)) ⌝ }
 {
     let a = put_byte(made, turned(w), n.len() as u8);
     turned(put_bytes(n, made, a))
@@ -84,7 +84,7 @@ fn put_entry(n: &[u8], made: &mut [u8], w: Writer) -> Writer
 // The number of a name that is not among the `old` old ones: found among the new ones, or added there.
 fn put_new(old: usize, n: &[u8], out: &mut [u8], made: &mut [u8], w: Writer) -> Writer
     requires { ⌜ (length (now n) ≤ 255) × (old < 2 ^ 63) ⌝ }
-    ensures { λ r. ⌜ stateOf (now (out .exit)) (now (made .exit)) r ≡ newName old (now (n .entry)) (stateOf (now (out .entry)) (now (made .entry)) w) ⌝ }
+    ensures { λ r. ⌜ stateOf (now (out .exit)) (now (made .exit)) r ≡ putNew old (now (n .entry)) (stateOf (now (out .entry)) (now (made .entry)) w) ⌝ }
 {
     let end = capped(made.len(), 0, w.made);
     let f = find_name(&made[..end], n);
@@ -99,7 +99,7 @@ fn put_new(old: usize, n: &[u8], out: &mut [u8], made: &mut [u8], w: Writer) -> 
 
 // A name: its number among the old names and the new ones, where it is added if it is neither.
 pub fn put_name(old: &[u8], n: &[u8], out: &mut [u8], made: &mut [u8], w: Writer) -> Writer
-    ensures { λ r. ⌜ stateOf (now (out .exit)) (now (made .exit)) r ≡ nameStep (now (old .entry)) (now (n .entry)) (stateOf (now (out .entry)) (now (made .entry)) w) ⌝ }
+    ensures { λ r. ⌜ stateOf (now (out .exit)) (now (made .exit)) r ≡ putName (now (old .entry)) (now (n .entry)) (stateOf (now (out .entry)) (now (made .entry)) w) ⌝ }
 {
     if 255 < n.len() {
         return stopped(w);
@@ -113,7 +113,7 @@ pub fn put_name(old: &[u8], n: &[u8], out: &mut [u8], made: &mut [u8], w: Writer
 
 // A made name, which stands in a buffer of its own at the writer v.
 pub fn put_built(old: &[u8], buf: &[u8], v: Writer, out: &mut [u8], made: &mut [u8], w: Writer) -> Writer
-    ensures { λ r. ⌜ stateOf (now (out .exit)) (now (made .exit)) r ≡ built (now (old .entry)) (stateOf (now (buf .entry)) [] v) (stateOf (now (out .entry)) (now (made .entry)) w) ⌝ }
+    ensures { λ r. ⌜ stateOf (now (out .exit)) (now (made .exit)) r ≡ putBuilt (now (old .entry)) (stateOf (now (buf .entry)) [] v) (stateOf (now (out .entry)) (now (made .entry)) w) ⌝ }
 {
     let full = v.full;
     if full {

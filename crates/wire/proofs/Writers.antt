@@ -85,6 +85,31 @@ puts-fit co cm md (x ∷ xs) bs h = ⊎-elim
     (λ (g : co ≤ length bs). rw (le-ltb _ _ g, lt-leb (length bs + suc (length xs)) co (omega arith)) (puts-full xs))
     (lt-or-le (length bs) co)
 
+-- a text written to an empty buffer of its own: too long where the writer is full, and else what stands there
+module _ (buf xs : List ℕ) (v : Writer) (e : stateOf buf [] v ≡ puts xs (st (length buf) 0 [] [])) where
+  text-fit : stateOf buf [] v ≡ cond (leb (length xs) (length buf)) (st (length buf) 0 xs []) full
+  text-fit = e ∙ puts-fit (length buf) 0 [] xs [] zero-le ∙ rw zero-add
+
+  pub text-over : v .full ≡ true → length buf < length xs
+  unfolding stateOf
+  text-over f = ⊎-elim
+      (λ (o : length buf < length xs). o)
+      (λ (o : length xs ≤ length buf).
+        let g : full ≡ st (length buf) 0 xs [] = rw (f, le-leb _ _ o) at text-fit in
+        absurd (let z : _≡_ {A = ℕ} 0 1 = cc in omega arith))
+      (lt-or-le (length buf) (length xs))
+
+  pub text-is : v .full ≡ false → (take (v .at) buf ≡ xs) × (length xs ≤ length buf)
+  unfolding stateOf
+  text-is f = ⊎-elim
+      (λ (o : length buf < length xs).
+        let g : st (length buf) 0 (take (v .at) buf) (take (v .made) []) ≡ full = rw (f, lt-leb _ _ o) at text-fit in
+        absurd (let z : _≡_ {A = ℕ} 0 1 = cc in omega arith))
+      (λ (o : length xs ≤ length buf).
+        let g : st (length buf) 0 (take (v .at) buf) (take (v .made) []) ≡ st (length buf) 0 xs [] = rw (f, le-leb _ _ o) at text-fit in
+        (cc, o))
+      (lt-or-le (length buf) (length xs))
+
 -- the exchange of the two places
 pub turned-is : (o m : List ℕ) (w : Writer) → stateOf m o (record { at = w .made; made = w .at; full = w .full }) ≡ swapped (stateOf o m w)
 unfolding stateOf swapped

@@ -1,8 +1,8 @@
 use native.Mathlib.Omega.{arith}
 use mathlib.Core.Path.{_∙_, ap, sym}
 use Rattle.pack.specs.Write.{At, Missing}
-use Rattle.pack.specs.Intern.{place, foundOf}
-use Rattle.pack.proofs.Interns.{found-number, number, name-long, name-place}
+use Rattle.pack.specs.Intern.{putFound, foundOf}
+use Rattle.pack.proofs.Interns.{found-number, name-long, name-found}
 use borrow.Author.Needs.{needs}
 use Rattle.pack.proofs.intern.put_name.Statement.{statement}
 use Rattle.pack.proofs.intern.put_name.Tie as tie
@@ -35,11 +35,11 @@ same-length : tie.Need-same-length
 same-length c = search needs
 
 returns-2 : tie.Need-returns-2
-unfolding place foundOf
+unfolding putFound foundOf
 returns-2 c =
     let d = c .before .before .before .before .before in
     c .before .before .put-u16 .ensures _
-        ∙ name-place _ _ _ (At _) (d .before .before .before .if1 .left) (ap foundOf (sym (d .f .given .1)) ∙ d .before .before .find-name .ensures)
+        ∙ name-found _ _ _ (At _) (d .before .before .before .if1 .left) (ap foundOf (sym (d .f .given .1)) ∙ d .before .before .find-name .ensures)
 
 same-length-2 : tie.Need-same-length-2
 same-length-2 c = search needs
@@ -48,11 +48,11 @@ same-length-3 : tie.Need-same-length-3
 same-length-3 c = search needs
 
 returns-3 : tie.Need-returns-3
-unfolding place foundOf
+unfolding putFound foundOf
 returns-3 c =
     let d = c .before .before .before .before .before .before .before .before in
     c .before .before .before .before .put-new .ensures
-        ∙ name-place _ _ _ (Missing _) (d .before .before .before .if1 .left) (ap foundOf (sym (d .f2 .given .1)) ∙ d .before .before .find-name .ensures)
+        ∙ name-found _ _ _ (Missing _) (d .before .before .before .if1 .left) (ap foundOf (sym (d .f2 .given .1)) ∙ d .before .before .find-name .ensures)
 
 pub put-name-spec : {M : Type 1} → statement M
 put-name-spec =

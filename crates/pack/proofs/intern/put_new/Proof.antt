@@ -4,8 +4,8 @@ use mathlib.Core.Path.{_∙_, ap, sym}
 use Rattle.wire.specs.Bytes.{two}
 use Rattle.wire.specs.Writer.{puts}
 use Rattle.pack.specs.Write.{At, Missing}
-use Rattle.pack.specs.Intern.{added, foundOf}
-use Rattle.pack.proofs.Interns.{newName-is, found-number, number}
+use Rattle.pack.specs.Intern.{putAdded, foundOf}
+use Rattle.pack.proofs.Interns.{putNew-is, found-number}
 use borrow.Author.Needs.{needs}
 use Rattle.pack.proofs.intern.put_new.Statement.{statement}
 use Rattle.pack.proofs.intern.put_new.Tie as tie
@@ -57,11 +57,11 @@ same-length-2 : tie.Need-same-length-2
 same-length-2 c = search needs
 
 returns : tie.Need-returns
-unfolding added foundOf
+unfolding putAdded foundOf
 returns c =
     let d = c .before .before .before .before .before in
     c .before .before .put-u16 .ensures _
-        ∙ newName-is _ _ _ _ _ _ (At _) (d .before .before .before .before .capped .ensures) (ap foundOf (sym (d .f .given .1)) ∙ d .before .before .find-name .ensures)
+        ∙ putNew-is _ _ _ _ _ _ (At _) (d .before .before .before .before .capped .ensures) (ap foundOf (sym (d .f .given .1)) ∙ d .before .before .find-name .ensures)
 
 same-length-3 : tie.Need-same-length-3
 same-length-3 c = search needs
@@ -70,13 +70,13 @@ same-length-4 : tie.Need-same-length-4
 same-length-4 c = search needs
 
 returns-2 : tie.Need-returns-2
-unfolding added foundOf
+unfolding putAdded foundOf
 returns-2 c =
     let d = c .before .before .before .before .before .before in
     let f = d .before .before .before in
     c .before .before .put-u162 .ensures _
         ∙ ap (puts (two _)) (d .put-entry .ensures _)
-        ∙ newName-is _ _ _ _ _ _ (Missing _) (f .before .before .before .before .capped .ensures) (ap foundOf (sym (f .f2 .given .1)) ∙ f .before .before .find-name .ensures)
+        ∙ putNew-is _ _ _ _ _ _ (Missing _) (f .before .before .before .before .capped .ensures) (ap foundOf (sym (f .f2 .given .1)) ∙ f .before .before .find-name .ensures)
 
 pub put-new-spec : {M : Type 1} → statement M
 put-new-spec =
