@@ -6,3 +6,6 @@ pub mod Read
 pub mod Write
 pub mod Intern
 pub mod Outcome
+pub mod RawNames
+pub mod Heads
+pub mod Nodes

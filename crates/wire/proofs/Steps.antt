@@ -14,7 +14,7 @@ use Rattle.wire.specs.declared.answer.Skipped.the-variants as sk
 use Rattle.wire.specs.declared.answer.Read.{Read}
 use Rattle.wire.specs.declared.answer.Read.the-variants as rd
 use Rattle.wire.specs.Answer.{Answer, below, deep, early, guard, illegal, many, mapA, u16, value}
-use Rattle.wire.specs.Code.{after, becomesOf, checkedOf, next, nextR, nextS, pastOf, read, rep, skip, thenIs}
+use Rattle.wire.specs.Code.{after, becomesOf, checkedOf, next, nextR, nextS, pastOf, readOf, rep, skip, thenIs, skips, onward, listed, leftOf}
 use Rattle.wire.proofs.Codes.{becomes-read, checked-read, past-read, rep-none, rep-step, skip-many, thenIs-read}
 use Rattle.wire.proofs.Answers.{byte-value, guard-value, map-map, u16-value}
 use Rattle.wire.proofs.Preorders.{Moves, pending, pending-none, pending-step}
@@ -25,7 +25,7 @@ use lib.ListN.{length, getD}
 never : OneOf (1 ∷ 2 ∷ 3 ∷ []) 0 → ⊥
 never h = ⊎-elim (λ e. omega arith) (⊎-elim (λ e. omega arith) (λ e. omega arith)) h
 
-never-is : (r : Read) (v q : ℕ) → OneOf (1 ∷ 2 ∷ 3 ∷ []) (tagOf Read-enum.the-type r) → r ≡ rd.Is v q → ⊥
+pub never-is : (r : Read) (v q : ℕ) → OneOf (1 ∷ 2 ∷ 3 ∷ []) (tagOf Read-enum.the-type r) → r ≡ rd.Is v q → ⊥
 never-is (rd.Is w p) v q h e = never h
 never-is rd.Early v q h e = let z : _≡_ {A = ℕ} 0 1 = cc in omega arith
 never-is (rd.Illegal o) v q h e = let z : _≡_ {A = ℕ} 0 1 = cc in omega arith
@@ -55,10 +55,10 @@ checked-rest rd.Early n at h = refl
 checked-rest (rd.Illegal o) n at h = refl
 checked-rest (rd.Deep o) n at h = refl
 
-pub check-read : (r q : Read) (a : Answer ℕ) (n at : ℕ) → r ≡ read a → q ≡ checkedOf r n at → q ≡ read (guard (λ i. ltb i n) at a)
+pub check-read : (r q : Read) (a : Answer ℕ) (n at : ℕ) → r ≡ readOf a → q ≡ checkedOf r n at → q ≡ readOf (guard (λ i. ltb i n) at a)
 check-read r q a n at e f = cc (checked-read a n at)
 
-pub past-skip : (r : Read) (q : Skipped) (a : Answer ℕ) → r ≡ read a → q ≡ pastOf r → q ≡ skip a
+pub past-skip : (r : Read) (q : Skipped) (a : Answer ℕ) → r ≡ readOf a → q ≡ pastOf r → q ≡ skip a
 past-skip r q a e f = cc (past-read a)
 
 pub goes : (r a z x : Skipped) (k : ℕ → Skipped) (q : ℕ) → r ≡ sk.To q → r ≡ a → z ≡ next a k → x ≡ k q → x ≡ z
@@ -84,8 +84,8 @@ becomes-rest (rd.Illegal o) n h = refl
 becomes-rest (rd.Deep o) n h = refl
 
 -- what was found, from the code's answer
-pub found : (r : Read) (a : Answer ℕ) (v q : ℕ) → r ≡ rd.Is v q → r ≡ read a → a ≡ value v q
-unfolding read
+pub found : (r : Read) (a : Answer ℕ) (v q : ℕ) → r ≡ rd.Is v q → r ≡ readOf a → a ≡ value v q
+unfolding readOf
 found r (value x p) v q g e = cc
 found r early v q g e = cc
 found r (illegal o) v q g e = cc
@@ -94,8 +94,8 @@ found r (deep o) v q g e = cc
 pub u16-small : (s : List ℕ) (at v q : ℕ) → ((i : ℕ) → getD s i 0 < 256) → u16 s at ≡ value v q → v < 65536
 u16-small s at v q b e = let p = u16-value s at v q e in omega (arith, b at, b (at + 1))
 
-rest : (r : Read) (a : Answer ℕ) (k : ℕ → ℕ → Skipped) → OneOf (1 ∷ 2 ∷ 3 ∷ []) (tagOf Read-enum.the-type r) → r ≡ read a → pastOf r ≡ after a k
-unfolding read pastOf after
+rest : (r : Read) (a : Answer ℕ) (k : ℕ → ℕ → Skipped) → OneOf (1 ∷ 2 ∷ 3 ∷ []) (tagOf Read-enum.the-type r) → r ≡ readOf a → pastOf r ≡ after a k
+unfolding readOf pastOf after
 rest r (value x p) k h e = absurd (never-is r x p h e)
 rest r early k h e = ap pastOf e
 rest r (illegal o) k h e = ap pastOf e
@@ -110,7 +110,7 @@ module _ (more : List ℕ → ℕ → Answer ℕ) (M : Moves more) (s : List ℕ
       let g : suc n - 1 + m ≡ m + n = omega arith in
       ap (λ (k : ℕ). pending more s k p) g ∙ ap (λ (a : Answer ℕ). after a (λ m p. pending more s (m + n) p)) (sym e) ∙ sym (pending-step more M s n at) ∙ f
 
-  pub pending-stopped : (n at : ℕ) (r : Read) (q : Skipped) → 0 < n → OneOf (1 ∷ 2 ∷ 3 ∷ []) (tagOf Read-enum.the-type r) → r ≡ read (more s at) → q ≡ pastOf r → q ≡ pending more s n at
+  pub pending-stopped : (n at : ℕ) (r : Read) (q : Skipped) → 0 < n → OneOf (1 ∷ 2 ∷ 3 ∷ []) (tagOf Read-enum.the-type r) → r ≡ readOf (more s at) → q ≡ pastOf r → q ≡ pending more s n at
   pending-stopped zero at r q l h e f = absurd (omega arith)
   pending-stopped (suc n) at r q l h e f = f ∙ rest r (more s at) (λ m p. pending more s (m + n) p) h e ∙ sym (pending-step more M s n at)
 
@@ -127,11 +127,11 @@ unfolding nextS
 goesS r a x z k v q g e f h = h ∙ ap (λ (y : Read). nextS y k) (sym g ∙ e) ∙ sym f
 
 -- a field that was read, under its constructor
-pub became : {H : Type 0} (g : H → ℕ) (f : ℕ → H) (n : ℕ) (a : Answer ℕ) (r q : Read) → ((x : ℕ) → g (f x) ≡ n) → r ≡ read a → q ≡ becomesOf r n → q ≡ read (mapA g (mapA f a))
+pub became : {H : Type 0} (g : H → ℕ) (f : ℕ → H) (n : ℕ) (a : Answer ℕ) (r q : Read) → ((x : ℕ) → g (f x) ≡ n) → r ≡ readOf a → q ≡ becomesOf r n → q ≡ readOf (mapA g (mapA f a))
 became g f n a r q h e d = d ∙ ap (λ (x : Read). becomesOf x n) e ∙ becomes-read f g n a h
 
-pub thenBecame : {A H : Type 0} (g : H → ℕ) (f : A → H) (n : ℕ) (a : Answer A) (r : Skipped) (q : Read) → ((x : A) → g (f x) ≡ n) → r ≡ skip a → q ≡ thenIs r n → q ≡ read (mapA g (mapA f a))
-thenBecame g f n a r q h e d = d ∙ ap (λ (x : Skipped). thenIs x n) e ∙ thenIs-read (λ x. g (f x)) n a (λ x p i. h x) ∙ ap read (sym (map-map g f a))
+pub thenBecame : {A H : Type 0} (g : H → ℕ) (f : A → H) (n : ℕ) (a : Answer A) (r : Skipped) (q : Read) → ((x : A) → g (f x) ≡ n) → r ≡ skip a → q ≡ thenIs r n → q ≡ readOf (mapA g (mapA f a))
+thenBecame g f n a r q h e d = d ∙ ap (λ (x : Skipped). thenIs x n) e ∙ thenIs-read (λ x. g (f x)) n a (λ x p i. h x) ∙ ap readOf (sym (map-map g f a))
 
 pub below-small : (n : ℕ) (s : List ℕ) (at v q : ℕ) → below n s at ≡ value v q → v < n
 unfolding below
@@ -151,3 +151,52 @@ list-done k n at z h f = let e : 0 ≡ n = omega arith in sym (rep-none k at) �
 -- a number that is at least k and is not k: `omega` takes at most 6 such facts at once, so a `match` of more arms goes by this step
 pub step : (k n : ℕ) → k ≤ n → (n ≡ k → ⊥) → k + 1 ≤ n
 step k n h d = omega arith
+
+-- a step from where reading stands: what stopped stays so
+pub stays : {A : Type 0} (f : ℕ → Answer A) (r : Skipped) → OneOf (1 ∷ 2 ∷ 3 ∷ []) (tagOf Skipped-enum.the-type r) → r ≡ onward f r
+unfolding onward
+stays f r h = stops r (skips f) h
+
+pub reaches : {A : Type 0} (f : ℕ → Answer A) (from r : Skipped) (q : ℕ) → from ≡ sk.To q → r ≡ skip (f q) → r ≡ onward f from
+unfolding onward next skips
+reaches f from r q e g = g ∙ ap (λ (x : Skipped). next x (skips f)) (sym e)
+
+pub reaches-number : (f : ℕ → Answer ℕ) (from r : Skipped) (q : ℕ) (x : Read) → from ≡ sk.To q → x ≡ readOf (f q) → r ≡ pastOf x → r ≡ onward f from
+reaches-number f from r q x e g h = reaches f from r q e (past-skip x r (f q) g h)
+
+pub left-stopped : (r : Skipped) (n : ℕ) → OneOf (1 ∷ 2 ∷ 3 ∷ []) (tagOf Skipped-enum.the-type r) → 0 ≡ leftOf r n
+unfolding leftOf
+left-stopped (sk.To q) n h = absurd (never h)
+left-stopped sk.Early n h = refl
+left-stopped (sk.Illegal o) n h = refl
+left-stopped (sk.Deep o) n h = refl
+
+pub left-goes : (r : Skipped) (n : ℕ) → OneOf (0 ∷ []) (tagOf Skipped-enum.the-type r) → n ≡ leftOf r n
+unfolding leftOf
+left-goes (sk.To q) n h = refl
+left-goes sk.Early n h = absurd (omega arith)
+left-goes (sk.Illegal o) n h = absurd (omega arith)
+left-goes (sk.Deep o) n h = absurd (omega arith)
+
+-- a count from where reading stands
+pub count-stays : (s : List ℕ) (k : ℕ → Skipped) (r : Skipped) → OneOf (1 ∷ 2 ∷ 3 ∷ []) (tagOf Skipped-enum.the-type r) → next r (rep k 0) ≡ listed s k r
+unfolding listed next nextS pastOf
+count-stays s k (sk.To q) h = absurd (never h)
+count-stays s k sk.Early h = refl
+count-stays s k (sk.Illegal o) h = refl
+count-stays s k (sk.Deep o) h = refl
+
+pub count-stops : (s : List ℕ) (k : ℕ → Skipped) (from p : Skipped) (q : ℕ) (x : Read) → from ≡ sk.To q → x ≡ readOf (u16 s q) → OneOf (1 ∷ 2 ∷ 3 ∷ []) (tagOf Read-enum.the-type x) → p ≡ pastOf x → next p (rep k 0) ≡ listed s k from
+unfolding listed next nextS pastOf
+count-stops s k from p q x e g h d =
+    ap (λ (y : Skipped). next y (rep k 0)) d ∙ go x h ∙ ap (λ (y : Read). nextS y (rep k)) g ∙ ap (λ (y : Skipped). next y (λ p. nextS (readOf (u16 s p)) (rep k))) (sym e)
+  where
+    go : (y : Read) → OneOf (1 ∷ 2 ∷ 3 ∷ []) (tagOf Read-enum.the-type y) → next (pastOf y) (rep k 0) ≡ nextS y (rep k)
+    go (rd.Is v t) h = absurd (never h)
+    go rd.Early h = refl
+    go (rd.Illegal o) h = refl
+    go (rd.Deep o) h = refl
+
+pub count-goes : (s : List ℕ) (k : ℕ → Skipped) (from : Skipped) (q : ℕ) (x : Read) (n p : ℕ) → from ≡ sk.To q → x ≡ readOf (u16 s q) → x ≡ rd.Is n p → next (sk.To p) (rep k n) ≡ listed s k from
+unfolding listed next nextS
+count-goes s k from q x n p e g h = ap (λ (y : Read). nextS y (rep k)) (sym h ∙ g) ∙ ap (λ (y : Skipped). next y (λ p. nextS (readOf (u16 s p)) (rep k))) (sym e)

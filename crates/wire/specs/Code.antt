@@ -1,19 +1,20 @@
 -- The code's answers, and its steps on them, as functions.
 use Prim.Native.Nat.{ℕ, zero, suc}
 use mathlib.Core.Bool.{cond}
+use mathlib.Core.List.{List}
 use lib.Dec.{ltb}
 use Rattle.wire.specs.declared.answer.Skipped.{Skipped}
 use Rattle.wire.specs.declared.answer.Skipped.the-variants as sk
 use Rattle.wire.specs.declared.answer.Read.{Read}
 use Rattle.wire.specs.declared.answer.Read.the-variants as rd
-use Rattle.wire.specs.Answer.{Answer, deep, early, illegal, value}
+use Rattle.wire.specs.Answer.{Answer, value, early, illegal, deep, u16}
 
 -- what the code answers
-unfoldable pub read : Answer ℕ → Read
-read (value n q) = rd.Is n q
-read early = rd.Early
-read (illegal o) = rd.Illegal o
-read (deep o) = rd.Deep o
+unfoldable pub readOf : Answer ℕ → Read
+readOf (value n q) = rd.Is n q
+readOf early = rd.Early
+readOf (illegal o) = rd.Illegal o
+readOf (deep o) = rd.Deep o
 
 unfoldable pub skip : {A : Type 0} → Answer A → Skipped
 skip (value a q) = sk.To q
@@ -73,3 +74,21 @@ nextS (rd.Is v q) k = k v q
 nextS rd.Early k = sk.Early
 nextS (rd.Illegal o) k = sk.Illegal o
 nextS (rd.Deep o) k = sk.Deep o
+
+-- what was skipped, then what f reads
+unfoldable pub skips : {A : Type 0} → (ℕ → Answer A) → ℕ → Skipped
+skips f p = skip (f p)
+
+unfoldable pub onward : {A : Type 0} → (ℕ → Answer A) → Skipped → Skipped
+onward f r = next r (skips f)
+
+-- a count, then as many times k
+unfoldable pub listed : List ℕ → (ℕ → Skipped) → Skipped → Skipped
+listed s k r = next r (λ p. nextS (readOf (u16 s p)) (rep k))
+
+-- how many are left to skip: none once reading stopped
+unfoldable pub leftOf : Skipped → ℕ → ℕ
+leftOf (sk.To q) n = n
+leftOf sk.Early n = 0
+leftOf (sk.Illegal o) n = 0
+leftOf (sk.Deep o) n = 0

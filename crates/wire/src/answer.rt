@@ -1,6 +1,6 @@
 // What reading answers, and the steps on answers.
 ghost use mathlib.Core.Path.{_≡_};
-ghost use Rattle.wire.specs.Code.{checkedOf, pastOf, becomesOf, thenIs};
+ghost use Rattle.wire.specs.Code.{checkedOf, pastOf, becomesOf, thenIs, leftOf};
 
 // A number with the offset after it, or why there is none.
 pub enum Read {
@@ -61,5 +61,15 @@ pub fn then_is(k: Skipped, n: usize) -> Read
         Skipped::Early => Read::Early,
         Skipped::Illegal(o) => Read::Illegal(o),
         Skipped::Deep(o) => Read::Deep(o),
+    }
+}
+
+// How many are left to skip: none once reading stopped.
+pub fn left(r: Skipped, n: usize) -> usize
+    ensures { λ q. ⌜ q ≡ leftOf r n ⌝ }
+{
+    match r {
+        Skipped::To(_) => n,
+        _ => 0,
     }
 }

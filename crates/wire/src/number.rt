@@ -1,11 +1,13 @@
 // Numbers on lent bytes, lowest byte first.
-use crate::answer::{becomes, checked, past, Read, Skipped};
+use crate::answer::{checked, past, Read, Skipped};
 ghost use mathlib.Core.Path.{_≡_};
+ghost use Prim.Native.Nat.{ℕ};
+ghost use Rattle.wire.specs.declared.answer.Skipped.{Skipped};
 ghost use Rattle.wire.specs.Answer.{byte, u16, u32, u64, index, below};
-ghost use Rattle.wire.specs.Code.{read, skip};
+ghost use Rattle.wire.specs.Code.{readOf, skip, next, onward, listed, rep};
 
 pub fn read_byte(s: &[u8], at: usize) -> Read
-    ensures { λ r. ⌜ r ≡ read (byte (now (s .entry)) at) ⌝ }
+    ensures { λ r. ⌜ r ≡ readOf (byte (now (s .entry)) at) ⌝ }
 {
     if at < s.len() {
         Read::Is { value: s[at] as usize, next: at + 1 }
@@ -15,7 +17,7 @@ pub fn read_byte(s: &[u8], at: usize) -> Read
 }
 
 pub fn read_u16(s: &[u8], at: usize) -> Read
-    ensures { λ r. ⌜ r ≡ read (u16 (now (s .entry)) at) ⌝ }
+    ensures { λ r. ⌜ r ≡ readOf (u16 (now (s .entry)) at) ⌝ }
 {
     if s.len() <= at {
         return Read::Early;
@@ -31,20 +33,20 @@ pub fn read_u16(s: &[u8], at: usize) -> Read
 
 // A byte below a bound.
 pub fn read_below(s: &[u8], bound: usize, at: usize) -> Read
-    ensures { λ r. ⌜ r ≡ read (below bound (now (s .entry)) at) ⌝ }
+    ensures { λ r. ⌜ r ≡ readOf (below bound (now (s .entry)) at) ⌝ }
 {
     checked(read_byte(s, at), bound, at)
 }
 
 // A name index, below the number of names.
 pub fn read_index(s: &[u8], names: usize, at: usize) -> Read
-    ensures { λ r. ⌜ r ≡ read (index names (now (s .entry)) at) ⌝ }
+    ensures { λ r. ⌜ r ≡ readOf (index names (now (s .entry)) at) ⌝ }
 {
     checked(read_u16(s, at), names, at)
 }
 
 pub fn read_u32(s: &[u8], at: usize) -> Read
-    ensures { λ r. ⌜ r ≡ read (u32 (now (s .entry)) at) ⌝ }
+    ensures { λ r. ⌜ r ≡ readOf (u32 (now (s .entry)) at) ⌝ }
 {
     let r = read_u16(s, at);
     let Read::Is { value: low, next: p } = r else {
@@ -65,4 +67,51 @@ pub fn skip_u64(s: &[u8], at: usize) -> Skipped
         return r;
     };
     past(read_u32(s, p))
+}
+
+// The same from where reading stands: what stopped stays so.
+pub fn then_u16(s: &[u8], from: Skipped) -> Skipped
+    ensures { λ r. ⌜ r ≡ onward (u16 (now (s .entry))) from ⌝ }
+{
+    let Skipped::To(at) = from else {
+        return from;
+    };
+    past(read_u16(s, at))
+}
+
+pub fn then_below(s: &[u8], bound: usize, from: Skipped) -> Skipped
+    ensures { λ r. ⌜ r ≡ onward (below bound (now (s .entry))) from ⌝ }
+{
+    let Skipped::To(at) = from else {
+        return from;
+    };
+    past(read_below(s, bound, at))
+}
+
+pub fn then_index(s: &[u8], names: usize, from: Skipped) -> Skipped
+    ensures { λ r. ⌜ r ≡ onward (index names (now (s .entry))) from ⌝ }
+{
+    let Skipped::To(at) = from else {
+        return from;
+    };
+    past(read_index(s, names, at))
+}
+
+// A list's count, and where its first element stands.
+pub struct Count {
+    pub left: usize,
+    pub at: Skipped,
+}
+
+pub fn then_count(s: &[u8], from: Skipped) -> Count
+    ensures { λ r. ⌜ ((k : ℕ → Skipped) → next (r .at) (rep k (r .left)) ≡ listed (now (s .entry)) k from) ⌝ }
+{
+    let Skipped::To(at) = from else {
+        return Count { left: 0, at: from };
+    };
+    let r = read_u16(s, at);
+    let Read::Is { value, next } = r else {
+        return Count { left: 0, at: past(r) };
+    };
+    Count { left: value, at: Skipped::To(next) }
 }

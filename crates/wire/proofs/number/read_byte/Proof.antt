@@ -3,7 +3,7 @@ use borrow.Author.Needs.{needs}
 use borrow.Author.Tests.{lt-ltb, le-ltb}
 use native.Mathlib.Omega.{arith}
 use Rattle.wire.specs.Answer.{byte}
-use Rattle.wire.specs.Code.{read}
+use Rattle.wire.specs.Code.{readOf}
 use Rattle.wire.proofs.number.read_byte.Statement.{statement}
 use Rattle.wire.proofs.number.read_byte.Tie as tie
 
@@ -17,11 +17,11 @@ add-t9 : tie.Need-add-t9
 add-t9 c = search needs
 
 returns : tie.Need-returns
-unfolding byte read
+unfolding byte readOf
 returns c = simp (lt-ltb _ _ (c .before .if1 .taken))
 
 returns-2 : tie.Need-returns-2
-unfolding byte read
+unfolding byte readOf
 returns-2 c = simp (le-ltb _ _ (c .if1 .left))
 
 pub read-byte-spec : {M : Type 1} → statement M

@@ -4,12 +4,12 @@ use borrow.Author.Tests.{lt-ltb, le-ltb}
 use native.Mathlib.Omega.{arith}
 use Prim.Native.Nat.{_+_}
 use Rattle.wire.specs.Answer.{bind, byte, u16}
-use Rattle.wire.specs.Code.{read}
+use Rattle.wire.specs.Code.{readOf}
 use Rattle.wire.proofs.number.read_u16.Statement.{statement}
 use Rattle.wire.proofs.number.read_u16.Tie as tie
 
 returns : tie.Need-returns
-unfolding u16 byte bind read
+unfolding u16 byte bind readOf
 returns c = simp (le-ltb _ _ (c .if1 .taken))
 
 shared-slice-read-low : tie.Need-shared-slice-read-low
@@ -22,7 +22,7 @@ add-b : tie.Need-add-b
 add-b c = search needs
 
 returns-2 : tie.Need-returns-2
-unfolding u16 byte bind read
+unfolding u16 byte bind readOf
 returns-2 c = simp (lt-ltb _ _ (c .before .before .if1 .left), le-ltb _ _ (c .if2 .taken))
 
 shared-slice-read-high : tie.Need-shared-slice-read-high
@@ -43,7 +43,7 @@ add-t12 : tie.Need-add-t12
 add-t12 c = search needs
 
 returns-3 : tie.Need-returns-3
-unfolding u16 byte bind read
+unfolding u16 byte bind readOf
 returns-3 c = simp (lt-ltb _ _ (c .before .before .before .if1 .left), lt-ltb _ _ (c .before .if2 .left))
 
 pub read-u16-spec : {M : Type 1} → statement M

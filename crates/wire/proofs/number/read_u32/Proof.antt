@@ -1,7 +1,7 @@
 use native.Mathlib.Omega.{arith}
 use mathlib.Core.Path.{refl}
 use Rattle.wire.proofs.Codes.{read-bind, u32-read}
-use Rattle.wire.specs.Code.{read}
+use Rattle.wire.specs.Code.{readOf}
 use Rattle.wire.proofs.Steps.{found, goesR, stoppedR, u16-small}
 use Rattle.wire.proofs.number.read_u32.Statement.{statement}
 use Rattle.wire.proofs.number.read_u32.Tie as tie
@@ -48,7 +48,7 @@ add-t10 c =
 
 -- src/lib.rt:94:1
 returns-3 : tie.Need-returns-3
-unfolding read
+unfolding readOf
 returns-3 c = goesR _ _ _ _ _ _ _ (c .before .before .before .before .before .r .given .1) (c .before .before .before .before .before .before .before .read-u16 .ensures) (u32-read _ _) (goesR _ _ _ _ _ _ _ (c .before .t .given .1) (c .before .before .before .read-u162 .ensures) (read-bind _ _) refl)
 
 pub read-u32-spec : {M : Type 1} → statement M

@@ -1,0 +1,221 @@
+-- Laws of the name section: names compared where they stand, and the loop over them.
+use Prim.Native.Nat.{ℕ, _+_, _-_, _≤_, _<_, zero, suc}
+use native.Mathlib.Omega.{arith}
+use native.Mathlib.Numerals.{add-one}
+use mathlib.Core.List.{List, [], _∷_, _++_}
+use mathlib.Core.Bool.{Bool, true, false, not, cond, _&&_, _||_}
+use mathlib.Core.Path.{_≡_, refl, sym, ap, _∙_}
+use lib.ListN.{length, getD, take, drop, length-take, length-drop}
+use lib.Seq.{drop-cons}
+use lib.Dec.{ltb, leb, eqb}
+use borrow.Author.Tests.{ltb-true, eq-eqb, ne-eqb}
+use Rattle.wire.specs.declared.answer.Read.{Read}
+use Rattle.wire.specs.declared.answer.Read.the-variants as rd
+use Rattle.wire.specs.declared.answer.Skipped.the-variants as sk
+use Rattle.wire.specs.Answer.{Answer, bind, byte, deep, early, guard, illegal, many, mapA, u16, value}
+use Rattle.pack.specs.Read.{char, name, nameByte, nameSection, namesAfter, size}
+use Rattle.wire.specs.Code.{next, nextR, nextS, readOf, rep, skip}
+use Rattle.wire.proofs.Answers.{bind-value, byte-value, guard-value}
+use Rattle.wire.proofs.Codes.{guard-read, guard-skip, skip-bindS, skip-many}
+use Rattle.pack.specs.Names.{eqName, member}
+use Rattle.pack.specs.RawNames.{Inside, agree, oneOf, rawEnd, rawName, rawNames}
+
+or-true : (b x : Bool) → b ≡ true → true ≡ b || x
+or-true b x e = rw e
+
+or-false : (b x : Bool) → b ≡ false → x ≡ b || x
+or-false b x e = rw e
+
+and-false : (b : Bool) → _&&_ b false ≡ false
+and-false true = refl
+and-false false = refl
+
+pub agree-step : (s : List ℕ) (a b n : ℕ) → 0 < n → agree s a b n ≡ _&&_ (eqb (getD s a 0) (getD s b 0)) (agree s (a + 1) (b + 1) (n - 1))
+unfolding agree
+agree-step s a b zero h = absurd (omega arith)
+agree-step s a b (suc n) h = let e : suc n - 1 ≡ n = omega arith in rw e
+
+-- that is what `same` says of the two parts
+pub agree-same : (s : List ℕ) (n a b : ℕ) → a + n ≤ length s → b + n ≤ length s → agree s a b n ≡ eqName (take n (drop a s)) (take n (drop b s))
+unfolding agree eqName
+agree-same s zero a b h k = refl
+agree-same s (suc n) a b h k = rw (drop-cons s a 0 (omega arith), drop-cons s b 0 (omega arith), add-one a, add-one b) (ap (_&&_ (eqb (getD s a 0) (getD s b 0))) (agree-same s n (suc a) (suc b) (omega arith) (omega arith)))
+
+pub name-skip : (s : List ℕ) (at : ℕ) → skip (name s at) ≡ nextS (readOf (size s at)) (λ n p. rep (λ q. skip (char s q)) n p)
+unfolding name
+name-skip s at = skip-bindS (size s at) _ _ (λ n p. skip-many (char s) n p)
+
+pub char-skip : (s : List ℕ) (at : ℕ) → skip (char s at) ≡ nextS (readOf (byte s at)) (λ v q. cond (nameByte v) (sk.To q) (sk.Illegal at))
+unfolding char
+char-skip s at = guard-skip nameByte at (byte s at)
+
+pub size-read : (s : List ℕ) (at : ℕ) → readOf (size s at) ≡ nextR (readOf (byte s at)) (λ v q. cond (ltb 0 v) (rd.Is v q) (rd.Illegal at))
+unfolding size
+size-read s at = guard-read (λ n. ltb 0 n) at (byte s at)
+
+pub agree-went : (s : List ℕ) (a b n : ℕ) (z : Bool) → 0 < n → getD s a 0 ≡ getD s b 0 → agree s a b n ≡ z → agree s (a + 1) (b + 1) (n - 1) ≡ z
+agree-went s a b n z h e f = rw (eq-eqb (getD s a 0) (getD s b 0) e) at (sym (agree-step s a b n h)) ∙ f
+
+pub agree-stopped : (s : List ℕ) (a b n : ℕ) (z : Bool) → 0 < n → (getD s a 0 ≡ getD s b 0 → ⊥) → agree s a b n ≡ z → false ≡ z
+agree-stopped s a b n z h e f = rw (ne-eqb (getD s a 0) (getD s b 0) e) at (sym (agree-step s a b n h)) ∙ f
+
+pub agree-done : (s : List ℕ) (a b n : ℕ) (z : Bool) → n ≤ 0 → agree s a b n ≡ z → true ≡ z
+unfolding agree
+agree-done s a b zero z h f = f
+agree-done s a b (suc n) z h f = absurd (omega arith)
+
+pub inside-step : (s : List ℕ) (n at : ℕ) → 0 < n → Inside s n at → (at + 1 + getD s at 0 ≤ length s) × Inside s (n - 1) (at + 1 + getD s at 0)
+unfolding Inside
+inside-step s zero at l h = absurd (omega arith)
+inside-step s (suc n) at l h = let e : suc n - 1 ≡ n = omega arith in (h .0, rw e (h .1))
+
+raw-length : (s : List ℕ) (x : ℕ) → x + 1 + getD s x 0 ≤ length s → length (rawName s x) ≡ getD s x 0
+unfolding rawName
+raw-length s x h = simp (length-take, length-drop) (omega arith)
+
+same-lengths : (l m : List ℕ) → (length l ≡ length m → ⊥) → eqName l m ≡ false
+unfolding eqName
+same-lengths [] [] d = absurd (d refl)
+same-lengths [] (b ∷ m) d = refl
+same-lengths (a ∷ l) [] d = refl
+same-lengths (a ∷ l) (b ∷ m) d = rw (same-lengths l m (λ e. d (ap suc e))) (and-false (eqb a b))
+
+pub same-sizes : (s : List ℕ) (x at : ℕ) → x + 1 + getD s x 0 ≤ length s → at + 1 + getD s at 0 ≤ length s → (getD s x 0 ≡ getD s at 0 → ⊥) → false ≡ eqName (rawName s x) (rawName s at)
+same-sizes s x at h k d = sym (same-lengths (rawName s x) (rawName s at) (λ e. d (sym (raw-length s x h) ∙ e ∙ raw-length s at k)))
+
+pub same-agree : (s : List ℕ) (x at : ℕ) → x + 1 + getD s x 0 ≤ length s → at + 1 + getD s at 0 ≤ length s → getD s x 0 ≡ getD s at 0 → agree s (x + 1) (at + 1) (getD s x 0) ≡ eqName (rawName s x) (rawName s at)
+unfolding rawName
+same-agree s x at h k e = agree-same s (getD s x 0) (x + 1) (at + 1) h (omega arith) ∙ ap (λ (n : ℕ). eqName (take (getD s x 0) (drop (x + 1) s)) (take n (drop (at + 1) s))) e
+
+pub oneOf-found : (s : List ℕ) (x n at : ℕ) (z r : Bool) → 0 < n → r ≡ true → r ≡ eqName (rawName s x) (rawName s at) → oneOf s x n at ≡ z → true ≡ z
+unfolding oneOf rawNames member
+oneOf-found s x zero at z r l e f g = absurd (omega arith)
+oneOf-found s x (suc n) at z r l e f g = or-true (eqName (rawName s x) (rawName s at)) _ (sym f ∙ e) ∙ g
+
+pub oneOf-went : (s : List ℕ) (x n at : ℕ) (z r : Bool) → 0 < n → r ≡ false → r ≡ eqName (rawName s x) (rawName s at) → oneOf s x n at ≡ z → oneOf s x (n - 1) (at + 1 + getD s at 0) ≡ z
+unfolding oneOf rawNames member
+oneOf-went s x zero at z r l e f g = absurd (omega arith)
+oneOf-went s x (suc n) at z r l e f g = let h : suc n - 1 ≡ n = omega arith in rw h (or-false (eqName (rawName s x) (rawName s at)) _ (sym f ∙ e) ∙ g)
+
+pub oneOf-done : (s : List ℕ) (x n at : ℕ) (z : Bool) → n ≤ 0 → oneOf s x n at ≡ z → false ≡ z
+unfolding oneOf rawNames member
+oneOf-done s x zero at z l g = g
+oneOf-done s x (suc n) at z l g = absurd (omega arith)
+
+rawEnd-more : (s : List ℕ) (n at : ℕ) → rawEnd s (suc n) at ≡ rawEnd s n at + 1 + getD s (rawEnd s n at) 0
+unfolding rawEnd
+rawEnd-more s zero at = refl
+rawEnd-more s (suc n) at = rawEnd-more s n (at + 1 + getD s at 0)
+
+rawNames-more : (s : List ℕ) (n at : ℕ) → rawNames s (suc n) at ≡ rawNames s n at ++ rawName s (rawEnd s n at) ∷ []
+unfolding rawNames rawEnd
+rawNames-more s zero at = refl
+rawNames-more s (suc n) at = ap (λ (l : List (List ℕ)). rawName s at ∷ l) (rawNames-more s n (at + 1 + getD s at 0))
+
+Inside-more : (s : List ℕ) (n at : ℕ) → Inside s n at → rawEnd s n at + 1 + getD s (rawEnd s n at) 0 ≤ length s → Inside s (suc n) at
+unfolding Inside rawEnd
+Inside-more s zero at i h = (h, tt)
+Inside-more s (suc n) at i h = (i .0, Inside-more s n (at + 1 + getD s at 0) (i .1) h)
+
+-- what a name is, from the value found
+pub record NameAt (s : List ℕ) (at : ℕ) (x : List ℕ) (q : ℕ) : Type 0 where
+  pub is : x ≡ rawName s at
+  pub to : q ≡ at + 1 + getD s at 0
+  pub inside : q ≤ length s
+
+record CharsAt (s : List ℕ) (n at : ℕ) (x : List ℕ) (q : ℕ) : Type 0 where
+  is : x ≡ take n (drop at s)
+  to : q ≡ at + n
+  inside : at ≤ length s → q ≤ length s
+
+chars-value : (s : List ℕ) (n at : ℕ) (x : List ℕ) (q : ℕ) → many (char s) n at ≡ value x q → CharsAt s n at x q
+unfolding many char
+chars-value s zero at x q e = let g : [] ≡ x = cc in let t : at ≡ q = cc in record { is = sym g; to = omega arith; inside = omega arith }
+chars-value s (suc n) at x q e =
+    let b = bind-value (char s at) _ x q e in
+    let d = bind-value (many (char s) n (b .1)) _ x q (b .3) in
+    let g : b .0 ∷ d .0 ≡ x = cc (d .3) in
+    let t : d .1 ≡ q = cc (d .3) in
+    let v = byte-value s at (b .0) (b .1) (guard-value nameByte at (byte s at) (b .0) (b .1) (b .2) .0) in
+    let r = chars-value s n (b .1) (d .0) (d .1) (d .2) in
+    let p : b .1 ≡ suc at = omega (arith, v .to) in
+    let i : d .1 ≤ length s = r .inside (omega arith) in
+    record { is = sym g ∙ ap (λ (h : ℕ). h ∷ d .0) (v .is) ∙ ap (λ (l : List ℕ). getD s at 0 ∷ l) (r .is ∙ ap (λ (k : ℕ). take n (drop k s)) p) ∙ sym (ap (take (suc n)) (drop-cons s at 0 (v .inside))); to = omega (arith, r .to, v .to); inside = λ h. omega arith }
+
+pub name-value : (s : List ℕ) (at : ℕ) (x : List ℕ) (q : ℕ) → name s at ≡ value x q → NameAt s at x q
+unfolding name size rawName
+name-value s at x q e =
+    let b = bind-value (size s at) _ x q e in
+    let v = byte-value s at (b .0) (b .1) (guard-value (λ n. ltb 0 n) at (byte s at) (b .0) (b .1) (b .2) .0) in
+    let r = chars-value s (b .0) (b .1) x q (b .3) in
+    let i : q ≤ length s = r .inside (omega (arith, v .to, v .inside)) in
+    record { is = r .is ∙ ap (λ (k : ℕ). take k (drop (b .1) s)) (v .is) ∙ ap (λ (k : ℕ). take (getD s at 0) (drop k s)) (v .to); to = omega (arith, r .to, v .to, v .is); inside = i }
+
+-- the next name of the section
+pub names-repeated : (s : List ℕ) (t : List (List ℕ)) (k at : ℕ) (x : List ℕ) (q : ℕ) → 0 < k → name s at ≡ value x q → member x t ≡ true → skip (namesAfter s t k at) ≡ sk.Illegal at
+unfolding namesAfter bind guard skip
+names-repeated s t zero at x q l e m = absurd (omega arith)
+names-repeated s t (suc k) at x q l e m = rw (e, m)
+
+pub names-went : (s : List ℕ) (t : List (List ℕ)) (k at : ℕ) (x : List ℕ) (q : ℕ) → 0 < k → name s at ≡ value x q → member x t ≡ false → skip (namesAfter s t k at) ≡ skip (namesAfter s (t ++ x ∷ []) (k - 1) q)
+unfolding namesAfter bind guard
+names-went s t zero at x q l e m = absurd (omega arith)
+names-went s t (suc k) at x q l e m = let h : suc k - 1 ≡ k = omega arith in rw (e, m, h)
+
+pub names-done : (s : List ℕ) (t : List (List ℕ)) (k at : ℕ) → k ≤ 0 → skip (namesAfter s t k at) ≡ sk.To at
+unfolding namesAfter skip
+names-done s t zero at l = refl
+names-done s t (suc k) at l = absurd (omega arith)
+
+pub names-next : (s : List ℕ) (t : List (List ℕ)) (k at : ℕ) → 0 < k → skip (namesAfter s t k at) ≡ next (skip (name s at)) (λ q. skip (namesAfter s t k at))
+unfolding namesAfter bind guard skip next
+names-next s t zero at l = absurd (omega arith)
+names-next s t (suc k) at l = go (name s at)
+  where
+    go : (a : Answer (List ℕ)) → skip (bind (guard (λ x. not (member x t)) at a) (λ x p. namesAfter s (t ++ x ∷ []) k p)) ≡ next (skip a) (λ q. skip (bind (guard (λ x. not (member x t)) at a) (λ x p. namesAfter s (t ++ x ∷ []) k p)))
+    go (value x q) = refl
+    go early = refl
+    go (illegal o) = refl
+    go (deep o) = refl
+
+pub skip-to : {A : Type 0} (a : Answer A) (q : ℕ) → skip a ≡ sk.To q → (x : A) × (a ≡ value x q)
+unfolding skip
+skip-to (value x p) q e = let g : p ≡ q = cc in (x, ap (value x) g)
+skip-to early q e = let z : _≡_ {A = ℕ} 0 1 = cc in absurd (omega arith)
+skip-to (illegal o) q e = let z : _≡_ {A = ℕ} 0 1 = cc in absurd (omega arith)
+skip-to (deep o) q e = let z : _≡_ {A = ℕ} 0 1 = cc in absurd (omega arith)
+
+pub section-skip : (s : List ℕ) (at : ℕ) → skip (nameSection s at) ≡ nextS (readOf (u16 s at)) (λ n p. skip (namesAfter s [] n p))
+unfolding nameSection
+section-skip s at = skip-bindS (u16 s at) _ _ (λ n p. refl)
+
+-- the loop's invariant: n names of the section have been read, and stand inside
+pub record NamesRead (s : List ℕ) (count q n p : ℕ) : Type 0 where
+  pub few : n ≤ count
+  pub inside : Inside s n q
+  pub here : rawEnd s n q ≡ p
+  pub same : skip (namesAfter s (rawNames s n q) (count - n) p) ≡ skip (namesAfter s [] count q)
+
+pub reading-none : (s : List ℕ) (count q : ℕ) → NamesRead s count q 0 q
+unfolding Inside rawEnd rawNames
+reading-none s count q = let e : count - 0 ≡ count = omega arith in record { few = omega arith; inside = tt; here = refl; same = rw e }
+
+pub reading-more : (s : List ℕ) (count q n p : ℕ) (x : List ℕ) (to : ℕ) (b : Bool) → NamesRead s count q n p → n < count → name s p ≡ value x to → b ≡ oneOf s p n q → b ≡ false → NamesRead s count q (n + 1) to
+unfolding oneOf
+reading-more s count q n p x to b r l e f g =
+    let v = name-value s p x to e in
+    let m : member x (rawNames s n q) ≡ false = ap (λ (y : List ℕ). member y (rawNames s n q)) (v .is) ∙ sym f ∙ g in
+    let u : count - n - 1 ≡ count - (n + 1) = omega arith in
+    let i : rawEnd s n q + 1 + getD s (rawEnd s n q) 0 ≤ length s = rw (r .here) (omega (arith, v .to, v .inside)) in
+    let w : rawNames s (n + 1) q ≡ rawNames s n q ++ x ∷ [] = ap (λ (k : ℕ). rawNames s k q) (add-one n) ∙ rawNames-more s n q ∙ ap (λ (k : ℕ). rawNames s n q ++ rawName s k ∷ []) (r .here) ∙ ap (λ (y : List ℕ). rawNames s n q ++ y ∷ []) (sym (v .is)) in
+    record { few = omega arith; inside = rw add-one (Inside-more s n q (r .inside) i); here = rw add-one (rawEnd-more s n q ∙ ap (λ (k : ℕ). k + 1 + getD s k 0) (r .here) ∙ sym (v .to)); same = ap (λ (t : List (List ℕ)). skip (namesAfter s t (count - (n + 1)) to)) w ∙ ap (λ (k : ℕ). skip (namesAfter s (rawNames s n q ++ x ∷ []) k to)) (sym u) ∙ sym (names-went s (rawNames s n q) (count - n) p x to (omega arith) e m) ∙ r .same }
+
+pub reading-repeated : (s : List ℕ) (count q n p : ℕ) (x : List ℕ) (to : ℕ) (b : Bool) → NamesRead s count q n p → n < count → name s p ≡ value x to → b ≡ oneOf s p n q → b ≡ true → sk.Illegal p ≡ skip (namesAfter s [] count q)
+unfolding oneOf
+reading-repeated s count q n p x to b r l e f g =
+    let v = name-value s p x to e in
+    let m : member x (rawNames s n q) ≡ true = ap (λ (y : List ℕ). member y (rawNames s n q)) (v .is) ∙ sym f ∙ g in
+    sym (names-repeated s (rawNames s n q) (count - n) p x to (omega arith) e m) ∙ r .same
+
+pub reading-done : (s : List ℕ) (count q n p : ℕ) → NamesRead s count q n p → count ≤ n → sk.To p ≡ skip (namesAfter s [] count q)
+reading-done s count q n p r l = sym (names-done s (rawNames s n q) (count - n) p (omega arith)) ∙ r .same

@@ -1,0 +1,46 @@
+use borrow.Author.Tests.{lt-ltb, le-ltb, eq-eqb, ne-eqb}
+use Rattle.pack.specs.Read.{nameByte}
+use Rattle.pack.proofs.names.name_byte.Statement.{statement}
+use Rattle.pack.proofs.names.name_byte.Tie as tie
+use Rattle.pack.proofs.names.name_byte.Reads as reads
+use Rattle.pack.proofs.names.name_byte.Lts as lts
+use borrow.Author.Needs.{needs}
+
+-- src/lib.rt:394:9
+returns : tie.Need-returns
+unfolding nameByte
+returns c = simp (lt-ltb _ _ (c .if1 .taken))
+
+-- src/lib.rt:397:9
+returns-2 : tie.Need-returns-2
+unfolding nameByte
+returns-2 c = simp (le-ltb _ _ (c .before .if1 .left), lt-ltb _ _ (c .if2 .taken))
+
+-- src/lib.rt:400:9
+returns-3 : tie.Need-returns-3
+unfolding nameByte
+returns-3 c = simp (le-ltb _ _ (c .before .before .if1 .left), le-ltb _ _ (c .before .if2 .left), lt-ltb _ _ (c .if3 .taken))
+
+-- src/lib.rt:403:9
+returns-4 : tie.Need-returns-4
+unfolding nameByte
+returns-4 c = simp (le-ltb _ _ (c .before .before .before .if1 .left), le-ltb _ _ (c .before .before .if2 .left), le-ltb _ _ (c .before .if3 .left), lt-ltb _ _ (c .if4 .taken))
+
+-- src/lib.rt:406:9
+returns-5 : tie.Need-returns-5
+unfolding nameByte
+returns-5 c = simp (le-ltb _ _ (c .before .before .before .before .if1 .left), le-ltb _ _ (c .before .before .before .if2 .left), le-ltb _ _ (c .before .before .if3 .left), le-ltb _ _ (c .before .if4 .left), eq-eqb _ _ (c .if5 .taken))
+
+-- src/lib.rt:409:9
+returns-6 : tie.Need-returns-6
+unfolding nameByte
+returns-6 c = simp (le-ltb _ _ (c .before .before .before .before .before .if1 .left), le-ltb _ _ (c .before .before .before .before .if2 .left), le-ltb _ _ (c .before .before .before .if3 .left), le-ltb _ _ (c .before .before .if4 .left), ne-eqb _ _ (c .before .if5 .left), lt-ltb _ _ (c .if6 .taken))
+
+-- src/lib.rt:390:1
+returns-7 : tie.Need-returns-7
+unfolding nameByte
+returns-7 c = simp (le-ltb _ _ (c .before .before .before .before .before .if1 .left), le-ltb _ _ (c .before .before .before .before .if2 .left), le-ltb _ _ (c .before .before .before .if3 .left), le-ltb _ _ (c .before .before .if4 .left), ne-eqb _ _ (c .before .if5 .left), le-ltb _ _ (c .if6 .left))
+
+pub name-byte-spec : {M : Type 1} → statement M
+name-byte-spec =
+    tie.close (tie.spec returns returns-2 returns-3 returns-4 returns-5 returns-6 returns-7)

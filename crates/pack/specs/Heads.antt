@@ -1,0 +1,11 @@
+-- How many trees stand under a head: what the reading loops ask of it.
+use Prim.Native.Nat.{ℕ}
+use mathlib.Core.List.{List}
+use Rattle.wire.specs.Answer.{Answer, mapA}
+use Rattle.pack.specs.Forms.{exprArity, exprHead, typeArity, typeHead}
+
+unfoldable pub typeMore : ℕ → List ℕ → ℕ → Answer ℕ
+typeMore names s at = mapA typeArity (typeHead names s at)
+
+unfoldable pub exprMore : ℕ → List ℕ → ℕ → Answer ℕ
+exprMore names s at = mapA exprArity (exprHead names s at)

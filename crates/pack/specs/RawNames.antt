@@ -1,0 +1,33 @@
+-- Names as they stand in the bytes, each after its length byte.
+use Prim.Native.Nat.{ℕ, _+_, _≤_, zero, suc}
+use mathlib.Core.List.{List, [], _∷_}
+use mathlib.Core.Bool.{Bool, true, _&&_}
+use lib.ListN.{length, getD, take, drop}
+use lib.Dec.{eqb}
+use Rattle.pack.specs.Names.{member}
+
+-- the bytes from a on and from b on agree, n of them
+unfoldable pub agree : List ℕ → ℕ → ℕ → ℕ → Bool
+agree s a b zero = true
+agree s a b (suc n) = _&&_ (eqb (getD s a 0) (getD s b 0)) (agree s (a + 1) (b + 1) n)
+
+-- the bytes of a name whose length byte stands at `at`, and of n names one after the other
+unfoldable pub rawName : List ℕ → ℕ → List ℕ
+rawName s at = take (getD s at 0) (drop (at + 1) s)
+
+unfoldable pub rawNames : List ℕ → ℕ → ℕ → List (List ℕ)
+rawNames s zero at = []
+rawNames s (suc n) at = rawName s at ∷ rawNames s n (at + 1 + getD s at 0)
+
+-- they stand inside
+unfoldable pub Inside : List ℕ → ℕ → ℕ → Type 0
+Inside s zero at = Unit {0}
+Inside s (suc n) at = (at + 1 + getD s at 0 ≤ length s) × Inside s n (at + 1 + getD s at 0)
+
+unfoldable pub oneOf : List ℕ → ℕ → ℕ → ℕ → Bool
+oneOf s x n at = member (rawName s x) (rawNames s n at)
+
+-- where n names end
+unfoldable pub rawEnd : List ℕ → ℕ → ℕ → ℕ
+rawEnd s zero at = at
+rawEnd s (suc n) at = rawEnd s n (at + 1 + getD s at 0)

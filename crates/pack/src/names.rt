@@ -1,0 +1,153 @@
+// The name section.
+use wire::answer::{past, Read, Skipped};
+use wire::number::{read_byte, read_u16};
+ghost use mathlib.Core.Path.{_≡_};
+ghost use Prim.Native.Nat.{_+_, _≤_};
+ghost use lib.ListN.{length, getD};
+ghost use Rattle.wire.specs.Code.{readOf, skip};
+ghost use Rattle.pack.specs.Names.{eqName};
+ghost use Rattle.pack.specs.Read.{nameByte, char, size, name, nameSection};
+ghost use Rattle.pack.specs.RawNames.{agree, rawName, Inside, oneOf};
+
+// A byte of a name: a letter, a digit or an underscore.
+pub fn name_byte(b: usize) -> bool
+    ensures { λ r. ⌜ r ≡ nameByte b ⌝ }
+{
+    if b < 48 {
+        return false;
+    }
+    if b < 58 {
+        return true;
+    }
+    if b < 65 {
+        return false;
+    }
+    if b < 91 {
+        return true;
+    }
+    if b == 95 {
+        return true;
+    }
+    if b < 97 {
+        return false;
+    }
+    b < 123
+}
+
+pub fn skip_char(s: &[u8], at: usize) -> Skipped
+    ensures { λ r. ⌜ r ≡ skip (char (now (s .entry)) at) ⌝ }
+{
+    let r = read_byte(s, at);
+    let Read::Is { value: b, next: p } = r else {
+        return past(r);
+    };
+    if name_byte(b) {
+        Skipped::To(p)
+    } else {
+        Skipped::Illegal(at)
+    }
+}
+
+pub fn read_size(s: &[u8], at: usize) -> Read
+    ensures { λ r. ⌜ r ≡ readOf (size (now (s .entry)) at) ⌝ }
+{
+    let r = read_byte(s, at);
+    let Read::Is { value: n, next: _ } = r else {
+        return r;
+    };
+    if 0 < n { r } else { Read::Illegal(at) }
+}
+
+pub fn skip_name(s: &[u8], at: usize) -> Skipped
+    ensures { λ r. ⌜ r ≡ skip (name (now (s .entry)) at) ⌝ }
+{
+    let t = read_size(s, at);
+    let Read::Is { value: count, next: q } = t else {
+        return past(t);
+    };
+    let mut n = count;
+    let mut p = q;
+    while 0 < n {
+        let e = skip_char(s, p);
+        let Skipped::To(next) = e else {
+            return e;
+        };
+        n = n - 1;
+        p = next;
+    }
+    Skipped::To(p)
+}
+
+// Whether the n bytes from a on are those from b on.
+pub fn same_bytes(s: &[u8], a: usize, b: usize, n: usize) -> bool
+    requires { ⌜ (a + n ≤ length (now s)) × (b + n ≤ length (now s)) ⌝ }
+    ensures { λ r. ⌜ r ≡ agree (now (s .entry)) a b n ⌝ }
+{
+    let mut i = a;
+    let mut j = b;
+    let mut left = n;
+    while 0 < left {
+        if s[i] != s[j] {
+            return false;
+        }
+        i += 1;
+        j += 1;
+        left -= 1;
+    }
+    true
+}
+
+// Whether the names whose length bytes stand at a and at b are the same.
+pub fn same_name(s: &[u8], a: usize, b: usize) -> bool
+    requires { ⌜ (a + 1 + getD (now s) a 0 ≤ length (now s)) × (b + 1 + getD (now s) b 0 ≤ length (now s)) ⌝ }
+    ensures { λ r. ⌜ r ≡ eqName (rawName (now (s .entry)) a) (rawName (now (s .entry)) b) ⌝ }
+{
+    let n = s[a] as usize;
+    let m = s[b] as usize;
+    if n != m {
+        return false;
+    }
+    same_bytes(s, a + 1, b + 1, n)
+}
+
+// Whether the name at x is one of the count names from `at` on.
+pub fn seen(s: &[u8], x: usize, count: usize, at: usize) -> bool
+    requires { ⌜ (x + 1 + getD (now s) x 0 ≤ length (now s)) × Inside (now s) count at ⌝ }
+    ensures { λ r. ⌜ r ≡ oneOf (now (s .entry)) x count at ⌝ }
+{
+    let mut n = count;
+    let mut p = at;
+    while 0 < n {
+        if same_name(s, x, p) {
+            return true;
+        }
+        let k = s[p] as usize;
+        p = p + 1 + k;
+        n = n - 1;
+    }
+    false
+}
+
+// The name section: no name twice.
+pub fn skip_names(s: &[u8], at: usize) -> Skipped
+    ensures { λ r. ⌜ r ≡ skip (nameSection (now (s .entry)) at) ⌝ }
+{
+    let t = read_u16(s, at);
+    let Read::Is { value: count, next: q } = t else {
+        return past(t);
+    };
+    let mut n: usize = 0;
+    let mut p = q;
+    while n < count {
+        let e = skip_name(s, p);
+        let Skipped::To(next) = e else {
+            return e;
+        };
+        if seen(s, p, n, q) {
+            return Skipped::Illegal(p);
+        }
+        n += 1;
+        p = next;
+    }
+    Skipped::To(p)
+}
