@@ -170,6 +170,7 @@ built-is old n cm md s = rw (puts-fit 255 cm md n [] zero-le, zero-add) (⊎-eli
     over : 255 < length n
         → putBuilt old (cond (leb (length n) 255) (st 255 cm n md) full) s ≡ cond (ltb 255 (length n)) full (putFound (lookup (table old) n 0) n s)
     over g = rw (lt-leb _ _ g, lt-ltb _ _ g)
+
     fits : length n ≤ 255
         → putBuilt old (cond (leb (length n) 255) (st 255 cm n md) full) s ≡ cond (ltb 255 (length n)) full (putFound (lookup (table old) n 0) n s)
     fits g = rw (le-leb _ _ g, le-ltb _ _ g)

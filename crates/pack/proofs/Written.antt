@@ -114,8 +114,8 @@ one-reach olds (raw xs) co cm bs ns h g = puts-reach co cm bs xs ns h g
 one-reach olds (nm n) co cm bs ns h g = ⊎-elim
     (λ (o : 255 < length n). inr (inl (lt-leb _ _ o), sym (name-long (enc olds) n (st co cm bs (enc ns)) o)))
     (λ (o : length n ≤ 255).
-      let e : lookup olds n 0 ≡ lookup (table (enc olds)) n 0 = rw (table-enc olds) in
-      rw (le-leb _ _ o, ← name-found (enc olds) n (st co cm bs (enc ns)) (lookup olds n 0) o e) (putFound-reach (lookup olds n 0) co cm bs n ns h g))
+    let e : lookup olds n 0 ≡ lookup (table (enc olds)) n 0 = rw (table-enc olds) in
+    rw (le-leb _ _ o, ← name-found (enc olds) n (st co cm bs (enc ns)) (lookup olds n 0) o e) (putFound-reach (lookup olds n 0) co cm bs n ns h g))
     (lt-or-le 255 (length n))
 
 -- names only grow
@@ -189,11 +189,10 @@ and-right false b p = refl
 -- what follows one item
 then-reach : (s s′ : State) (co cm : ℕ) (bs b₁ b₂ : List ℕ) (t u : Bool) (ns : List Name) → t ≡ true → s′ ≡ s
     → Reached s co cm (bs ++ b₁) u b₂ ns → Reached s′ co cm bs (t && u) (b₁ ++ b₂) ns
-then-reach s s′ co cm bs b₁ b₂ t u ns p e (inl (o, q)) = inl
-    (
-      (rw (p, o .0), omega (arith, o .1, length-append bs b₁, length-append b₁ b₂), o .2),
-      e ∙ q ∙ ap (λ (l : List ℕ). st co cm l (enc ns)) (append-assoc bs b₁ b₂),
-    )
+then-reach s s′ co cm bs b₁ b₂ t u ns p e (inl (o, q)) = inl (
+  (rw (p, o .0), omega (arith, o .1, length-append bs b₁, length-append b₁ b₂), o .2),
+  e ∙ q ∙ ap (λ (l : List ℕ). st co cm l (enc ns)) (append-assoc bs b₁ b₂),
+)
 then-reach s s′ co cm bs b₁ b₂ t u ns p e (inr (inl o, q)) = inr (inl (and-right t u o), e ∙ q)
 then-reach s s′ co cm bs b₁ b₂ t u ns p e (inr (inr (inl o), q)) = inr (inr (inl (omega (arith, length-append bs b₁, length-append b₁ b₂))), e ∙ q)
 then-reach s s′ co cm bs b₁ b₂ t u ns p e (inr (inr (inr o), q)) = inr (inr (inr o), e ∙ q)
@@ -216,11 +215,11 @@ all-reach olds (i ∷ is) co cm bs ns h g =
     let c = bytesOf (spell olds is ms) in
     rw (spell-bytes olds i is ns, spell-names olds i is ns)
     (⊎-elim
-      (λ o. then-reach _ _ co cm bs b c (short i) (shorts is) _ (o .0 .0) (ap (render (enc olds) is) (o .1))
-        (all-reach olds is co cm (bs ++ b) ms (omega (arith, o .0 .1, length-append bs b)) (o .0 .2)))
-      (λ o. over-reach _ co cm bs b c (short i) (shorts is) ms _ (ap (render (enc olds) is) (o .1) ∙ render-full (enc olds) is)
-        (spell-grows olds is ms) (o .0))
-      (one-reach olds i co cm bs ns h g))
+    (λ o. then-reach _ _ co cm bs b c (short i) (shorts is) _ (o .0 .0) (ap (render (enc olds) is) (o .1))
+    (all-reach olds is co cm (bs ++ b) ms (omega (arith, o .0 .1, length-append bs b)) (o .0 .2)))
+    (λ o. over-reach _ co cm bs b c (short i) (shorts is) ms _ (ap (render (enc olds) is) (o .1) ∙ render-full (enc olds) is)
+    (spell-grows olds is ms) (o .0))
+    (one-reach olds i co cm bs ns h g))
 
 -- from empty buffers: exactly what is spelt, or full and too large
 pub spelt-reach : (olds : List Name) (is : List Item)

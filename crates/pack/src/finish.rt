@@ -1,6 +1,7 @@
 // The last step of both lowerings: what the writer reached becomes a pack in the caller's buffer, where it fits.
 use crate::intern::count_names;
-use wire::writer::{capped, Writer};
+use wire::writer::Writer;
+use wire::writer::capped;
 ghost use mathlib.Core.Path.{_≡_};
 ghost use mathlib.Core.List.{List, _++_};
 ghost use Prim.Native.Nat.{ℕ, _+_, _≤_, min};
@@ -58,14 +59,23 @@ fn copy_out(old: &[u8], made: &[u8], body: &[u8], out: &mut [u8]) -> Outcome
 {
     let n = size(old, made, body);
     if 65536 < n {
-        return Outcome { number: 8, value: 0 };
+        return Outcome {
+            number: 8,
+            value: 0,
+        };
     }
     if out.len() < n {
-        return Outcome { number: 9, value: n as u64 };
+        return Outcome {
+            number: 9,
+            value: n as u64,
+        };
     }
     let count = count_names(old) + count_names(made);
     join(count, old, made, body, out);
-    Outcome { number: 0, value: n as u64 }
+    Outcome {
+        number: 0,
+        value: n as u64,
+    }
 }
 
 // What the writer w reached after the old names: new names in `made`, the rest in `body`.
@@ -74,7 +84,10 @@ pub fn finish(old: &[u8], made: &[u8], body: &[u8], w: Writer, out: &mut [u8]) -
 {
     let full = w.full;
     if full {
-        return Outcome { number: 8, value: 0 };
+        return Outcome {
+            number: 8,
+            value: 0,
+        };
     }
     let m = capped(made.len(), 0, w.made);
     let n = capped(body.len(), 0, w.at);

@@ -1,5 +1,11 @@
 // Names by number: the old names of a pack, then new ones in order of first use. A table is names, each after its length byte.
-use wire::writer::{capped, put_byte, put_bytes, put_u16, stopped, turned, Writer};
+use wire::writer::Writer;
+use wire::writer::capped;
+use wire::writer::put_byte;
+use wire::writer::put_bytes;
+use wire::writer::put_u16;
+use wire::writer::stopped;
+use wire::writer::turned;
 ghost use mathlib.Core.Path.{_≡_};
 ghost use mathlib.Core.List.{List, []};
 ghost use Prim.Native.Nat.{ℕ, _+_, _≤_, _<_, _^_, min};
@@ -112,7 +118,14 @@ pub fn put_name(old: &[u8], n: &[u8], out: &mut [u8], made: &mut [u8], w: Writer
 }
 
 // A made name, which stands in a buffer of its own at the writer v.
-pub fn put_built(old: &[u8], buf: &[u8], v: Writer, out: &mut [u8], made: &mut [u8], w: Writer) -> Writer
+pub fn put_built(
+    old: &[u8],
+    buf: &[u8],
+    v: Writer,
+    out: &mut [u8],
+    made: &mut [u8],
+    w: Writer,
+) -> Writer
     ensures { λ r. ⌜ stateOf (now (out .exit)) (now (made .exit)) r ≡ putBuilt (now (old .entry)) (stateOf (now (buf .entry)) [] v) (stateOf (now (out .entry)) (now (made .entry)) w) ⌝ }
 {
     let full = v.full;

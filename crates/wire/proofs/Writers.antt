@@ -95,19 +95,19 @@ module _ (buf xs : List ℕ) (v : Writer) (e : stateOf buf [] v ≡ puts xs (st 
   text-over f = ⊎-elim
       (λ (o : length buf < length xs). o)
       (λ (o : length xs ≤ length buf).
-        let g : full ≡ st (length buf) 0 xs [] = rw (f, le-leb _ _ o) at text-fit in
-        absurd (let z : _≡_ {A = ℕ} 0 1 = cc in omega arith))
+      let g : full ≡ st (length buf) 0 xs [] = rw (f, le-leb _ _ o) at text-fit in
+      absurd (let z : _≡_ {A = ℕ} 0 1 = cc in omega arith))
       (lt-or-le (length buf) (length xs))
 
   pub text-is : v .full ≡ false → (take (v .at) buf ≡ xs) × (length xs ≤ length buf)
   unfolding stateOf
   text-is f = ⊎-elim
       (λ (o : length buf < length xs).
-        let g : st (length buf) 0 (take (v .at) buf) (take (v .made) []) ≡ full = rw (f, lt-leb _ _ o) at text-fit in
-        absurd (let z : _≡_ {A = ℕ} 0 1 = cc in omega arith))
+      let g : st (length buf) 0 (take (v .at) buf) (take (v .made) []) ≡ full = rw (f, lt-leb _ _ o) at text-fit in
+      absurd (let z : _≡_ {A = ℕ} 0 1 = cc in omega arith))
       (λ (o : length xs ≤ length buf).
-        let g : st (length buf) 0 (take (v .at) buf) (take (v .made) []) ≡ st (length buf) 0 xs [] = rw (f, le-leb _ _ o) at text-fit in
-        (cc, o))
+      let g : st (length buf) 0 (take (v .at) buf) (take (v .made) []) ≡ st (length buf) 0 xs [] = rw (f, le-leb _ _ o) at text-fit in
+      (cc, o))
       (lt-or-le (length buf) (length xs))
 
 -- the exchange of the two places

@@ -33,8 +33,7 @@ loop-less c = omega arith
 
 loop-again : tie.Need-loop-again Inv-loop μ-loop
 loop-again c =
-    let d = c .before .before in
-    (
+    let d = c .before .before in (
       omega arith,
       paste-turn _ _ _ _ _ _ (d .loop .inv .0) (d .loop .inv .1) (omega arith) (c .before .loop-test .taken),
       omega arith,

@@ -50,7 +50,7 @@ returns-3 c =
     let body = a .body .now in
     let small = c .before .before .before .before .before .before .before .if1 .left in
     let count : c .before .before .before .before .before .count-names .result + c .before .before .before .before .count-names2 .result ≡ length (table old) + length (table made) =
-        omega (arith, c .before .before .before .before .before .count-names .ensures, c .before .before .before .before .count-names2 .ensures) in
+    omega (arith, c .before .before .before .before .before .count-names .ensures, c .before .before .before .before .count-names2 .ensures) in
     gives-writes _ (packOf old made body) _ (a .out .now) _
     (sized-fits old made body (length (a .out .now)) _ (s .size .ensures) small (c .before .before .before .before .before .before .if2 .left))
     (sized-value old made body 0 _ (s .size .ensures) small)

@@ -29,8 +29,7 @@ loop-less c = omega arith
 
 loop-again : tie.Need-loop-again Inv-loop μ-loop
 loop-again c =
-    let d = c .before .before in
-    (
+    let d = c .before .before in (
       omega arith,
       omega arith,
       count-turn (d .before .before .args .t .now) _ _ _ (c .before .loop-test .taken) (d .loop .inv .1) (c .name-end .ensures) ∙ d .loop .inv .2,

@@ -43,7 +43,7 @@ returns c =
     let d = c .before .before .before .before .before in
     let a = d .before .before .before .args in
     sym (found-here (a .t .now) (a .n .now) _ _ _ (c .before .before .before .before .loop-test .taken) (d .loop .inv .1) (c .before .before .before .name-end .ensures) (sym (c .before .same .ensures) ∙ c .if1 .taken))
-        ∙ d .loop .inv .2
+    ∙ d .loop .inv .2
 
 add-k : tie.Need-add-k Inv-loop μ-loop
 add-k c = omega arith
@@ -54,12 +54,11 @@ loop-less c = omega arith
 loop-again : tie.Need-loop-again Inv-loop μ-loop
 loop-again c =
     let d = c .before .before .before .before .before in
-    let a = d .before .before .before .args in
-    (
+    let a = d .before .before .before .args in (
       omega arith,
       omega arith,
       sym (found-past (a .t .now) (a .n .now) _ _ _ (c .before .before .before .before .loop-test .taken) (d .loop .inv .1) (c .before .before .before .name-end .ensures) (sym (c .before .same .ensures) ∙ c .if1 .left))
-        ∙ d .loop .inv .2,
+          ∙ d .loop .inv .2,
     )
 
 returns-2 : tie.Need-returns-2 Inv-loop μ-loop

@@ -27,9 +27,9 @@ returns : tie.Need-returns
 returns c o =
     let d = c .before .before .before .before .before .before .before in
     c .turned2 .ensures _ o
-        ∙ ap swapped (c .before .before .before .put-bytes .ensures o
-        ∙ ap (puts _) (d .put-byte .ensures o ∙ ap (put _) (d .before .turned .ensures o _)))
-        ∙ entry-steps _ _
+    ∙ ap swapped (c .before .before .before .put-bytes .ensures o
+    ∙ ap (puts _) (d .put-byte .ensures o ∙ ap (put _) (d .before .turned .ensures o _)))
+    ∙ entry-steps _ _
 
 pub put-entry-spec : {M : Type 1} → statement M
 put-entry-spec =

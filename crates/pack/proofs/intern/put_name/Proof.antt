@@ -39,7 +39,7 @@ unfolding putFound foundOf
 returns-2 c =
     let d = c .before .before .before .before .before in
     c .before .before .put-u16 .ensures _
-        ∙ name-found _ _ _ (At _) (d .before .before .before .if1 .left) (ap foundOf (sym (d .f .given .1)) ∙ d .before .before .find-name .ensures)
+    ∙ name-found _ _ _ (At _) (d .before .before .before .if1 .left) (ap foundOf (sym (d .f .given .1)) ∙ d .before .before .find-name .ensures)
 
 same-length-2 : tie.Need-same-length-2
 same-length-2 c = search needs
@@ -52,7 +52,7 @@ unfolding putFound foundOf
 returns-3 c =
     let d = c .before .before .before .before .before .before .before .before in
     c .before .before .before .before .put-new .ensures
-        ∙ name-found _ _ _ (Missing _) (d .before .before .before .if1 .left) (ap foundOf (sym (d .f2 .given .1)) ∙ d .before .before .find-name .ensures)
+    ∙ name-found _ _ _ (Missing _) (d .before .before .before .if1 .left) (ap foundOf (sym (d .f2 .given .1)) ∙ d .before .before .find-name .ensures)
 
 pub put-name-spec : {M : Type 1} → statement M
 put-name-spec =

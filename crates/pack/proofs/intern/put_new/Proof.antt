@@ -61,7 +61,7 @@ unfolding putAdded foundOf
 returns c =
     let d = c .before .before .before .before .before in
     c .before .before .put-u16 .ensures _
-        ∙ putNew-is _ _ _ _ _ _ (At _) (d .before .before .before .before .capped .ensures) (ap foundOf (sym (d .f .given .1)) ∙ d .before .before .find-name .ensures)
+    ∙ putNew-is _ _ _ _ _ _ (At _) (d .before .before .before .before .capped .ensures) (ap foundOf (sym (d .f .given .1)) ∙ d .before .before .find-name .ensures)
 
 same-length-3 : tie.Need-same-length-3
 same-length-3 c = search needs
@@ -75,8 +75,8 @@ returns-2 c =
     let d = c .before .before .before .before .before .before in
     let f = d .before .before .before in
     c .before .before .put-u162 .ensures _
-        ∙ ap (puts (two _)) (d .put-entry .ensures _)
-        ∙ putNew-is _ _ _ _ _ _ (Missing _) (f .before .before .before .before .capped .ensures) (ap foundOf (sym (f .f2 .given .1)) ∙ f .before .before .find-name .ensures)
+    ∙ ap (puts (two _)) (d .put-entry .ensures _)
+    ∙ putNew-is _ _ _ _ _ _ (Missing _) (f .before .before .before .before .capped .ensures) (ap foundOf (sym (f .f2 .given .1)) ∙ f .before .before .find-name .ensures)
 
 pub put-new-spec : {M : Type 1} → statement M
 put-new-spec =
