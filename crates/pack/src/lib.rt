@@ -1,4 +1,4 @@
-// The pack format: what a pack is, read and checked.
+// The pack format: what a pack is, read, checked and written.
 pub mod record; // the pack record, with the limits
 pub mod names; // the name section
 pub mod types; // types
@@ -7,3 +7,5 @@ pub mod parts; // ports, equations, transitions
 pub mod charts; // states and regions
 pub mod sections; // the sections after the names
 pub mod check; // the check, and where a pack's sections stand
+pub mod intern; // names by number, new ones added in order of first use
+pub mod finish; // what was written, copied to the caller's buffer

@@ -3,3 +3,4 @@ pub mod Bounds
 pub mod Codes
 pub mod Preorders
 pub mod Steps
+pub mod Writers

@@ -2,3 +2,5 @@ pub mod Answer
 pub mod Preorder
 pub mod Bytes
 pub mod Code
+pub mod Decimal
+pub mod Writer

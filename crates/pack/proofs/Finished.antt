@@ -1,0 +1,86 @@
+-- Laws of the last step: the copy into the caller's buffer, the answer by size, and the answer by what the writer reached.
+use Prim.Native.Nat.{ℕ, _+_, _<_, _≤_, min}
+use native.Mathlib.Numerals.{add-one}
+use native.Mathlib.Omega.{arith}
+use mathlib.Core.Bool.{true, false}
+use mathlib.Core.Path.{_≡_, refl, _∙_}
+use mathlib.Core.List.{List, [], _++_}
+use lib.ListN.{length, take, drop, set, getD, length-append}
+use lib.Seq.{paste, paste-suc, take-length, drop-drop, take-append-seam, drop-append-add}
+use borrow.Author.Tests.{lt-ltb, le-ltb}
+use Rattle.wire.specs.declared.writer.Writer.{Writer}
+use Rattle.wire.specs.Bytes.{two}
+use Rattle.wire.specs.Writer.{stateOf}
+use Rattle.wire.proofs.Writers.{take-part}
+use Rattle.pack.specs.Limits.{maxBytes}
+use Rattle.pack.specs.Intern.{table}
+use Rattle.pack.specs.Outcome.{Outcome, answers, writes, numberOf, valueOf, outputOf, Gives, begins, sized, packOf, answered}
+
+-- one byte more of a copy
+pub paste-turn : (d s e : List ℕ) (at j o : ℕ) → o ≡ at + j → e ≡ paste d at s j → at + j < length d → j < length s
+    → set e o (getD s j 0) ≡ paste d at s (j + 1)
+paste-turn d s e at j o p q h g = rw (p, q, add-one) (paste-suc d at s j 0 h g)
+
+paste-seam : (p s x : List ℕ) → paste (p ++ drop (length p) x) (length p) s (length s) ≡ p ++ s ++ drop (length (p ++ s)) x
+paste-seam p s x = rw (take-append-seam, take-length, drop-append-add, drop-drop, length-append)
+
+-- a whole copy after what stands there
+pub paste-begins : (d s e p x : List ℕ) (at j : ℕ) → j ≡ length s → e ≡ paste d at s j → length p ≡ at → d ≡ begins p x → e ≡ begins (p ++ s) x
+unfolding begins
+paste-begins d s e p x at j e₁ e₂ e₃ e₄ = e₂ ∙ rw (e₁, e₄, ← e₃) (paste-seam p s x)
+
+pub begins-none : (d : List ℕ) → d ≡ begins [] d
+unfolding begins
+begins-none d = refl
+
+-- the answer by size: k is the pack's length, or 65537 where that is less
+module _ (a b c : List ℕ) (room k : ℕ) (size : k ≡ min (2 + length a + length b + length c) 65537) where
+  whole-length : length (packOf a b c) ≡ 2 + length a + length b + length c
+  unfolding packOf two
+  whole-length = simp length-append (omega arith)
+
+  pub sized-large : 65536 < k → sized room (packOf a b c) ≡ answers 8 0
+  unfolding sized maxBytes
+  sized-large h = rw (lt-ltb 65536 (length (packOf a b c)) (omega (arith, whole-length)))
+
+  pub sized-short : k ≤ 65536 → room < k → sized room (packOf a b c) ≡ answers 9 k
+  unfolding sized maxBytes
+  sized-short h g =
+      let e : length (packOf a b c) ≡ k = omega (arith, whole-length) in
+      rw (e, le-ltb 65536 k h, lt-ltb room k g)
+
+  pub sized-fits : k ≤ 65536 → k ≤ room → sized room (packOf a b c) ≡ writes (packOf a b c)
+  unfolding sized maxBytes
+  sized-fits h g =
+      let e : length (packOf a b c) ≡ k = omega (arith, whole-length) in
+      rw (e, le-ltb 65536 k h, le-ltb room k g)
+
+  pub sized-value : k ≤ 65536 → k ≡ length (packOf a b c)
+  sized-value h = omega (arith, whole-length)
+
+pub packOf-is : (a b c : List ℕ) (n : ℕ) → n ≡ length (table a) + length (table b) → two n ++ (a ++ (b ++ c)) ≡ packOf a b c
+unfolding packOf
+packOf-is a b c n e = rw e
+
+-- an answer's three parts
+pub gives-answers : (x : Outcome) (n v : ℕ) (d : List ℕ) → x ≡ answers n v → Gives x n v d d
+unfolding numberOf valueOf outputOf
+gives-answers x n v d e = record { number-is = rw e; value-is = rw e; output-is = rw e }
+
+pub gives-writes : (x : Outcome) (b : List ℕ) (v : ℕ) (d e : List ℕ) → x ≡ writes b → v ≡ length b → e ≡ begins b d → Gives x 0 v d e
+unfolding numberOf valueOf outputOf
+gives-writes x b v d e p q r = record { number-is = rw p; value-is = rw p q; output-is = rw p r }
+
+-- by what the writer reached
+pub answered-full : (room : ℕ) (old out made : List ℕ) (w : Writer) → w .full ≡ true → answered room old (stateOf out made w) ≡ answers 8 0
+unfolding answered stateOf
+answered-full room old out made w e = rw e
+
+pub answered-part : (room : ℕ) (old out made : List ℕ) (w : Writer) (m n : ℕ) → w .full ≡ false → m ≡ min (0 + w .made) (length made)
+    → n ≡ min (0 + w .at) (length out) → sized room (packOf old (take m made) (take n out)) ≡ answered room old (stateOf out made w)
+unfolding answered stateOf
+answered-part room old out made w m n e p q = rw (e, take-part made (w .made) m p, take-part out (w .at) n q)
+
+-- the parts of an answer, carried to another name of it
+pub carried : (x y : Outcome) (n v : ℕ) (d e : List ℕ) → x ≡ y → Gives x n v d e → Gives y n v d e
+carried x y n v d e p g = rw p at g

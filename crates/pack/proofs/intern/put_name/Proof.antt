@@ -1,0 +1,72 @@
+use native.Mathlib.Omega.{arith}
+use mathlib.Core.Path.{_∙_, ap, sym}
+use Rattle.pack.specs.Write.{At, Missing}
+use Rattle.pack.specs.Intern.{putFound, foundOf}
+use Rattle.pack.proofs.Interns.{found-number, name-long, name-found}
+use borrow.Author.Needs.{needs}
+use Rattle.pack.proofs.intern.put_name.Statement.{statement}
+use Rattle.pack.proofs.intern.put_name.Tie as tie
+
+stopped-requires : tie.Need-stopped-requires
+stopped-requires c κs = search needs
+
+returns : tie.Need-returns
+returns c = c .stopped .ensures _ _ ∙ name-long _ _ _ (c .before .if1 .taken)
+
+find-name-requires : tie.Need-find-name-requires
+find-name-requires c κs = search needs
+
+enum-known-f : tie.Need-enum-known-f
+enum-known-f c = search needs
+
+put-u16-requires : tie.Need-put-u16-requires
+put-u16-requires c κs = search needs
+
+enum-known-f-2 : tie.Need-enum-known-f-2
+enum-known-f-2 c = search needs
+
+put-new-requires : tie.Need-put-new-requires
+unfolding foundOf
+put-new-requires c κs =
+    let d = c .before .before .before in
+    (omega arith, omega (arith, found-number _ _ (Missing _) (ap foundOf (sym (d .f2 .given .1)) ∙ d .before .before .find-name .ensures)))
+
+same-length : tie.Need-same-length
+same-length c = search needs
+
+returns-2 : tie.Need-returns-2
+unfolding putFound foundOf
+returns-2 c =
+    let d = c .before .before .before .before .before in
+    c .before .before .put-u16 .ensures _
+    ∙ name-found _ _ _ (At _) (d .before .before .before .if1 .left) (ap foundOf (sym (d .f .given .1)) ∙ d .before .before .find-name .ensures)
+
+same-length-2 : tie.Need-same-length-2
+same-length-2 c = search needs
+
+same-length-3 : tie.Need-same-length-3
+same-length-3 c = search needs
+
+returns-3 : tie.Need-returns-3
+unfolding putFound foundOf
+returns-3 c =
+    let d = c .before .before .before .before .before .before .before .before in
+    c .before .before .before .before .put-new .ensures
+    ∙ name-found _ _ _ (Missing _) (d .before .before .before .if1 .left) (ap foundOf (sym (d .f2 .given .1)) ∙ d .before .before .find-name .ensures)
+
+pub put-name-spec : {M : Type 1} → statement M
+put-name-spec =
+    tie.close
+    (tie.spec
+    stopped-requires
+    returns
+    find-name-requires
+    enum-known-f
+    put-u16-requires
+    enum-known-f-2
+    put-new-requires
+    same-length
+    returns-2
+    same-length-2
+    same-length-3
+    returns-3)

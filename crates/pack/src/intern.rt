@@ -1,0 +1,132 @@
+// Names by number: the old names of a pack, then new ones in order of first use. A table is names, each after its length byte.
+use crate::record::Pack;
+use wire::writer::{capped, put_byte, put_bytes, put_u16, stopped, turned, Writer};
+ghost use mathlib.Core.Path.{_≡_};
+ghost use mathlib.Core.List.{List, []};
+ghost use Prim.Native.Nat.{ℕ, _+_, _≤_, _<_, _^_, min};
+ghost use lib.ListN.{length, getD};
+ghost use Rattle.wire.specs.Writer.{stateOf};
+ghost use Rattle.pack.specs.Names.{eqName};
+ghost use Rattle.pack.specs.Write.{lookup};
+ghost use Rattle.pack.specs.Intern.{foundOf, table, putEntry, putNew, putName, putBuilt};
+
+// A name's number in a table; where it is missing, how many names there are.
+pub enum Found {
+    At(usize),
+    Missing(usize),
+}
+
+// Whether a and b hold the same bytes.
+pub fn same(a: &[u8], b: &[u8]) -> bool
+    ensures { λ r. ⌜ r ≡ eqName (now (a .entry)) (now (b .entry)) ⌝ }
+{
+    if a.len() != b.len() {
+        return false;
+    }
+    let mut i = 0;
+    while i < a.len() {
+        if a[i] != b[i] {
+            return false;
+        }
+        i += 1;
+    }
+    true
+}
+
+// Where the name ends whose length byte stands at `at`.
+fn name_end(t: &[u8], at: usize) -> usize
+    requires { ⌜ at < length (now t) ⌝ }
+    ensures { λ r. ⌜ r ≡ min (at + 1 + getD (now (t .entry)) at 0) (length (now (t .entry))) ⌝ }
+{
+    let l = t[at] as usize;
+    capped(t.len(), at + 1, l)
+}
+
+// The place of the name n in a table.
+pub fn find_name(t: &[u8], n: &[u8]) -> Found
+    ensures { λ r. ⌜ foundOf r ≡ lookup (table (now (t .entry))) (now (n .entry)) 0 ⌝ }
+{
+    let mut at = 0;
+    let mut k = 0;
+    while at < t.len() {
+        let b = at + 1;
+        let e = name_end(t, at);
+        if same(&t[b..e], n) {
+            return Found::At(k);
+        }
+        at = e;
+        k += 1;
+    }
+    Found::Missing(k)
+}
+
+// How many names a table has.
+pub fn count_names(t: &[u8]) -> usize
+    ensures { λ r. ⌜ r ≡ length (table (now (t .entry))) ⌝ }
+{
+    let mut at = 0;
+    let mut k = 0;
+    while at < t.len() {
+        at = name_end(t, at);
+        k += 1;
+    }
+    k
+}
+
+// A name more in the table of new names, after its length byte.
+fn put_entry(n: &[u8], made: &mut [u8], w: Writer) -> Writer
+    requires { ⌜ length (now n) ≤ 255 ⌝ }
+    ensures { λ r. ⌜ ((o : List ℕ) → stateOf o (now (made .exit)) r ≡ putEntry (now (n .entry)) (stateOf o (now (made .entry)) w)) ⌝ }
+{
+    let a = put_byte(made, turned(w), n.len() as u8);
+    turned(put_bytes(n, made, a))
+}
+
+// The number of a name that is not among the `old` old ones: found among the new ones, or added there.
+fn put_new(old: usize, n: &[u8], out: &mut [u8], made: &mut [u8], w: Writer) -> Writer
+    requires { ⌜ (length (now n) ≤ 255) × (old < 2 ^ 63) ⌝ }
+    ensures { λ r. ⌜ stateOf (now (out .exit)) (now (made .exit)) r ≡ putNew old (now (n .entry)) (stateOf (now (out .entry)) (now (made .entry)) w) ⌝ }
+{
+    let end = capped(made.len(), 0, w.made);
+    let f = find_name(&made[..end], n);
+    match f {
+        Found::At(k) => put_u16(out, w, old + k),
+        Found::Missing(k) => {
+            let v = put_entry(n, made, w);
+            put_u16(out, v, old + k)
+        }
+    }
+}
+
+// A name: its number among the old names and the new ones, where it is added if it is neither.
+pub fn put_name(old: &[u8], n: &[u8], out: &mut [u8], made: &mut [u8], w: Writer) -> Writer
+    ensures { λ r. ⌜ stateOf (now (out .exit)) (now (made .exit)) r ≡ putName (now (old .entry)) (now (n .entry)) (stateOf (now (out .entry)) (now (made .entry)) w) ⌝ }
+{
+    if Pack::NAME < n.len() {
+        return stopped(w);
+    }
+    let f = find_name(old, n);
+    match f {
+        Found::At(k) => put_u16(out, w, k),
+        Found::Missing(k) => put_new(k, n, out, made, w),
+    }
+}
+
+// A made name, which stands in a buffer of its own at the writer v.
+pub fn put_built(
+    old: &[u8],
+    buf: &[u8],
+    v: Writer,
+    out: &mut [u8],
+    made: &mut [u8],
+    w: Writer,
+) -> Writer
+    ensures { λ r. ⌜ stateOf (now (out .exit)) (now (made .exit)) r ≡ putBuilt (now (old .entry)) (stateOf (now (buf .entry)) [] v) (stateOf (now (out .entry)) (now (made .entry)) w) ⌝ }
+{
+    let full = v.full;
+    if full {
+        return stopped(w);
+    }
+    let end = capped(buf.len(), 0, v.at);
+    put_name(old, &buf[..end], out, made, w)
+}
