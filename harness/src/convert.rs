@@ -216,9 +216,9 @@ impl To<'_> {
             Tok::Index => RExpr::Index { base: boxed(), index: boxed() },
             Tok::Tuple(k) => RExpr::Tuple { items: (0..*k).map(|_| next()).collect() },
             Tok::Array(k) => RExpr::Array { items: (0..*k).map(|_| next()).collect() },
-            Tok::Struct(n, fields) => RExpr::Struct {
-                ty: self.name(*n),
-                fields: fields.iter().map(|f| FieldInit { field: self.name(*f), value: next() }).collect(),
+            Tok::Struct(s) => RExpr::Struct {
+                ty: self.name(s.0),
+                fields: s.1.iter().map(|f| FieldInit { field: self.name(*f), value: next() }).collect(),
             },
             Tok::Cast(t) => RExpr::Cast { to: self.ty(t), arg: boxed() },
             Tok::When(n, on) => RExpr::When { arg: boxed(), clock: self.name(*n), on: *on },
@@ -366,7 +366,7 @@ impl From {
             RExpr::Array { items } => Tok::Array(items.len() as u16),
             RExpr::Struct { ty, fields } => {
                 let ty = self.name(ty);
-                Tok::Struct(ty, fields.iter().map(|f| self.name(&f.field)).collect())
+                Tok::Struct(Box::new((ty, fields.iter().map(|f| self.name(&f.field)).collect())))
             }
             RExpr::Cast { to, .. } => Tok::Cast(Box::new(self.ty(to))),
             RExpr::When { clock, on, .. } => Tok::When(self.name(clock), *on),

@@ -5,48 +5,35 @@ use std::collections::HashSet;
 use std::hash::{BuildHasherDefault, Hasher};
 
 /// Why a pack is refused: the returned number (1 to 5) and its value.
-#[derive(Debug, Clone, Copy)]
+#[derive(Debug, Clone, Copy, PartialEq)]
 pub struct Refusal {
     pub number: u32,
     pub value: u32,
-    /// What was being read; for people, and for choosing telling samples.
-    pub what: &'static str,
-}
-
-impl PartialEq for Refusal {
-    fn eq(&self, other: &Refusal) -> bool {
-        (self.number, self.value) == (other.number, other.value)
-    }
 }
 
 type Read<T> = Result<T, Refusal>;
 
 pub fn decode(pack: &[u8]) -> Read<Package> {
-    if pack.len() > MAX_PACK {
-        return Err(Refusal { number: 1, value: MAX_PACK as u32, what: "length" });
-    }
-    let mut r = Reader { pack, at: 0, names: 0, toks: Vec::new() };
-    let names = r.name_section()?;
-    r.names = names.len();
-    let enums = r.list(Reader::enumeration)?;
-    let nodes = r.list(Reader::node)?;
-    let machines = r.list(Reader::machine)?;
-    let activations = r.list(Reader::activation)?;
-    let origins = r.list(Reader::origin)?;
-    if r.at < pack.len() {
-        return Err(refuse(5, r.at, "after origins"));
-    }
-    let old = names.len();
-    Ok(Package { names, old, toks: r.toks, enums, nodes, machines, activations, origins })
+    Reader::new(pack).package()
 }
 
-fn refuse(number: u32, value: usize, what: &'static str) -> Refusal {
-    Refusal { number, value: value as u32, what }
+/// What was being read when the pack was refused; for choosing telling samples.
+pub fn refused_at(pack: &[u8]) -> Option<(Refusal, &'static str)> {
+    let mut r = Reader::new(pack);
+    let refusal = r.package().err()?;
+    Some((refusal, r.what))
 }
 
-pub fn is_name_byte(b: u8) -> bool {
-    b.is_ascii_alphanumeric() || b == b'_'
-}
+/// Letters, digits and underscore.
+const NAME_BYTE: [bool; 256] = {
+    let mut table = [false; 256];
+    let mut b = 0;
+    while b < 256 {
+        table[b] = (b as u8).is_ascii_alphanumeric() || b as u8 == b'_';
+        b += 1;
+    }
+    table
+};
 
 struct Reader<'a> {
     pack: &'a [u8],
@@ -54,16 +41,48 @@ struct Reader<'a> {
     /// How many names there are: what an index must stay below.
     names: usize,
     toks: Vec<Tok>,
+    /// What was being read, once the pack is refused.
+    what: &'static str,
 }
 
 impl<'a> Reader<'a> {
+    fn new(pack: &'a [u8]) -> Self {
+        Reader { pack, at: 0, names: 0, toks: Vec::with_capacity(pack.len().min(MAX_PACK) / 4), what: "" }
+    }
+
+    fn package(&mut self) -> Read<Package> {
+        if self.pack.len() > MAX_PACK {
+            return Err(self.refuse(1, MAX_PACK, "length"));
+        }
+        let names = self.name_section()?;
+        self.names = names.len();
+        let enums = self.list(Reader::enumeration)?;
+        let nodes = self.list(Reader::node)?;
+        let machines = self.list(Reader::machine)?;
+        let activations = self.list(Reader::activation)?;
+        let origins = self.list(Reader::origin)?;
+        if self.at < self.pack.len() {
+            return Err(self.refuse(5, self.at, "after origins"));
+        }
+        let (old, toks) = (names.len(), std::mem::take(&mut self.toks));
+        Ok(Package { names, old, toks, enums, nodes, machines, activations, origins })
+    }
+
+    /// Out of the way of reading that succeeds.
+    #[cold]
+    fn refuse(&mut self, number: u32, value: usize, what: &'static str) -> Refusal {
+        self.what = what;
+        Refusal { number, value: value as u32 }
+    }
+
+    #[inline]
     fn take<const N: usize>(&mut self, what: &'static str) -> Read<[u8; N]> {
         match self.pack[self.at..].first_chunk::<N>() {
             Some(bytes) => {
                 self.at += N;
                 Ok(*bytes)
             }
-            None => Err(refuse(2, self.pack.len(), what)),
+            None => Err(self.refuse(2, self.pack.len(), what)),
         }
     }
 
@@ -81,7 +100,7 @@ impl<'a> Reader<'a> {
         if b < end {
             Ok(b)
         } else {
-            Err(refuse(3, self.at - 1, what))
+            Err(self.refuse(3, self.at - 1, what))
         }
     }
 
@@ -94,7 +113,7 @@ impl<'a> Reader<'a> {
         if (index as usize) < self.names {
             Ok(index as Name)
         } else {
-            Err(refuse(3, self.at - 2, what))
+            Err(self.refuse(3, self.at - 2, what))
         }
     }
 
@@ -105,7 +124,7 @@ impl<'a> Reader<'a> {
         } else if (index as usize) < self.names {
             Ok(Some(index as Name))
         } else {
-            Err(refuse(3, self.at - 2, what))
+            Err(self.refuse(3, self.at - 2, what))
         }
     }
 
@@ -134,7 +153,7 @@ impl<'a> Reader<'a> {
             let at = self.at;
             let bytes = self.new_name()?;
             if !seen.insert(bytes) {
-                return Err(refuse(3, at, "repeated name"));
+                return Err(self.refuse(3, at, "repeated name"));
             }
             names.push(bytes);
         }
@@ -144,15 +163,17 @@ impl<'a> Reader<'a> {
     fn new_name(&mut self) -> Read<&'a [u8]> {
         let len = self.byte("name length")? as usize;
         if len == 0 {
-            return Err(refuse(3, self.at - 1, "name length"));
+            return Err(self.refuse(3, self.at - 1, "name length"));
         }
         let rest = &self.pack[self.at..];
         let there = &rest[..len.min(rest.len())];
-        if let Some(bad) = there.iter().position(|&b| !is_name_byte(b)) {
-            return Err(refuse(3, self.at + bad, "character"));
+        // Without a stop in the middle the test is quicker; where it fails is sought after.
+        if !there.iter().fold(true, |good, &b| good & NAME_BYTE[b as usize]) {
+            let bad = there.iter().position(|&b| !NAME_BYTE[b as usize]).unwrap();
+            return Err(self.refuse(3, self.at + bad, "character"));
         }
         if there.len() < len {
-            return Err(refuse(2, self.pack.len(), "character"));
+            return Err(self.refuse(2, self.pack.len(), "character"));
         }
         self.at += len;
         Ok(there)
@@ -210,7 +231,7 @@ impl<'a> Reader<'a> {
 
     fn region(&mut self, level: usize) -> Read<Region> {
         if level > MAX_LEVEL {
-            return Err(refuse(4, self.at, "level"));
+            return Err(self.refuse(4, self.at, "level"));
         }
         Ok(Region {
             initial: self.name("region initial")?,
@@ -290,7 +311,7 @@ impl<'a> Reader<'a> {
             9 => Tok::Index,
             10 => Tok::Tuple(self.number("count")?),
             11 => Tok::Array(self.number("count")?),
-            12 => Tok::Struct(self.name("struct type")?, self.names("struct field")?.into()),
+            12 => Tok::Struct(Box::new((self.name("struct type")?, self.names("struct field")?))),
             13 => Tok::Cast(Box::new(self.ty()?)),
             14 => Tok::When(self.name("clock")?, self.flag("clock flag")?),
             15 => Tok::Merge(self.name("clock")?),
@@ -324,11 +345,18 @@ impl NameHasher {
 }
 
 impl Hasher for NameHasher {
+    /// The last eight bytes may overlap those before: cheaper than a partial word.
     fn write(&mut self, bytes: &[u8]) {
-        for chunk in bytes.chunks(8) {
-            let mut word = [0; 8];
-            word[..chunk.len()].copy_from_slice(chunk);
-            self.add(u64::from_le_bytes(word));
+        let word = |at: usize| u64::from_le_bytes(*bytes[at..].first_chunk().unwrap());
+        let half = |at: usize| u32::from_le_bytes(*bytes[at..].first_chunk().unwrap()) as u64;
+        match bytes.len() {
+            0 => {}
+            n @ 1..=3 => self.add(bytes[0] as u64 | (bytes[n / 2] as u64) << 8 | (bytes[n - 1] as u64) << 16),
+            n @ 4..=7 => self.add(half(0) | half(n - 4) << 32),
+            n => {
+                (0..n - 8).step_by(8).for_each(|at| self.add(word(at)));
+                self.add(word(n - 8));
+            }
         }
     }
 

@@ -240,9 +240,9 @@ impl<'a> Body<'a> {
                 self.count(*args as usize);
             }
             Tok::Tuple(n) | Tok::Array(n) => self.count(*n as usize),
-            Tok::Struct(n, fields) => {
-                self.name(*n);
-                self.names(fields);
+            Tok::Struct(s) => {
+                self.name(s.0);
+                self.names(&s.1);
             }
             Tok::Cast(t) => self.ty(t),
             Tok::When(n, on) => {

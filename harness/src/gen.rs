@@ -144,7 +144,7 @@ impl Gen<'_> {
 
     /// Fixes the names that sections refer to before any section is made.
     fn plan(&mut self) {
-        for i in 0..self.some(2, 4, 12) {
+        for i in 0..self.some(3, 4, 12) {
             let name = match self.rng.below(8) {
                 0 => "last".to_string(),
                 1 => "M0".to_string(),
@@ -153,7 +153,7 @@ impl Gen<'_> {
             let n = self.b.name(&name);
             self.nodes.push(n);
         }
-        for i in 0..self.some(2, 4, 10) {
+        for i in 0..self.some(3, 5, 10) {
             let name = match self.rng.below(12) {
                 0 => "M0".to_string(),
                 1 if self.long => long_name(self.rng),
@@ -402,7 +402,7 @@ impl Gen<'_> {
 
     fn branch(&mut self, k: usize, outputs: &[Name], known: &[Name]) -> Branch {
         let name = match self.rng.below(8) {
-            0 if self.wrong() => self.any_name(),
+            0 if self.wrong > 0 => self.b.name("B0"),
             1 if k == 0 => self.b.name("else"),
             _ => self.b.name(&format!("B{k}")),
         };
@@ -510,7 +510,7 @@ impl Gen<'_> {
             0 => Tok::Call(self.any_name(), 0),
             1 => Tok::Tuple(0),
             2 => Tok::Array(0),
-            3 => Tok::Struct(self.any_name(), Box::new([])),
+            3 => Tok::Struct(Box::new((self.any_name(), vec![]))),
             _ => Tok::Iterate { fold: self.rng.chance(1, 2), node: self.any_name(), init: false, arrays: 0 },
         }
     }
@@ -530,7 +530,7 @@ impl Gen<'_> {
             11 => Tok::Array(self.rng.below(4) as u16),
             12 => {
                 let fields = (0..self.rng.below(3)).map(|_| self.any_name()).collect();
-                Tok::Struct(self.any_name(), fields)
+                Tok::Struct(Box::new((self.any_name(), fields)))
             }
             13 => Tok::Cast(Box::new(self.ty())),
             14 => Tok::When(self.var(), self.rng.chance(1, 2)),

@@ -2,6 +2,7 @@
 //! the comparison of both sides byte by byte.
 
 pub mod activations;
+pub mod alarm;
 pub mod answer;
 pub mod calls;
 pub mod compare;
@@ -11,6 +12,7 @@ pub mod decode;
 pub mod deep;
 pub mod encode;
 pub mod gen;
+pub mod ground;
 pub mod machines;
 pub mod package;
 pub mod report;

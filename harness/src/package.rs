@@ -104,7 +104,8 @@ pub enum Tok {
     Index,
     Tuple(u16),
     Array(u16),
-    Struct(Name, Box<[Name]>),
+    /// The type and the field names.
+    Struct(Box<(Name, Vec<Name>)>),
     Cast(Box<Type>),
     When(Name, bool),
     Merge(Name),
@@ -129,7 +130,7 @@ impl Tok {
             Tok::Index => 9,
             Tok::Tuple(_) => 10,
             Tok::Array(_) => 11,
-            Tok::Struct(..) => 12,
+            Tok::Struct(_) => 12,
             Tok::Cast(_) => 13,
             Tok::When(..) => 14,
             Tok::Merge(_) => 15,
@@ -145,7 +146,7 @@ impl Tok {
             Tok::Binary(_) | Tok::Arrow | Tok::Index | Tok::Merge(_) => 2,
             Tok::If => 3,
             Tok::Call(_, n) | Tok::Tuple(n) | Tok::Array(n) => *n as usize,
-            Tok::Struct(_, fields) => fields.len(),
+            Tok::Struct(s) => s.1.len(),
             Tok::Iterate { init, arrays, .. } => *init as usize + *arrays as usize,
         }
     }

@@ -2,7 +2,7 @@
 //! section, tag, type, literal and level.
 
 use crate::answer::check;
-use crate::decode::decode;
+use crate::decode::{decode, refused_at};
 use crate::encode::encode_any;
 use crate::package::*;
 use crate::special;
@@ -71,7 +71,8 @@ fn features(pack: &[u8]) -> BTreeSet<Feature> {
     let mut f = BTreeSet::new();
     match decode(pack) {
         Err(refusal) => {
-            f.insert((refusal.what, refusal.number as usize));
+            let what = refused_at(pack).map_or("", |(_, what)| what);
+            f.insert((what, refusal.number as usize));
         }
         Ok(p) => {
             f.insert(("length", pack.len() / 60));
@@ -132,7 +133,7 @@ fn token(t: &Tok, f: &mut BTreeSet<Feature>) {
         Tok::Call(_, n) | Tok::Tuple(n) | Tok::Array(n) => {
             f.insert(("arguments", t.tag() as usize * 4 + (*n).min(3) as usize));
         }
-        Tok::Struct(_, fields) => drop(f.insert(("fields", fields.len().min(3)))),
+        Tok::Struct(s) => drop(f.insert(("fields", s.1.len().min(3)))),
         _ => {}
     }
 }

@@ -51,28 +51,28 @@ pub fn pad(p: &mut Package, size: usize) {
     }
 }
 
-/// One node whose only right side nests `depth` deep, by unary operations of every sort.
-pub fn deep(rng: &mut Rng, depth: usize) -> Package {
+/// An expression of nested operations of one argument, in a node, a guard or an activation, so
+/// deep that the pack takes about `bytes`.
+pub fn deep(rng: &mut Rng, bytes: usize) -> Package {
     let mut b = Builder::new();
     let (n, v, last) = (b.name("N"), b.name("v"), b.name("last"));
-    let sort = rng.below(7);
-    let mut toks: Vec<Tok> = Vec::with_capacity(depth + 1);
-    for _ in 0..depth {
-        toks.push(match sort {
-            0 => Tok::Pre,
-            1 => Tok::Unary(0),
-            2 => Tok::Call(n, 1),
-            3 => Tok::Tuple(1),
-            4 => Tok::When(v, true),
-            5 => Tok::Call(last, 1),
-            _ => Tok::Field(v),
-        });
-    }
-    toks.push(Tok::Var(v));
-    let rhs = b.p.expr(toks);
+    let (tok, cost) = match rng.below(7) {
+        0 => (Tok::Pre, 1),
+        1 => (Tok::Unary(0), 2),
+        2 => (Tok::Call(n, 1), 5),
+        3 => (Tok::Tuple(1), 3),
+        4 => (Tok::When(v, true), 4),
+        5 => (Tok::Call(last, 1), 5),
+        _ => (Tok::Field(v), 3),
+    };
+    let place = rng.below(3);
+    // An activation holds it as a condition and in two scopes.
+    let copies = if place == 2 { 3 } else { 1 };
+    let depth = bytes.saturating_sub(100) / (cost * copies);
+    let rhs = b.p.expr(std::iter::repeat_n(tok, depth).chain([Tok::Var(v)]));
     let mut node = node(n);
     node.inputs.push(Port { name: v, ty: Type::plain(0) });
-    match rng.below(3) {
+    match place {
         0 => node.equations.push(Equation { lhs: vec![v], rhs }),
         1 => b.p.machines.push(guarded(n, v, rhs)),
         _ => b.p.activations.push(activation(last, n, v, rhs)),
@@ -305,8 +305,8 @@ pub fn any(rng: &mut Rng) -> Package {
         11 => deep_type(rng.range(1, 300)),
         12 => leaning(rng.range(1, 200), rng.chance(1, 2)),
         _ => {
-            let depth = rng.range(1, 400);
-            deep(rng, depth)
+            let bytes = rng.range(100, 2_000);
+            deep(rng, bytes)
         }
     }
 }
@@ -315,15 +315,41 @@ pub fn any(rng: &mut Rng) -> Package {
 pub fn huge(rng: &mut Rng) -> Package {
     match rng.below(8) {
         0 => {
-            let depth = rng.pick(&[12_000, 16_000, 21_000, 30_000, 60_000]);
-            deep(rng, depth)
+            let bytes = rng.pick(&[30_000, 40_000, 65_000, 65_536, 70_000]);
+            deep(rng, bytes)
         }
         1 => names_only(65_536),
         2 => alike_names(65_536),
         3 => deep_type(rng.range(1_000, 13_000)),
         4 => leaning(rng.range(5_000, 13_000), rng.chance(1, 2)),
-        5 => wide(rng.range(2_000, 5_000), None),
+        5 => wide(rng.range(2_000, 4_700), None),
         6 => branches(rng.range(100, 3_500), rng.chance(1, 2)),
         _ => repeated_ports(rng.range(50, 500), rng.range(50, 10_000)),
+    }
+}
+
+#[cfg(test)]
+mod tests {
+    use super::*;
+    use crate::decode::decode;
+
+    /// Most packs at the limits are within them.
+    #[test]
+    fn huge_packs_are_mostly_legal() {
+        let mut rng = Rng::new(4);
+        let legal = |rng: &mut Rng| {
+            let pack = encode_any(&huge(rng)).0;
+            (decode(&pack).is_ok() && pack.len() > 10_000) as usize
+        };
+        let count: usize = (0..200).map(|_| legal(&mut rng)).sum();
+        assert!(count > 140, "{count}");
+    }
+
+    #[test]
+    fn short_names_differ() {
+        let all: std::collections::HashSet<String> = (0..20_000).map(short_name).collect();
+        assert_eq!(all.len(), 20_000);
+        assert_eq!((short_name(0).len(), short_name(62).len(), short_name(63).len()), (1, 1, 2));
+        assert_eq!((short_name(63 + 63 * 63 - 1).len(), short_name(63 + 63 * 63).len()), (2, 3));
     }
 }

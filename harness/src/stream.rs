@@ -14,6 +14,9 @@ pub enum Aim {
     Lower,
 }
 
+/// Packs far over the limit teach nothing more.
+const LONGEST: usize = 200_000;
+
 pub struct Stream {
     rng: Rng,
     aim: Aim,
@@ -49,10 +52,12 @@ impl Stream {
         let p = self.package();
         self.names = p.old as u16;
         (self.base, self.marks) = encode_any(&p);
+        self.base.truncate(LONGEST);
+        self.marks.retain(|(at, _)| at + 2 <= LONGEST);
         let small = self.base.len() <= 400;
         let (cuts, damages) = match self.aim {
-            Aim::Check => (self.rng.chance(1, 12), if small { 12 } else { 4 }),
-            Aim::Lower => (self.rng.chance(1, 1000), self.rng.pick(&[0, 0, 0, 1, 1, 2])),
+            Aim::Check => (self.rng.chance(1, 25), if small { 12 } else { 4 }),
+            Aim::Lower => (self.rng.chance(1, 5_000), self.rng.pick(&[0, 0, 0, 0, 0, 1])),
         };
         self.cuts = if cuts && small { self.base.len() } else { 0 };
         self.damages = damages;

@@ -438,7 +438,7 @@ fn deep_expressions_are_lowered() {
     let mut rng = harness::rng::Rng::new(5);
     let mut lowered = 0;
     for _ in 0..12 {
-        let outcome = pack(special::deep(&mut rng, 12_000));
+        let outcome = pack(special::deep(&mut rng, 65_000));
         lowered += matches!(lower_activations(&outcome), Outcome::Lowered(_)) as usize;
         lowered += matches!(lower_machines(&outcome), Outcome::Lowered(_)) as usize;
     }

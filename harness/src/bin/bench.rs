@@ -11,8 +11,8 @@ use std::hint::black_box;
 use std::time::{Duration, Instant};
 
 /// Each side runs in turns of this long, so that a busy machine hurts both alike.
-const TURN: Duration = Duration::from_millis(60);
-const TURNS: usize = 8;
+const TURN: Duration = Duration::from_millis(40);
+const TURNS: usize = 16;
 
 struct Set {
     name: &'static str,

@@ -1,13 +1,14 @@
 //! `compare COUNT SEED`: compares COUNT packs through every call that is linked.
 
+use harness::alarm;
 use harness::calls;
-use harness::compare::{self, Tally};
-use harness::rng::Rng;
+use harness::compare::{self, Judge, Tally};
+use harness::deep;
 use harness::stream::{Aim, Stream};
 use std::time::{Duration, Instant};
 
-/// Differences printed in full; the rest is only counted.
-const SHOWN: u64 = 10;
+/// Differences printed as they are met; after these only the shortest is.
+const SHOWN: u64 = 3;
 
 fn main() {
     let mut args = std::env::args().skip(1);
@@ -23,7 +24,7 @@ fn main() {
         eprintln!("{}", calls::ABSENT);
         std::process::exit(2);
     }
-    let tally = run(&calls, count, seed);
+    let tally = deep::large(|| run(&calls, count, seed));
     if tally.skipped > 0 {
         println!("{} calls skipped: the reference cannot tell", tally.skipped);
     }
@@ -36,24 +37,34 @@ fn run(calls: &[calls::Call], count: u64, seed: u64) -> Tally {
     if calls.len() > 1 {
         streams.push(Stream::new(seed, Aim::Lower));
     }
-    let mut rng = Rng::new(seed);
+    let mut judge = Judge::new(seed);
+    alarm::watch(seed);
     let mut tally = Tally::default();
     let mut shown = 0;
+    let mut shortest: Option<(usize, String)> = None;
     let start = Instant::now();
     let mut next = Duration::from_secs(5);
     for i in 0..count {
         let which = i as usize % streams.len();
         let pack = streams[which].pack();
-        compare::pack(calls, &pack, &mut rng, &mut tally, &mut |text| {
+        alarm::begin(i);
+        compare::pack(&mut judge, calls, &pack, &mut tally, &mut |text| {
             shown += 1;
+            let text = format!("seed {seed}, pack {i}: {text}");
             if shown <= SHOWN {
-                println!("seed {seed}, pack {i}: {text}");
+                println!("{text}");
+            }
+            if shortest.as_ref().is_none_or(|(len, _)| pack.len() < *len) {
+                shortest = Some((pack.len(), text));
             }
         });
         if start.elapsed() >= next {
             println!("{} of {count} after {} s, {} different", i + 1, start.elapsed().as_secs(), tally.different);
             next += Duration::from_secs(5);
         }
+    }
+    if let Some((_, text)) = shortest {
+        println!("the shortest pack that differs: {text}");
     }
     tally
 }

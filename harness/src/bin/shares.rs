@@ -3,7 +3,7 @@
 use harness::answer::Outcome;
 use harness::calls::expected_check;
 use harness::stream::{Aim, Stream};
-use harness::{activations, machines};
+use harness::{activations, deep, machines};
 use std::collections::BTreeMap;
 use std::time::{Duration, Instant};
 
@@ -21,7 +21,7 @@ fn main() {
         ("activations", Aim::Lower, activations::expected),
     ];
     for (name, aim, expected) in calls {
-        shares(name, aim, expected, count, seed);
+        deep::large(|| shares(name, aim, expected, count, seed));
     }
 }
 
