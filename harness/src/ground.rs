@@ -5,6 +5,7 @@ use crate::rng::Rng;
 
 const PAGE: usize = 4096;
 const ROOM: usize = 64 * PAGE;
+/// Bytes watched on each side of a buffer, as far as the room goes.
 const GUARD: usize = 64;
 
 mod c {

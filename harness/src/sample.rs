@@ -14,7 +14,9 @@ const CANDIDATES: usize = 60_000;
 const LONGEST: usize = 420;
 const MOST_BYTES: usize = 150_000;
 
+/// Of legal packs what they hold; of refused ones the field, and the answer with [`REFUSED`] added.
 type Feature = (&'static str, usize);
+const REFUSED: usize = 1_000_000;
 
 /// One record: length, pack, the word that the check returns.
 pub fn record(pack: &[u8]) -> Vec<u8> {
@@ -72,7 +74,7 @@ fn features(pack: &[u8]) -> BTreeSet<Feature> {
     match decode(pack) {
         Err(refusal) => {
             let what = refused_at(pack).map_or("", |(_, what)| what);
-            f.insert((what, refusal.number as usize));
+            f.insert((what, REFUSED + refusal.number as usize));
         }
         Ok(p) => {
             f.insert(("length", pack.len() / 60));
@@ -194,10 +196,11 @@ mod tests {
         for level in 1..=8 {
             assert!(shown.contains(&("level", level)), "level {level}");
         }
-        for what in ["repeated name", "tag", "history", "refinement", "iterate kind", "activation owner"] {
-            assert!(shown.contains(&(what, 3)), "{what}");
+        let refused = |what, number| shown.contains(&(what, REFUSED + number));
+        for what in ["repeated name", "tag", "type", "literal", "history", "refinement", "iterate kind", "target"] {
+            assert!(refused(what, 3), "{what}");
         }
-        assert!(shown.contains(&("level", 4)) && shown.contains(&("after origins", 5)));
+        assert!(refused("level", 4) && refused("after origins", 5) && refused("tag", 2));
         assert!(shown.contains(&("array", 1)));
     }
 

@@ -47,8 +47,7 @@ fn run(calls: &[calls::Call], count: u64, seed: u64) -> Tally {
     for i in 0..count {
         let which = i as usize % streams.len();
         let pack = streams[which].pack();
-        alarm::begin(i);
-        compare::pack(&mut judge, calls, &pack, &mut tally, &mut |text| {
+        let mut say = |text: String| {
             shown += 1;
             let text = format!("seed {seed}, pack {i}: {text}");
             if shown <= SHOWN {
@@ -57,7 +56,8 @@ fn run(calls: &[calls::Call], count: u64, seed: u64) -> Tally {
             if shortest.as_ref().is_none_or(|(len, _)| pack.len() < *len) {
                 shortest = Some((pack.len(), text));
             }
-        });
+        };
+        alarm::during(i, &pack, || compare::pack(&mut judge, calls, &pack, &mut tally, &mut say));
         if start.elapsed() >= next {
             println!("{} of {count} after {} s, {} different", i + 1, start.elapsed().as_secs(), tally.different);
             next += Duration::from_secs(5);
