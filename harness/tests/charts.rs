@@ -266,6 +266,55 @@ fn limits_of_qualifying() {
     assert!(matches!(lower_machines(&pack(b.done())), Outcome::Lowered(_)));
 }
 
+/// A machine `R0` refined down to level 8, where the state has the refinement given.
+fn at_level_8(target: &str) -> Vec<u8> {
+    let mut p = special::refined(7, 1, 1);
+    let known = p.names.iter().position(|n| n == target.as_bytes());
+    let name = match known {
+        Some(i) => i as Name,
+        None => {
+            p.old += 1;
+            p.names.push(target.as_bytes())
+        }
+    };
+    p.machines[7].states[0].refines = Some(name);
+    pack(p)
+}
+
+/// What is reported of the first refused machine.
+fn first_refused(outcome: Outcome) -> Vec<u8> {
+    let Outcome::Refused(bytes) = outcome else { panic!("{outcome:?}") };
+    bytes[2..].to_vec()
+}
+
+#[test]
+fn what_the_walk_meets_first_is_reported() {
+    // On level 8: a cycle and an unknown machine come before level 9.
+    assert!(first_refused(lower_machines(&at_level_8("R0"))).starts_with(&[7, 2, b'R', b'0', 2, b'R', b'0']));
+    assert!(first_refused(lower_machines(&at_level_8("Gone"))).starts_with(&[6, 2, b'R', b'0', 4, b'S']));
+
+    // An unknown machine at the 512th state; a 513th state counts before its refinement.
+    for (count, kind) in [(512, 6), (513, 17)] {
+        let mut p = special::wide(count, None);
+        p.machines[0].states[count - 1].refines = Some(p.machines[0].states[0].name);
+        assert_eq!(first_refused(lower_machines(&pack(p)))[0], kind);
+    }
+
+    // Names are tested after the sub-machine's walk and before the next state.
+    let mut p = special::qualified(55, 200, 0);
+    let unknown = p.machines[0].states[0].name;
+    let top = p.machines[1].clone();
+    let mut next = special::state(top.initial);
+    next.refines = Some(unknown);
+    p.machines[1].states.push(next);
+    assert!(first_refused(lower_machines(&pack(p.clone()))).ends_with(&[17, 1, b'M']));
+    p.machines[1] = top;
+    p.machines[0].states[0].refines = Some(unknown);
+    // The sub-machine itself is refused first; then the outer one, for the same state.
+    let bytes = first_refused(lower_machines(&pack(p)));
+    assert_eq!((bytes[0], bytes.iter().filter(|b| **b == 17).count()), (6, 0));
+}
+
 #[test]
 fn results_too_long_to_write_are_not_written() {
     assert_eq!(lower_machines(&pack(special::repeated_ports(500, 10_000))), Outcome::TooLong);
@@ -396,6 +445,32 @@ fn refused_calls_of_last() {
     chart.a.otherwise[0].rhs = chart.expr(toks);
     chart.b.p.nodes[0].inputs[0].ty.lens.push(3);
     assert_eq!(chart.lower(), report(16, &["A", "v"]));
+}
+
+#[test]
+fn what_last_starts_from() {
+    for byte in (0..14u8).filter(|b| *b != TYPE_ARRAY) {
+        let mut chart = Chart::new();
+        let e = chart.b.name("E");
+        let variants = ["Red", "Green"].map(|n| chart.b.name(n)).to_vec();
+        // Of enums with one name the last that has variants counts.
+        let first = Enum { name: e, variants: vec![e] };
+        let empty = Enum { name: e, variants: vec![] };
+        chart.b.p.enums = vec![first, Enum { name: e, variants }, empty];
+        let base = if byte == TYPE_NAMED { Base::Named(e) } else { Base::Plain(byte) };
+        chart.b.p.nodes[0].inputs[0].ty = Type { lens: vec![], base };
+        let v = chart.var("v");
+        let toks = chart.call(&[v]);
+        chart.a.otherwise[0].rhs = chart.expr(toks);
+        let want = match byte {
+            0 => "Bool(false)",
+            1..=8 => "Int(0)",
+            9 | 10 => "Float(0)",
+            11 => "Char(0)",
+            _ => "Red",
+        };
+        assert_eq!(right_side(&made(chart.lower()), 0, "__act_A_last_v"), format!("Arrow {want} Pre v"));
+    }
 }
 
 #[test]
