@@ -29,9 +29,6 @@ fn folder() -> PathBuf {
     let named = env::var("OL_IR_SRC").unwrap_or_else(|_| "../shared/docs/src".into());
     let folder = root.join(named);
     folder.canonicalize().unwrap_or_else(|_| {
-        panic!(
-            "no folder {}: set OL_IR_SRC to the folder that holds the six reference files",
-            folder.display()
-        )
+        panic!("no folder {}: set OL_IR_SRC to the folder that holds the six reference files", folder.display())
     })
 }

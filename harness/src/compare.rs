@@ -35,14 +35,7 @@ pub fn fault(judge: &mut Judge, call: &Call, pack: &[u8], lens: (usize, usize), 
     };
     let mut text = String::new();
     if got != want.word() {
-        let _ = write!(
-            text,
-            "returned {} {}, expected {} {}; ",
-            got >> 32,
-            got & 0xffff_ffff,
-            want.number,
-            want.value
-        );
+        let _ = write!(text, "returned {} {}, expected {} {}; ", got >> 32, got & 0xffff_ffff, want.number, want.value);
     }
     let empty: &[u8] = &[];
     let buffers = [
@@ -145,7 +138,7 @@ mod tests {
     unsafe extern "C" fn scribbles(pack: *const u8, len: usize) -> u64 {
         let next = (pack as *mut u8).add(len);
         // Not where the room ends.
-        if next as usize % 4096 != 0 {
+        if !(next as usize).is_multiple_of(4096) {
             *next ^= 1;
         }
         right(pack, len)
@@ -182,7 +175,14 @@ mod tests {
         assert!(said[0].contains("pack differs at"));
     }
 
-    unsafe extern "C" fn writes_too_much(_: *const u8, _: usize, out: *mut u8, len: usize, _: *mut u8, _: usize) -> u64 {
+    unsafe extern "C" fn writes_too_much(
+        _: *const u8,
+        _: usize,
+        out: *mut u8,
+        len: usize,
+        _: *mut u8,
+        _: usize,
+    ) -> u64 {
         std::slice::from_raw_parts_mut(out, len).fill(0);
         12
     }
@@ -196,9 +196,8 @@ mod tests {
         let call = Call { name: "machines", function: Function::Lower(writes_too_much), expected: twelve };
         let want = twelve(&[0; 12]).unwrap();
         let mut judge = Judge::new(2);
-        let mut fault = |lens: (usize, usize)| {
-            fault(&mut judge, &call, &[0; 12], lens, &want.clone().answer(lens.0, lens.1))
-        };
+        let mut fault =
+            |lens: (usize, usize)| fault(&mut judge, &call, &[0; 12], lens, &want.clone().answer(lens.0, lens.1));
         assert_eq!(fault((12, 0)), None);
         let said = fault((13, 0)).unwrap();
         assert!(said.starts_with("output differs at 12"));

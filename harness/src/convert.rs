@@ -5,9 +5,7 @@ use crate::package::*;
 use reference::activation::{ActivationBranch, ActivationDef};
 use reference::expr::{BinOp, Expr as RExpr, FieldInit, IterKind, Literal, UnaryOp};
 use reference::node::{Equation as REquation, Local, NodeDef, NodeKind, Port as RPort};
-use reference::project::{
-    ConstructKind, ConstructOrigin, EnumDef, Package as RPackage, Project, TypeBody, TypeDef,
-};
+use reference::project::{ConstructKind, ConstructOrigin, EnumDef, Package as RPackage, Project, TypeBody, TypeDef};
 use reference::state_machine::{Region as RRegion, StateDef, StateMachineDef, Transition as RTransition};
 use reference::types::Type as RType;
 use std::collections::HashMap;

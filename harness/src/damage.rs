@@ -31,7 +31,7 @@ pub fn damage(rng: &mut Rng, pack: &[u8], marks: &Marks, names: u16) -> Vec<u8> 
 
 fn add(rng: &mut Rng, copy: &mut Vec<u8>) {
     for _ in 0..rng.range(1, 3) {
-        let b = rng.next() as u8;
+        let b = rng.word() as u8;
         copy.push(if rng.chance(1, 2) { 0 } else { b });
     }
 }
@@ -43,7 +43,7 @@ fn any_byte(rng: &mut Rng, copy: &mut [u8]) {
             0 => copy[at].wrapping_add(1),
             1 => copy[at].wrapping_sub(1),
             2 => copy[at] ^ (1 << rng.below(8)),
-            _ => rng.next() as u8,
+            _ => rng.word() as u8,
         };
     }
 }
@@ -68,7 +68,9 @@ fn at_mark(rng: &mut Rng, copy: &mut [u8], marks: &Marks, names: u16) {
             copy[at] = rng.pick(&[0, 1, 2, 3, 4, 13, 14, 16, 17, 19, 20, 255, copy[at].wrapping_add(1)]);
         }
         Mark::NameLength => copy[at] = rng.pick(&[0, 1, copy[at].wrapping_add(1), copy[at].wrapping_sub(1), 255]),
-        Mark::Character => copy[at] = rng.pick(&[b' ', b'-', b'@', b'[', b'`', b'{', b'/', b':', 0, 128, 255, b'Z', b'0']),
+        Mark::Character => {
+            copy[at] = rng.pick(&[b' ', b'-', b'@', b'[', b'`', b'{', b'/', b':', 0, 128, 255, b'Z', b'0'])
+        }
     }
 }
 

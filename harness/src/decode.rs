@@ -251,11 +251,7 @@ impl<'a> Reader<'a> {
     }
 
     fn branch(&mut self) -> Read<Branch> {
-        Ok(Branch {
-            name: self.name("branch name")?,
-            condition: self.expr()?,
-            equations: self.equations()?,
-        })
+        Ok(Branch { name: self.name("branch name")?, condition: self.expr()?, equations: self.equations()? })
     }
 
     fn origin(&mut self) -> Read<Origin> {

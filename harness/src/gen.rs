@@ -96,17 +96,8 @@ pub fn package(rng: &mut Rng, size: Size) -> Package {
         _ => 4,
     };
     let long = rng.chance(1, 12);
-    let mut g = Gen {
-        rng,
-        b: Builder::new(),
-        size,
-        wrong,
-        long,
-        nodes: vec![],
-        machines: vec![],
-        vars: vec![],
-        states: 0,
-    };
+    let mut g =
+        Gen { rng, b: Builder::new(), size, wrong, long, nodes: vec![], machines: vec![], vars: vec![], states: 0 };
     g.stray_names();
     g.plan();
     g.fill();
@@ -495,13 +486,13 @@ impl Gen<'_> {
     }
 
     fn int(&mut self) -> i64 {
-        let any = self.rng.next() as i64;
+        let any = self.rng.word() as i64;
         self.rng.pick(&[0, 1, 2, -1, i64::MIN, i64::MAX, any])
     }
 
     /// Also NaNs with a payload: bits must survive.
     fn float(&mut self) -> u64 {
-        let any = self.rng.next();
+        let any = self.rng.word();
         self.rng.pick(&[0, 1 << 63, 1.5f64.to_bits(), 0x7ff0_0000_0000_0001, u64::MAX, any])
     }
 

@@ -109,7 +109,12 @@ pub enum Tok {
     Cast(Box<Type>),
     When(Name, bool),
     Merge(Name),
-    Iterate { fold: bool, node: Name, init: bool, arrays: u16 },
+    Iterate {
+        fold: bool,
+        node: Name,
+        init: bool,
+        arrays: u16,
+    },
 }
 
 pub const UNARY_OPS: u8 = 2;

@@ -103,14 +103,7 @@ fn features(pack: &[u8]) -> BTreeSet<Feature> {
 }
 
 fn sections(p: &Package, f: &mut BTreeSet<Feature>) {
-    let counts = [
-        p.names.len(),
-        p.enums.len(),
-        p.nodes.len(),
-        p.machines.len(),
-        p.activations.len(),
-        p.origins.len(),
-    ];
+    let counts = [p.names.len(), p.enums.len(), p.nodes.len(), p.machines.len(), p.activations.len(), p.origins.len()];
     for (i, count) in counts.into_iter().enumerate() {
         f.insert(("section", i * 3 + count.min(2)));
     }

@@ -40,7 +40,8 @@ fn refused(kind: u8, names: &[&str]) -> Refused {
 
 pub fn lower(act: &ActivationDef, owner: &NodeDef, first: &HashMap<String, String>) -> Result<Lowered, Refused> {
     shape(act)?;
-    let mut maker = Maker { act, types: types(act, owner), low: Lowered { locals: vec![], equations: vec![], tokens: 0 } };
+    let mut maker =
+        Maker { act, types: types(act, owner), low: Lowered { locals: vec![], equations: vec![], tokens: 0 } };
     let found = Found::all(act)?;
     maker.holders(&found, first)?;
     let scopes = || act.branches.iter().map(|b| &b.equations).chain([&act.else_equations]);

@@ -90,13 +90,7 @@ fn guarded(name: Name, s: Name, guard: Expr) -> Machine {
 fn activation(name: Name, owner: Name, o: Name, rhs: Expr) -> Activation {
     let equations = vec![Equation { lhs: vec![o], rhs }];
     let branches = vec![Branch { name, condition: rhs, equations: equations.clone() }];
-    Activation {
-        name,
-        owner,
-        outputs: vec![Port { name: o, ty: Type::plain(0) }],
-        branches,
-        otherwise: equations,
-    }
+    Activation { name, owner, outputs: vec![Port { name: o, ty: Type::plain(0) }], branches, otherwise: equations }
 }
 
 /// A binary tree leaning left (`lhs` nests) or right, of `depth` operators.

@@ -7,7 +7,10 @@ use std::collections::HashMap;
 #[derive(Debug, Clone, Copy, PartialEq)]
 pub enum Walk {
     /// Resolves, to this many states holding this many tokens.
-    Fine { states: usize, tokens: usize },
+    Fine {
+        states: usize,
+        tokens: usize,
+    },
     TooLarge,
     /// A refinement error comes first; the reference says which.
     Refinement,

@@ -497,10 +497,7 @@ fn a_scope_reads_samples() {
         chart.expr(vec![Tok::When(c, false), Tok::Binary(10), Tok::Var(v), Tok::Binary(10), Tok::Var(w), Tok::Var(v)]);
     let got = made(chart.lower());
     // Clock names are read too, in preorder.
-    assert_eq!(
-        left_names(&got, 0)[2..],
-        ["__act_A_se_c", "__act_A_se_v", "__act_A_se_w", "__act_A_xe_o", "o"]
-    );
+    assert_eq!(left_names(&got, 0)[2..], ["__act_A_se_c", "__act_A_se_v", "__act_A_se_w", "__act_A_xe_o", "o"]);
     assert_eq!(right_side(&got, 0, "__act_A_se_v"), "when __act_A_b1 false v");
     assert_eq!(
         right_side(&got, 0, "__act_A_xe_o"),

@@ -138,8 +138,7 @@ fn the_first_true_branch_is_taken() {
     b.p.activations.push(Activation { name: a, owner: n, outputs, branches, otherwise });
     let p = made(activations::expected(&encode_any(&b.done()).0));
     let column = |bits: [bool; 4]| bits.map(Value::Bool).to_vec();
-    let inputs =
-        HashMap::from([("c", column([true, true, false, false])), ("d", column([true, false, true, false]))]);
+    let inputs = HashMap::from([("c", column([true, true, false, false])), ("d", column([true, false, true, false]))]);
     let run = Run { p: &p, inputs };
     let got: Vec<Value> = (0..4).map(|t| run.var("o", t)).collect();
     assert_eq!(got, [1, 1, 2, 3].map(Value::Int));
