@@ -397,3 +397,25 @@ pub fn children(e: &RExpr) -> Vec<&RExpr> {
         RExpr::Iterate { init, arrays, .. } => init.iter().map(|i| &**i).chain(arrays).collect(),
     }
 }
+
+#[cfg(test)]
+mod tests {
+    use super::*;
+    use crate::decode::decode;
+    use crate::encode::encode;
+    use crate::stream::{Aim, Stream};
+
+    #[test]
+    fn a_project_comes_back_as_it_went() {
+        let mut packs = Stream::new(31, Aim::Lower);
+        let mut legal = 0;
+        for _ in 0..4_000 {
+            let pack = packs.pack();
+            let Ok(p) = decode(&pack) else { continue };
+            let back = crate::deep::run(pack.len(), || encode(&from_project(&p, &to_project(&p))));
+            assert_eq!(back, Ok(pack));
+            legal += 1;
+        }
+        assert!(legal > 2_000, "{legal}");
+    }
+}

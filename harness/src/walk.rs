@@ -107,3 +107,67 @@ fn tokens(s: &State) -> usize {
     let transitions: usize = s.transitions.iter().map(|t| size(t.guard)).sum();
     equations + transitions + 2
 }
+
+#[cfg(test)]
+mod tests {
+    use super::*;
+    use crate::convert::{Expressions, To};
+    use crate::decode::decode;
+    use crate::stream::{Aim, Stream};
+    use reference::state_machine::{resolve_refines, StateDef, StateMachineDef};
+
+    /// States, deepest level and longest name of a resolved machine.
+    fn measure(states: &[StateDef], level: usize, m: &mut (usize, usize, usize)) {
+        m.1 = m.1.max(level);
+        for s in states {
+            m.0 += 1;
+            let targets = s.transitions.iter().map(|t| t.target.len());
+            m.2 = targets.chain([s.name.len(), m.2]).max().unwrap();
+            for r in &s.regions {
+                m.2 = m.2.max(r.initial_state.len());
+                measure(&r.states, level + 1, m);
+            }
+        }
+    }
+
+    /// The walk against the machine that the reference resolves without limits.
+    #[test]
+    fn the_walk_finds_what_resolving_makes() {
+        let mut packs = Stream::new(21, Aim::Lower);
+        let (mut fine, mut large, mut refinement) = (0, 0, 0);
+        for _ in 0..8_000 {
+            let Ok(p) = decode(&packs.pack()) else { continue };
+            // With many machines the reference's result could be beyond measure.
+            if p.machines.len() > 5 {
+                continue;
+            }
+            let to = To { p: &p, expressions: Expressions::Counted };
+            let all: Vec<StateMachineDef> = p.machines.iter().map(|m| to.machine(m)).collect();
+            let defs = all.iter().map(|m| (m.name.clone(), m.clone())).collect();
+            let by_name = by_name(&p);
+            for (m, def) in p.machines.iter().zip(&all) {
+                let resolved = resolve_refines(def, &defs);
+                let mut made = (0, 0, 0);
+                if let Ok(r) = &resolved {
+                    measure(&r.states, 1, &mut made);
+                }
+                let fits = made.0 <= MAX_STATES && made.1 <= MAX_LEVEL && made.2 <= MAX_NAME;
+                match walk(&p, &by_name, m) {
+                    Walk::Fine { states, .. } => {
+                        assert!(resolved.is_ok() && fits && states == made.0);
+                        fine += 1;
+                    }
+                    Walk::TooLarge => {
+                        assert!(resolved.is_err() || !fits);
+                        large += 1;
+                    }
+                    Walk::Refinement => {
+                        assert!(resolved.is_err());
+                        refinement += 1;
+                    }
+                }
+            }
+        }
+        assert!(fine > 4_000 && large > 100 && refinement > 500, "{fine} {large} {refinement}");
+    }
+}
