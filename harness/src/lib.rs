@@ -1,0 +1,24 @@
+//! An independent judge of the pack calls: an own codec, a generator, the expected answers, and
+//! the comparison of both sides byte by byte.
+
+pub mod activations;
+pub mod alarm;
+pub mod answer;
+pub mod calls;
+pub mod compare;
+pub mod convert;
+pub mod damage;
+pub mod decode;
+pub mod deep;
+pub mod encode;
+pub mod gen;
+pub mod ground;
+pub mod machines;
+pub mod package;
+pub mod report;
+pub mod rng;
+pub mod sample;
+pub mod scopes;
+pub mod special;
+pub mod stream;
+pub mod walk;

@@ -1,0 +1,349 @@
+//! Packages that stand at a limit: levels, states, name lengths, pack lengths, deep expressions.
+
+use crate::encode::encode_any;
+use crate::gen::Builder;
+use crate::package::*;
+use crate::rng::Rng;
+
+pub fn state(name: Name) -> State {
+    State { name, equations: vec![], transitions: vec![], regions: vec![], refines: None }
+}
+
+pub fn machine(name: Name, initial: Name, states: Vec<State>) -> Machine {
+    Machine { name, owner: None, inputs: vec![], outputs: vec![], locals: vec![], initial, states }
+}
+
+pub fn node(name: Name) -> Node {
+    Node { name, kind: 1, inputs: vec![], outputs: vec![], locals: vec![], equations: vec![] }
+}
+
+/// The `i`-th name over digits, letters and underscore, shortest first: no two are equal.
+pub fn short_name(mut i: usize) -> String {
+    const ALPHABET: &[u8; 63] = b"ABCDEFGHIJKLMNOPQRSTUVWXYZabcdefghijklmnopqrstuvwxyz0123456789_";
+    let mut text = Vec::new();
+    loop {
+        text.push(ALPHABET[i % 63]);
+        i /= 63;
+        if i == 0 {
+            text.reverse();
+            return String::from_utf8(text).unwrap();
+        }
+        i -= 1;
+    }
+}
+
+/// Adds names that nothing uses until the pack has exactly `size` bytes.
+pub fn pad(p: &mut Package, size: usize) {
+    let mut missing = size.saturating_sub(encode_any(p).0.len());
+    let mut number = 0;
+    while missing > 0 {
+        // At least 12 bytes stay for the last name, which carries its own number.
+        let take = if missing <= 256 { missing } else { 256.min(missing - 12) };
+        let digits = format!("{number}");
+        number += 1;
+        if take < digits.len() + 3 {
+            return;
+        }
+        let text = format!("{}z{digits}", "Z".repeat(take - digits.len() - 2));
+        p.names.push(text.as_bytes());
+        p.old += 1;
+        missing -= take;
+    }
+}
+
+/// An expression of nested operations of one argument, in a node, a guard or an activation, so
+/// deep that the pack takes about `bytes`.
+pub fn deep(rng: &mut Rng, bytes: usize) -> Package {
+    let mut b = Builder::new();
+    let (n, v, last) = (b.name("N"), b.name("v"), b.name("last"));
+    let (tok, cost) = match rng.below(7) {
+        0 => (Tok::Pre, 1),
+        1 => (Tok::Unary(0), 2),
+        2 => (Tok::Call(n, 1), 5),
+        3 => (Tok::Tuple(1), 3),
+        4 => (Tok::When(v, true), 4),
+        5 => (Tok::Call(last, 1), 5),
+        _ => (Tok::Field(v), 3),
+    };
+    let place = rng.below(3);
+    // An activation holds it as a condition and in two scopes.
+    let copies = if place == 2 { 3 } else { 1 };
+    let depth = bytes.saturating_sub(100) / (cost * copies);
+    let rhs = b.p.expr(std::iter::repeat_n(tok, depth).chain([Tok::Var(v)]));
+    let mut node = node(n);
+    node.inputs.push(Port { name: v, ty: Type::plain(0) });
+    match place {
+        0 => node.equations.push(Equation { lhs: vec![v], rhs }),
+        1 => b.p.machines.push(guarded(n, v, rhs)),
+        _ => b.p.activations.push(activation(last, n, v, rhs)),
+    }
+    b.p.nodes.push(node);
+    b.done()
+}
+
+fn guarded(name: Name, s: Name, guard: Expr) -> Machine {
+    let mut st = state(s);
+    st.transitions.push(Transition { guard, target: s });
+    machine(name, s, vec![st])
+}
+
+fn activation(name: Name, owner: Name, o: Name, rhs: Expr) -> Activation {
+    let equations = vec![Equation { lhs: vec![o], rhs }];
+    let branches = vec![Branch { name, condition: rhs, equations: equations.clone() }];
+    Activation { name, owner, outputs: vec![Port { name: o, ty: Type::plain(0) }], branches, otherwise: equations }
+}
+
+/// A binary tree leaning left (`lhs` nests) or right, of `depth` operators.
+pub fn leaning(depth: usize, left: bool) -> Package {
+    let mut b = Builder::new();
+    let (n, v) = (b.name("N"), b.name("v"));
+    let mut toks = Vec::new();
+    for _ in 0..depth {
+        toks.push(Tok::Binary(0));
+        if !left {
+            toks.push(Tok::Var(v));
+        }
+    }
+    toks.extend((0..if left { depth + 1 } else { 1 }).map(|_| Tok::Var(v)));
+    let rhs = b.p.expr(toks);
+    let mut node = node(n);
+    node.equations.push(Equation { lhs: vec![v], rhs });
+    b.p.nodes.push(node);
+    b.done()
+}
+
+/// A port whose type is an array of arrays, `depth` times.
+pub fn deep_type(depth: usize) -> Package {
+    let mut b = Builder::new();
+    let (n, v) = (b.name("N"), b.name("v"));
+    let ty = Type { lens: (0..depth as u32).collect(), base: Base::Named(n) };
+    let mut node = node(n);
+    node.inputs.push(Port { name: v, ty });
+    b.p.nodes.push(node);
+    b.done()
+}
+
+/// A machine with inline regions down to `level`, `width` regions in each state.
+pub fn nest(level: usize, width: usize) -> Package {
+    let mut b = Builder::new();
+    let m = b.name("M");
+    let mut next = 0;
+    let top = nested_state(&mut b, level, width, &mut next);
+    b.p.machines.push(machine(m, top.name, vec![top]));
+    b.done()
+}
+
+fn nested_state(b: &mut Builder, level: usize, width: usize, next: &mut usize) -> State {
+    let mut s = state(b.name(&format!("S{next}")));
+    *next += 1;
+    if level > 1 {
+        for k in 0..width {
+            let depth = if k == 0 { level - 1 } else { 1 };
+            let inner = nested_state(b, depth, width, next);
+            s.regions.push(Region { initial: inner.name, history: k % 2 == 1, states: vec![inner] });
+        }
+    }
+    s
+}
+
+/// Machines `R0`, `R1`, .. of `width` states each, all of which refine the next machine; the
+/// last one has `leaves` states. A chain for width 1, a tree of copies above.
+pub fn refined(depth: usize, width: usize, leaves: usize) -> Package {
+    let mut b = Builder::new();
+    for d in 0..=depth {
+        let m = b.name(&format!("R{d}"));
+        let initial = b.name(&format!("S{d}_0"));
+        let count = if d == depth { leaves } else { width };
+        let states = (0..count).map(|k| {
+            let mut s = state(b.name(&format!("S{d}_{k}")));
+            s.refines = (d < depth).then(|| b.name(&format!("R{}", d + 1)));
+            s
+        });
+        let states = states.collect();
+        b.p.machines.push(machine(m, initial, states));
+    }
+    b.done()
+}
+
+/// A machine of `count` states, the last with a refinement to a machine of one state or none.
+pub fn wide(count: usize, refine: Option<usize>) -> Package {
+    let mut b = Builder::new();
+    let (m, sub) = (b.name("M"), b.name("Sub"));
+    let mut states: Vec<State> = (0..count).map(|k| state(b.name(&short_name(k + 100)))).collect();
+    if let Some(leaves) = refine {
+        states[count - 1].refines = Some(sub);
+        let inner: Vec<State> = (0..leaves).map(|k| state(b.name(&format!("x{k}")))).collect();
+        let initial = b.name("x0");
+        b.p.machines.push(machine(sub, initial, inner));
+    }
+    b.p.machines.push(machine(m, states[0].name, states));
+    b.done()
+}
+
+/// A state of `outer` bytes refines a machine whose state, target and initial have `inner`.
+pub fn qualified(outer: usize, inner: usize, which: usize) -> Package {
+    let mut b = Builder::new();
+    let (m, sub) = (b.name("M"), b.name("Sub"));
+    let long = b.name(&"a".repeat(inner));
+    let short = b.name("b");
+    let mut s = state(b.name(&"c".repeat(outer)));
+    s.refines = Some(sub);
+    let pick = |k: usize| if which == k { long } else { short };
+    let mut leaf = state(pick(0));
+    let guard = b.p.expr([Tok::Const(Lit::Bool(true))]);
+    leaf.transitions.push(Transition { guard, target: pick(1) });
+    let deep = state(b.name("d"));
+    leaf.regions.push(Region { initial: pick(2), history: true, states: vec![deep] });
+    b.p.machines.push(machine(sub, pick(3), vec![leaf]));
+    b.p.machines.push(machine(m, s.name, vec![s]));
+    b.done()
+}
+
+/// Names that clash by qualification, an empty sub-machine, a cycle, an unknown target.
+pub fn tangled(which: usize) -> Package {
+    let mut b = Builder::new();
+    let [m, sub, a, t, at] = ["M", "Sub", "A", "T", "A_T"].map(|n| b.name(n));
+    let mut s = state(a);
+    s.refines = Some(if which == 3 { t } else { sub });
+    let mut inner = state(t);
+    if which == 2 {
+        inner.refines = Some(m);
+    }
+    let mut top = vec![s];
+    if which == 0 {
+        top.push(state(at));
+    }
+    let inside = if which == 1 { vec![] } else { vec![inner] };
+    b.p.machines.push(machine(m, a, top));
+    b.p.machines.push(machine(sub, t, inside));
+    b.done()
+}
+
+/// An activation with `count` branches; each scope reads `v`, so that samples nest.
+pub fn branches(count: usize, constants: bool) -> Package {
+    let mut b = Builder::new();
+    let [a, n, o, v] = ["A", "N", "o", "v"].map(|x| b.name(x));
+    let mut owner = node(n);
+    owner.inputs.push(Port { name: v, ty: Type::plain(0) });
+    owner.outputs.push(Port { name: o, ty: Type::plain(0) });
+    b.p.nodes.push(owner);
+    let read = b.p.expr([if constants { Tok::Const(Lit::Bool(true)) } else { Tok::Var(v) }]);
+    let scope = vec![Equation { lhs: vec![o], rhs: read }];
+    let branches = (0..count)
+        .map(|k| Branch { name: b.name(&short_name(k + 300)), condition: read, equations: scope.clone() })
+        .collect();
+    let outputs = vec![Port { name: o, ty: Type::plain(0) }];
+    b.p.activations.push(Activation { name: a, owner: n, outputs, branches, otherwise: scope });
+    b.done()
+}
+
+/// One machine of `states` states that repeats its only output port `ports` times.
+pub fn repeated_ports(states: usize, ports: usize) -> Package {
+    let mut b = Builder::new();
+    let (m, o) = (b.name("M"), b.name("o"));
+    let one = b.p.expr([Tok::Const(Lit::Int(1))]);
+    let all: Vec<State> = (0..states)
+        .map(|k| {
+            let mut s = state(b.name(&short_name(k + 100)));
+            s.equations.push(Equation { lhs: vec![o], rhs: one });
+            s
+        })
+        .collect();
+    let mut made = machine(m, all[0].name, all);
+    made.outputs = vec![Port { name: o, ty: Type::plain(4) }; ports];
+    b.p.machines.push(made);
+    b.done()
+}
+
+/// As many short names as a pack of `size` bytes holds.
+pub fn names_only(size: usize) -> Package {
+    let mut p = Package::default();
+    let mut left = size.saturating_sub(12);
+    for i in 0.. {
+        let text = short_name(i);
+        if left < text.len() + 1 {
+            break;
+        }
+        left -= text.len() + 1;
+        p.names.push(text.as_bytes());
+        p.old += 1;
+    }
+    p
+}
+
+/// Names of 255 bytes that differ in their last bytes only.
+pub fn alike_names(size: usize) -> Package {
+    let mut p = Package::default();
+    for i in 0..size.saturating_sub(12) / 256 {
+        p.names.push(format!("{}{i:05}", "n".repeat(250)).as_bytes());
+        p.old += 1;
+    }
+    p
+}
+
+/// One of the packages above, with numbers around the limits.
+pub fn any(rng: &mut Rng) -> Package {
+    match rng.below(16) {
+        0 => nest(rng.range(7, 9), rng.range(1, 2)),
+        1 => refined(rng.range(6, 8), 1, rng.below(2)),
+        2 => refined(rng.range(1, 3), rng.range(1, 3), rng.range(0, 3)),
+        3 => wide(rng.range(511, 513), None),
+        4 => wide(rng.range(510, 512), Some(rng.below(3))),
+        5 | 6 => {
+            let inner = rng.range(1, 250);
+            qualified(rng.range(253, 255) - inner, inner, rng.below(5))
+        }
+        7 | 8 => tangled(rng.below(5)),
+        9 => branches(rng.range(1, 40), rng.chance(1, 2)),
+        10 => repeated_ports(rng.range(1, 12), rng.range(1, 12)),
+        11 => deep_type(rng.range(1, 300)),
+        12 => leaning(rng.range(1, 200), rng.chance(1, 2)),
+        _ => {
+            let bytes = rng.range(100, 2_000);
+            deep(rng, bytes)
+        }
+    }
+}
+
+/// A pack near 65,536 bytes, of a shape that costs most.
+pub fn huge(rng: &mut Rng) -> Package {
+    match rng.below(8) {
+        0 => {
+            let bytes = rng.pick(&[30_000, 40_000, 65_000, 65_536, 70_000]);
+            deep(rng, bytes)
+        }
+        1 => names_only(65_536),
+        2 => alike_names(65_536),
+        3 => deep_type(rng.range(1_000, 13_000)),
+        4 => leaning(rng.range(5_000, 13_000), rng.chance(1, 2)),
+        5 => wide(rng.range(2_000, 4_700), None),
+        6 => branches(rng.range(100, 3_500), rng.chance(1, 2)),
+        _ => repeated_ports(rng.range(50, 500), rng.range(50, 10_000)),
+    }
+}
+
+#[cfg(test)]
+mod tests {
+    use super::*;
+    use crate::decode::decode;
+
+    /// Most packs at the limits are within them.
+    #[test]
+    fn huge_packs_are_mostly_legal() {
+        let mut rng = Rng::new(4);
+        let legal = |rng: &mut Rng| {
+            let pack = encode_any(&huge(rng)).0;
+            (decode(&pack).is_ok() && pack.len() > 10_000) as usize
+        };
+        let count: usize = (0..200).map(|_| legal(&mut rng)).sum();
+        assert!(count > 140, "{count}");
+    }
+
+    #[test]
+    fn short_names_differ() {
+        let all: std::collections::HashSet<String> = (0..20_000).map(short_name).collect();
+        assert_eq!(all.len(), 20_000);
+        assert_eq!((short_name(0).len(), short_name(62).len(), short_name(63).len()), (1, 1, 2));
+        assert_eq!((short_name(63 + 63 * 63 - 1).len(), short_name(63 + 63 * 63).len()), (2, 3));
+    }
+}
