@@ -25,6 +25,7 @@ use Rattle.wire.proofs.Answers.{bind-value, guard-value, map-value}
 use Rattle.wire.proofs.Steps.{found, never-is}
 use Rattle.wire.proofs.Bounds.{offsetIn}
 use Rattle.pack.proofs.Bounds.{within-pack}
+use Rattle.pack.proofs.RoundTrip.{bodyIn, read-value}
 use Rattle.pack.specs.Limits.{maxBytes}
 use Rattle.pack.specs.Names.{Name, member}
 use Rattle.pack.specs.Syntax.{Activation, Drawing, Enum, Node, Origin, Package}
@@ -67,15 +68,8 @@ module _ (ns : List Name) (s : List ℕ) where
   abbrev sectionParts : List (ℕ → Skipped)
   sectionParts = skips (counted (enumIn ns s) s) ∷ skips (counted (nodeIn ns s) s) ∷ skips (counted (machineIn ns s) s) ∷ skips (counted (activationIn ns s) s) ∷ skips (counted (originIn ns s) s) ∷ []
 
-  abbrev sections : ℕ → Answer Package
-  sections p =
-      bind (counted (enumIn ns s) s p) λ es q.
-      bind (counted (nodeIn ns s) s q) λ nds r.
-      bind (counted (machineIn ns s) s r) λ ms t.
-      bind (counted (activationIn ns s) s t) λ acts u.
-      mapA (λ (os : List Origin). record { names = ns; enums = es; nodes = nds; machines = ms; activations = acts; origins = os }) (counted (originIn ns s) s u)
-
-  section-parts : (p : ℕ) → skip (sections p) ≡ steps sectionParts (sk.To p)
+  section-parts : (p : ℕ) → skip (bodyIn ns s p) ≡ steps sectionParts (sk.To p)
+  unfolding bodyIn
   section-parts p = bind-steps (counted (enumIn ns s) s) p _ _ (λ x0 p0. bind-steps (counted (nodeIn ns s) s) p0 _ _ (λ x1 p1. bind-steps (counted (machineIn ns s) s) p1 _ _ (λ x2 p2. bind-steps (counted (activationIn ns s) s) p2 _ _ (λ x3 p3. last-step (counted (originIn ns s) s) p3 _))))
 
 -- what the code has: the count of names, and where each section ended
@@ -103,7 +97,7 @@ module _ (s : List ℕ) (names : ℕ) (a b c d e f : Skipped) (w : Went s names 
       let ns : List Name = replicate names [] in
       chain ns (length-replicate names []) ∙ ap (steps (sectionParts ns s)) g ∙ sym (h (sectionParts ns s))
 
-  pass : (x : Answer (List Name)) → nameSection s 0 ≡ x → f ≡ skip (bind x (λ ns p. sections ns s p))
+  pass : (x : Answer (List Name)) → nameSection s 0 ≡ x → f ≡ skip (bind x (λ ns p. bodyIn ns s p))
   unfolding skip bind
   pass (value ns q) g = chain ns (w .few ns q g) ∙ ap (steps (sectionParts ns s)) (w .past-names ∙ ap skip g) ∙ sym (section-parts ns s q)
   pass early g = stuck sk.Early (w .past-names ∙ ap skip g) steps-early
@@ -111,7 +105,7 @@ module _ (s : List ℕ) (names : ℕ) (a b c d e f : Skipped) (w : Went s names 
   pass (deep o) g = stuck (sk.Deep o) (w .past-names ∙ ap skip g) (λ fs. steps-deep fs o)
 
   pub went-skip : f ≡ skip (packAt s 0)
-  unfolding packAt
+  unfolding packAt bodyIn
   went-skip = pass (nameSection s 0) refl
 
 -- where reading stands, by an offset
@@ -187,19 +181,8 @@ read-short s h = rw (le-ltb 65536 (length s) h)
 pub open-short : (s : List ℕ) (v : Verdict) → length s ≤ 65536 → v ≡ judgedOf (skip (packAt s 0)) (length s) → v ≡ verdictOf (read s)
 open-short s v h e = e ∙ judged-reading (length s) (packAt s 0) ∙ ap verdictOf (sym (read-short s h))
 
-whole-value : (n : ℕ) (x : Answer Package) (p : Package) → readingOf n x ≡ whole p → (q : ℕ) × (x ≡ value p q)
-unfolding readingOf
-whole-value n (value y q) p e = go (ltb q n) e
-  where
-    go : (t : Bool) → cond t (bytesAfter q) (whole y) ≡ whole p → (r : ℕ) × (value y q ≡ value p r)
-    go true g = let z : _≡_ {A = ℕ} 0 1 = cc in absurd (omega arith)
-    go false g = let i : y ≡ p = cc in (q, ap (λ (u : Package). value u q) i)
-whole-value n early p e = let z : _≡_ {A = ℕ} 0 1 = cc in absurd (omega arith)
-whole-value n (illegal o) p e = let z : _≡_ {A = ℕ} 0 1 = cc in absurd (omega arith)
-whole-value n (deep o) p e = let z : _≡_ {A = ℕ} 0 1 = cc in absurd (omega arith)
-
-pub open-whole : (s : List ℕ) → length s ≤ 65536 → (p : Package) → read s ≡ whole p → (q : ℕ) × (packAt s 0 ≡ value p q)
-open-whole s h p e = whole-value (length s) (packAt s 0) p (sym (read-short s h) ∙ e)
+pub open-whole : (s : List ℕ) (p : Package) → read s ≡ whole p → (q : ℕ) × (packAt s 0 ≡ value p q)
+open-whole s p e = let r = read-value s p e in (r .1, r .2)
 
 -- the number and the value
 pub code-check : (s : List ℕ) (v : Verdict) (r : ℕ) → v ≡ verdictOf (read s) → r ≡ codeOf v (length s) → r ≡ returned (check s)

@@ -1,6 +1,3 @@
-pub mod Interns
-pub mod Written
-pub mod Finished
 pub mod NameLaws
 pub mod TypeLaws
 pub mod ExprLaws
@@ -8,3 +5,16 @@ pub mod NodeLaws
 pub mod PartLaws
 pub mod Bounds
 pub mod CheckLaws
+pub mod Tables
+pub mod TypeFormats
+pub mod HeadFormats
+pub mod ExprFormats
+pub mod PartFormats
+pub mod Counts
+pub mod RoundTrip
+pub mod WrittenBack
+pub mod Octets
+pub mod RoundTripAt
+pub mod Interns
+pub mod Written
+pub mod Finished

@@ -4,6 +4,7 @@ pub mod Syntax
 pub mod Forms
 pub mod Read
 pub mod Write
+pub mod Legal
 pub mod Intern
 pub mod Outcome
 pub mod RawNames

@@ -3,4 +3,6 @@ pub mod Bounds
 pub mod Codes
 pub mod Preorders
 pub mod Steps
+pub mod Formats
+pub mod TreeFormats
 pub mod Writers

@@ -1,5 +1,6 @@
 pub mod Answer
 pub mod Preorder
+pub mod Lists
 pub mod Bytes
 pub mod Code
 pub mod Decimal

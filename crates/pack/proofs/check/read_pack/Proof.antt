@@ -13,7 +13,7 @@ read-sections-requires : tie.Need-read-sections-requires
 read-sections-requires c κs = search needs
 
 returns-2 : tie.Need-returns-2
-returns-2 c = (open-short _ _ (c .before .if1 .left) (c .read-sections .ensures .0), λ p e. let w = open-whole _ (c .before .if1 .left) p e in c .read-sections .ensures .1 p (w .0) (w .1))
+returns-2 c = (open-short _ _ (c .before .if1 .left) (c .read-sections .ensures .0), λ p e. let w = open-whole _ p e in c .read-sections .ensures .1 p (w .0) (w .1))
 
 pub read-pack-spec : {M : Type 1} → statement M
 read-pack-spec = tie.close (tie.spec empty-requires returns read-sections-requires returns-2)
