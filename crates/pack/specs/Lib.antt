@@ -6,6 +6,7 @@ pub mod Read
 pub mod Write
 pub mod Legal
 pub mod Intern
+pub mod Report
 pub mod Outcome
 pub mod RawNames
 pub mod Heads

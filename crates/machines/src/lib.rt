@@ -1,0 +1,1 @@
+// Machines: resolved, checked and lowered.
