@@ -64,12 +64,12 @@ standalone m k = record { enums = k .enums ++ enumsOf m; nodes = k .nodes ++ (no
 unfoldable pub merged : Machine → Name → Option Node → Made → Made
 merged m o none k = refusing (unknownOwner (m .name) o) k
 merged m o (some n) k =
-    record
-      { enums = k .enums ++ enumsOf m
-      ; nodes = extendIn o (localsOf m) (equationsOf m) (k .nodes)
-      ; origins = k .origins ++ (originOf ofMachine (m .name) [] (equationsOf m) n ∷ [])
-      ; refusals = k .refusals
-      }
+    record {
+      enums = k .enums ++ enumsOf m;
+      nodes = extendIn o (localsOf m) (equationsOf m) (k .nodes);
+      origins = k .origins ++ (originOf ofMachine (m .name) [] (equationsOf m) n ∷ []);
+      refusals = k .refusals;
+    }
 
 unfoldable pub placed : Option Name → Judged → Made → Made
 placed o (refuse r) k = refusing r k

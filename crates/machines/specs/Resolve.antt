@@ -76,8 +76,8 @@ module _ (top : Name) (refine : ℕ → Name → Name → ℕ → Walk Target) w
   unfoldable pub withTarget : Name → Regions → Target → ℕ → Walk Regions
   withTarget s rs t n =
       cond (shortName (length s + 1) (t .initial) && shortS (length s + 1) (t .states))
-        (went (snoc rs ((s ++ (95 ∷ [])) ++ t .initial) (prefixS (s ++ (95 ∷ [])) (t .states))) n)
-        (stop (tooLarge top))
+      (went (snoc rs ((s ++ (95 ∷ [])) ++ t .initial) (prefixS (s ++ (95 ∷ [])) (t .states))) n)
+      (stop (tooLarge top))
 
   unfoldable pub withRefine : ℕ → Name → Option Name → Regions → ℕ → Walk Regions
   withRefine l s none rs n = went rs n
@@ -108,9 +108,10 @@ machineOf (m ∷ ms) n = firstOf (machineOf ms n) (cond (eqName (m .name) n) (so
 -- in order: a cycle, no such machine, and then `enter` resolves the machine found
 unfoldable pub refineWith : Name → List Drawing → List Name → (Drawing → ℕ → ℕ → Walk Target) → ℕ → Name → Name → ℕ → Walk Target
 refineWith top ms path enter l s n c =
-    elim (member n path)
-      [ true ↦ stop (refineCycle top n)
-      | false ↦ elim (machineOf ms n) [ none ↦ stop (unknownRefine top s n) | some m ↦ enter m l c ] ]
+    elim (member n path) [
+      | true ↦ stop (refineCycle top n)
+      | false ↦ elim (machineOf ms n) [ none ↦ stop (unknownRefine top s n) | some m ↦ enter m l c ]
+    ]
 
 unfoldable pub asTarget : Name → States → Target
 asTarget i ss = record { initial = i; states = ss }
@@ -120,8 +121,8 @@ unfoldable pub refineAt : ℕ → Name → List Drawing → List Name → ℕ �
 refineAt zero top ms path = refineWith top ms path (λ m l c. stop (tooLarge top))
 refineAt (suc f) top ms path =
     refineWith top ms path (λ m l c.
-      deeper top (refineAt f top ms (m .name ∷ path)) l (λ k.
-      walkOn (resolveS top (refineAt f top ms (m .name ∷ path)) k (m .states) c) (λ ss n. went (asTarget (m .initial) ss) n)))
+    deeper top (refineAt f top ms (m .name ∷ path)) l (λ k.
+    walkOn (resolveS top (refineAt f top ms (m .name ∷ path)) k (m .states) c) (λ ss n. went (asTarget (m .initial) ss) n)))
 
 unfoldable pub resolvedStates : List Drawing → Drawing → Walk States
 resolvedStates ms d = resolveS (d .name) (refineAt maxLevel (d .name) ms (d .name ∷ [])) (maxLevel - 1) (d .states) 0

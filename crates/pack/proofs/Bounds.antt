@@ -35,9 +35,9 @@ module _ (names : ℕ) (s : List ℕ) where
   w-type-head : Within (length s) (typeHead names s)
   unfolding typeHead typeFields
   w-type-head p h = within-bind (length s) _ _ (within-below s 14 p h) (λ t q l.
-    within-cond (length s) (eqb t 12) _ _ (within-map (length s) _ _ (within-u32 s q))
-    (within-cond (length s) (eqb t 13) _ _ (within-map (length s) _ _ (within-index s names q l))
-    (within-value (length s) _ q l)))
+      within-cond (length s) (eqb t 12) _ _ (within-map (length s) _ _ (within-u32 s q))
+      (within-cond (length s) (eqb t 13) _ _ (within-map (length s) _ _ (within-index s names q l))
+      (within-value (length s) _ q l)))
 
   w-type : Within (length s) (typeAt names s)
   unfolding typeAt
@@ -46,10 +46,10 @@ module _ (names : ℕ) (s : List ℕ) where
   w-literal : Within (length s) (literal s)
   unfolding literal literalOf
   w-literal p h = within-bind (length s) _ _ (within-below s 4 p h) (λ t q l.
-    within-cond (length s) (eqb t 0) _ _ (within-map (length s) _ _ (within-below s 2 q l))
-    (within-cond (length s) (eqb t 1) _ _ (within-map (length s) _ _ (within-u64 s q))
-    (within-cond (length s) (eqb t 2) _ _ (within-map (length s) _ _ (within-u64 s q))
-    (within-map (length s) _ _ (within-byte s q)))))
+      within-cond (length s) (eqb t 0) _ _ (within-map (length s) _ _ (within-below s 2 q l))
+      (within-cond (length s) (eqb t 1) _ _ (within-map (length s) _ _ (within-u64 s q))
+      (within-cond (length s) (eqb t 2) _ _ (within-map (length s) _ _ (within-u64 s q))
+      (within-map (length s) _ _ (within-byte s q)))))
 
   -- what holds of each row holds of the row of any tag
   unfoldable AllWithin : ℕ → List (Answer ExprHead) → Type 0
@@ -66,24 +66,55 @@ module _ (names : ℕ) (s : List ℕ) where
   unfolding AllWithin exprRows callFields structFields whenFields iterateFields
   w-rows p h =
       let n = length s in
-      let i = within-index s names in
-      (within-map n _ _ (w-literal p h),
-      (within-map n _ _ (i p h),
-      (within-map n _ _ (within-below s 2 p h),
-      (within-map n _ _ (within-below s 20 p h),
-      (within-value n _ p h,
-      (within-value n _ p h,
-      (within-value n _ p h,
-      (within-bind n _ _ (i p h) (λ x q l. within-map n _ _ (within-u16 s q)),
-      (within-map n _ _ (i p h),
-      (within-value n _ p h,
-      (within-map n _ _ (within-u16 s p),
-      (within-map n _ _ (within-u16 s p),
-      (within-bind n _ _ (i p h) (λ x q l. within-bind n _ _ (within-u16 s q) (λ k r m. within-map n _ _ (within-many n (index names s) i k r m))),
-      (within-map n _ _ (w-type p h),
-      (within-bind n _ _ (i p h) (λ x q l. within-map n _ _ (within-below s 2 q l)),
-      (within-map n _ _ (i p h),
-      (within-bind n _ _ (within-below s 2 p h) (λ k q l. within-bind n _ _ (i q l) (λ x r m. within-bind n _ _ (within-below s 2 r m) (λ b t o. within-map n _ _ (within-u16 s t)))), tt)))))))))))))))))
+      let i = within-index s names in (
+        within-map n _ _ (w-literal p h),
+        (
+          within-map n _ _ (i p h),
+          (
+            within-map n _ _ (within-below s 2 p h),
+            (
+              within-map n _ _ (within-below s 20 p h),
+              (
+                within-value n _ p h,
+                (
+                  within-value n _ p h,
+                  (
+                    within-value n _ p h,
+                    (
+                      within-bind n _ _ (i p h) (λ x q l. within-map n _ _ (within-u16 s q)),
+                      (
+                        within-map n _ _ (i p h),
+                        (
+                          within-value n _ p h,
+                          (
+                            within-map n _ _ (within-u16 s p),
+                            (
+                              within-map n _ _ (within-u16 s p),
+                              (
+                                within-bind n _ _ (i p h) (λ x q l. within-bind n _ _ (within-u16 s q) (λ k r m. within-map n _ _ (within-many n (index names s) i k r m))),
+                                (
+                                  within-map n _ _ (w-type p h),
+                                  (
+                                    within-bind n _ _ (i p h) (λ x q l. within-map n _ _ (within-below s 2 q l)),
+                                    (
+                                      within-map n _ _ (i p h),
+                                      (within-bind n _ _ (within-below s 2 p h) (λ k q l. within-bind n _ _ (i q l) (λ x r m. within-bind n _ _ (within-below s 2 r m) (λ b t o. within-map n _ _ (within-u16 s t)))), tt),
+                                    ),
+                                  ),
+                                ),
+                              ),
+                            ),
+                          ),
+                        ),
+                      ),
+                    ),
+                  ),
+                ),
+              ),
+            ),
+          ),
+        ),
+      )
 
   w-head : Within (length s) (exprHead names s)
   unfolding exprHead exprFields

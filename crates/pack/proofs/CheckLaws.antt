@@ -152,7 +152,8 @@ module _ (s : List ℕ) (names : ℕ) (a b c d e f : Skipped) (w : Went s names 
         nodes = placed (counted (nodeIn ns s) s) _ _ _ _ _ kb kc (b2 .2);
         machines = placed (counted (machineIn ns s) s) _ _ _ _ _ kc kd (b3 .2);
         activations = placed (counted (activationIn ns s) s) _ _ _ _ _ kd ke (b4 .2);
-        origins = placed (counted (originIn ns s) s) _ _ _ _ _ ke kf (b5 .1) })
+        origins = placed (counted (originIn ns s) s) _ _ _ _ _ ke kf (b5 .1);
+      })
 
 -- the verdict on what reading all sections came to
 judged-reading : (n : ℕ) (x : Answer Package) → judgedOf (skip x) n ≡ verdictOf (readingOf n x)

@@ -81,6 +81,7 @@ arrays-few false (xCons e es) = omega arith
 
 mutual
   unfolding Formed FormedAll Shaped ShapedAll exprItems exprsItems sizeOf list two
+
   pub fit-expr : (e : Expr) → Formed e → sizeOf (exprItems e) ≤ 65536 → Shaped e
   fit-expr (eConst l) o h = o
   fit-expr (eVar x) o h = tt
@@ -218,6 +219,7 @@ deeper P Q f (suc l) h = f l h
 
 mutual
   unfolding FormedStates FormedRegions ShapedStates ShapedRegions drawnItems regionItems sizeOf two
+
   pub fit-states : (d : Drawn) (levels : ℕ) → FormedStates d levels → sizeOf (drawnItems d) ≤ 65536 → ShapedStates d levels
   fit-states dNil levels o h = tt
   fit-states (dCons s es ts rs f rest) levels o h =
@@ -269,16 +271,18 @@ pub fit-package : (p : Package) → FormedPackage p → sizeOf (packageItems p) 
 unfolding packageItems
 fit-package p o h =
     let e = list enumItems (p .enums) in let n = list nodeItems (p .nodes) in let m = list machineItems (p .machines) in let a = list activationItems (p .activations) in let g = list originItems (p .origins) in
-    let b = size-append e (n ++ (m ++ (a ++ g))) in let c = size-append n (m ++ (a ++ g)) in let d = size-append m (a ++ g) in let f = size-append a g in
-    (fit-listed enumItems size-enum (λ x. Unit {0}) ShapedEnum fit-enum (p .enums) (all-unit (p .enums)) (omega arith),
-    fit-listed nodeItems size-node FormedNode ShapedNode fit-node (p .nodes) (o .0) (omega arith),
-    fit-listed machineItems size-machine FormedMachine ShapedMachine fit-machine (p .machines) (o .1) (omega arith),
-    fit-listed activationItems size-activation FormedActivation ShapedActivation fit-activation (p .activations) (o .2) (omega arith),
-    fit-listed originItems size-origin FormedOrigin ShapedOrigin fit-origin (p .origins) (o .3) (omega arith))
+    let b = size-append e (n ++ (m ++ (a ++ g))) in let c = size-append n (m ++ (a ++ g)) in let d = size-append m (a ++ g) in let f = size-append a g in (
+      fit-listed enumItems size-enum (λ x. Unit {0}) ShapedEnum fit-enum (p .enums) (all-unit (p .enums)) (omega arith),
+      fit-listed nodeItems size-node FormedNode ShapedNode fit-node (p .nodes) (o .0) (omega arith),
+      fit-listed machineItems size-machine FormedMachine ShapedMachine fit-machine (p .machines) (o .1) (omega arith),
+      fit-listed activationItems size-activation FormedActivation ShapedActivation fit-activation (p .activations) (o .2) (omega arith),
+      fit-listed originItems size-origin FormedOrigin ShapedOrigin fit-origin (p .origins) (o .3) (omega arith),
+    )
 
 -- what reading gives is formed
 mutual
   unfolding Formed FormedAll Shaped ShapedAll
+
   pub expr-formed : (e : Expr) → Shaped e → Formed e
   expr-formed (eConst l) o = o
   expr-formed (eVar x) o = tt
@@ -310,6 +314,7 @@ transitions-formed xs a = all-map ShapedTransition FormedTransition xs (λ x o. 
 
 mutual
   unfolding FormedStates FormedRegions ShapedStates ShapedRegions
+
   pub states-formed : (d : Drawn) (levels : ℕ) → ShapedStates d levels → FormedStates d levels
   states-formed dNil levels o = tt
   states-formed (dCons s es ts rs f rest) levels o = ((equations-formed es (o .0 .0 .1), transitions-formed ts (o .0 .1 .1), regions-formed rs levels (o .0 .3)), states-formed rest levels (o .1))
@@ -319,8 +324,9 @@ mutual
   regions-formed (qCons i b ss rest) levels o = (deeper (λ l. ShapedStates ss l) (λ l. FormedStates ss l) (λ l p. states-formed ss l p) levels (o .0 .1), regions-formed rest levels (o .1))
 
 pub package-formed : (p : Package) → ShapedPackage p → FormedPackage p
-package-formed p o =
-    (all-map ShapedNode FormedNode (p .nodes) (λ n h. (h .0 .1, h .1 .1, h .2 .1, equations-formed (n .equations) (h .3 .1))) (o .1 .1),
-    all-map ShapedMachine FormedMachine (p .machines) (λ m h. (h .0 .1, h .1 .1, h .2 .1, states-formed (m .states) (maxLevel - 1) (h .4))) (o .2 .1),
-    all-map ShapedActivation FormedActivation (p .activations) (λ a h. (h .0 .1, all-map ShapedBranch FormedBranch (a .branches) (λ b k. (expr-formed (b .condition) (k .0), equations-formed (b .equations) (k .1 .1))) (h .1 .1), equations-formed (a .otherwise) (h .2 .1))) (o .3 .1),
-    all-map ShapedOrigin FormedOrigin (p .origins) (λ x h. (h .0, h .1)) (o .4 .1))
+package-formed p o = (
+  all-map ShapedNode FormedNode (p .nodes) (λ n h. (h .0 .1, h .1 .1, h .2 .1, equations-formed (n .equations) (h .3 .1))) (o .1 .1),
+  all-map ShapedMachine FormedMachine (p .machines) (λ m h. (h .0 .1, h .1 .1, h .2 .1, states-formed (m .states) (maxLevel - 1) (h .4))) (o .2 .1),
+  all-map ShapedActivation FormedActivation (p .activations) (λ a h. (h .0 .1, all-map ShapedBranch FormedBranch (a .branches) (λ b k. (expr-formed (b .condition) (k .0), equations-formed (b .equations) (k .1 .1))) (h .1 .1), equations-formed (a .otherwise) (h .2 .1))) (o .3 .1),
+  all-map ShapedOrigin FormedOrigin (p .origins) (λ x h. (h .0, h .1)) (o .4 .1),
+)

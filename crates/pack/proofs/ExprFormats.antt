@@ -131,6 +131,7 @@ module _ (ns : List Name) where
 
   mutual
     unfolding Shaped ShapedAll exprTree exprTrees exprItems exprsItems Each OkTree OkTrees OkHead exprArity count exprOf exprsOf exprOver nth list firstType countOf
+
     pub expr-down : (e : Expr) → Shaped e → Each (Known ns) (exprItems e) → OkTree (OkHead (length ns)) exprArity (exprTree ns e) × (exprOf ns (exprTree ns e) ≡ e)
     expr-down (eConst l) o k = ((o, refl, tt), refl)
     expr-down (eVar x) o k = ((k .0, refl, tt), λ i. eVar (name-at-place ns x (k .0) i))
@@ -263,17 +264,20 @@ module _ (ns : List Name) where
     over-up (array n) es b o e u = ((omega (arith, e), u .0), u .1, λ j. 11 ∷ (two (sym e j) ++ u .2 j))
     over-up (struct i fs) es b o e u =
         let f = names-up fs (o .1 .1) in
-        let flat : (two i ++ (two (length fs) ++ encAll two fs)) ++ b ≡ two i ++ (two (length fs) ++ (encAll two fs ++ b)) = simp append-assoc in
-        ((omega (arith, o .1 .0, f .2), e ∙ f .2, u .0),
-        (known i (o .0), each-append (Known ns) (each nameItems (namesAt ns fs)) (exprsItems es) (f .0) (u .1)),
-        ap (λ (x : List ℕ). 12 ∷ x) flat
-        ∙ (λ j. 12 ∷ (two (is i (o .0) j) ++ (two (f .2 j) ++ (f .1 j ++ u .2 j))))
-        ∙ ap (λ (x : List ℕ). 12 ∷ (two (place ns (nameAt ns i)) ++ (two (length (namesAt ns fs)) ++ x))) (sym (code-append ns (each nameItems (namesAt ns fs)) (exprsItems es))))
+        let flat : (two i ++ (two (length fs) ++ encAll two fs)) ++ b ≡ two i ++ (two (length fs) ++ (encAll two fs ++ b)) = simp append-assoc in (
+          (omega (arith, o .1 .0, f .2), e ∙ f .2, u .0),
+          (known i (o .0), each-append (Known ns) (each nameItems (namesAt ns fs)) (exprsItems es) (f .0) (u .1)),
+          ap (λ (x : List ℕ). 12 ∷ x) flat
+              ∙ (λ j. 12 ∷ (two (is i (o .0) j) ++ (two (f .2 j) ++ (f .1 j ++ u .2 j))))
+              ∙ ap (λ (x : List ℕ). 12 ∷ (two (place ns (nameAt ns i)) ++ (two (length (namesAt ns fs)) ++ x))) (sym (code-append ns (each nameItems (namesAt ns fs)) (exprsItems es))),
+        )
     over-up (cast t) es b o e u =
         let y = first-up ns fresh t (o .1) (o .0) in
-        let r = sole b es e u in
-        ((y .0, r .0), each-append (Known ns) (tyItems (firstType ns t)) (exprItems (nth 0 es)) (y .1) (r .1),
-        (λ j. 13 ∷ (y .2 j ++ r .2 j)) ∙ ap (λ (x : List ℕ). 13 ∷ x) (sym (code-append ns (tyItems (firstType ns t)) (exprItems (nth 0 es)))))
+        let r = sole b es e u in (
+          (y .0, r .0),
+          each-append (Known ns) (tyItems (firstType ns t)) (exprItems (nth 0 es)) (y .1) (r .1),
+          (λ j. 13 ∷ (y .2 j ++ r .2 j)) ∙ ap (λ (x : List ℕ). 13 ∷ x) (sym (code-append ns (tyItems (firstType ns t)) (exprItems (nth 0 es)))),
+        )
     over-up (sample i k) es b o e u =
         let r = sole b es e u in
         (r .0, (known i (o .0), r .1), ap (λ (x : List ℕ). 14 ∷ x) (append-assoc (two i) (k ∷ []) b) ∙ (λ j. 14 ∷ (two (is i (o .0) j) ++ (sym (flag-byte k (o .1)) j ∷ r .2 j))))
@@ -281,9 +285,11 @@ module _ (ns : List Name) where
     over-up (iterate k i f n) es b o e u =
         let a = arrays-is f n es (o .1 .1 .0) e in
         let g = flag-byte f (o .1 .1 .0) in
-        let flat : (two i ++ (f ∷ two n)) ++ b ≡ two i ++ (f ∷ (two n ++ b)) = append-assoc (two i) (f ∷ two n) b in
-        ((omega (arith, o .1 .1 .1), omega arith, u .0), (known i (o .1 .0), u .1),
-        ap (λ (x : List ℕ). 16 ∷ k ∷ x) flat ∙ (λ j. 16 ∷ sym (iter-up k (o .0)) j ∷ (two (is i (o .1 .0) j) ++ (sym g j ∷ (two (sym a j) ++ u .2 j)))))
+        let flat : (two i ++ (f ∷ two n)) ++ b ≡ two i ++ (f ∷ (two n ++ b)) = append-assoc (two i) (f ∷ two n) b in (
+          (omega (arith, o .1 .1 .1), omega arith, u .0),
+          (known i (o .1 .0), u .1),
+          ap (λ (x : List ℕ). 16 ∷ k ∷ x) flat ∙ (λ j. 16 ∷ sym (iter-up k (o .0)) j ∷ (two (is i (o .1 .0) j) ++ (sym g j ∷ (two (sym a j) ++ u .2 j)))),
+        )
 
     count-of : (ts : Trees ExprHead) → countOf (exprsOf ns ts) ≡ count ts
     unfolding countOf exprsOf count
@@ -292,6 +298,7 @@ module _ (ns : List Name) where
 
     mutual
       unfolding OkTree OkTrees encTree encTrees exprOf exprsOf ShapedAll exprsItems Each code
+
       pub expr-up : (t : Tree ExprHead) → OkTree (OkHead (length ns)) exprArity t → Up (encTree encHead t) (exprOf ns t)
       expr-up (node h ts) o = over-up h (exprsOf ns ts) (encTrees encHead ts) (o .0) (count-of ts ∙ o .1) (exprs-up ts (o .2))
 
@@ -299,13 +306,15 @@ module _ (ns : List Name) where
       exprs-up nil o = (tt, tt, refl)
       exprs-up (cons t ts) o =
           let r = expr-up t (o .0) in
-          let w = exprs-up ts (o .1) in
-          ((r .0, w .0), each-append (Known ns) (exprItems (exprOf ns t)) (exprsItems (exprsOf ns ts)) (r .1) (w .1),
-          (λ j. r .2 j ++ w .2 j) ∙ sym (code-append ns (exprItems (exprOf ns t)) (exprsItems (exprsOf ns ts))))
+          let w = exprs-up ts (o .1) in (
+            (r .0, w .0),
+            each-append (Known ns) (exprItems (exprOf ns t)) (exprsItems (exprsOf ns ts)) (r .1) (w .1),
+            (λ j. r .2 j ++ w .2 j) ∙ sym (code-append ns (exprItems (exprOf ns t)) (exprsItems (exprsOf ns ts))),
+          )
 
     module _ (small : length ns ≤ 65536) where
       pub fmtExpr : Fmt ns (exprIn ns) exprItems Shaped
       unfolding exprIn exprsOf nth count OkTrees
       fmtExpr = formatMap (exprAt (length ns)) (encTrees encHead) (λ ts. (count ts ≡ 1) × OkTrees (OkHead (length ns)) exprArity ts) (λ ts. nth 0 (exprsOf ns ts)) (λ e. cons (exprTree ns e) nil) (λ e. code ns (exprItems e)) (λ e. Shaped e × Each (Known ns) (exprItems e)) (formatExprs (length ns) small)
-        (λ e h. let r = expr-down e (h .0) (h .1) in ((refl, (r .0, tt)), r .1))
-        (λ ts h. let u = sole (encTrees encHead ts) (exprsOf ns ts) (count-of ts ∙ h .0) (exprs-up ts (h .1)) in ((u .0, u .1), u .2))
+          (λ e h. let r = expr-down e (h .0) (h .1) in ((refl, (r .0, tt)), r .1))
+          (λ ts h. let u = sole (encTrees encHead ts) (exprsOf ns ts) (count-of ts ∙ h .0) (exprs-up ts (h .1)) in ((u .0, u .1), u .2))

@@ -24,17 +24,17 @@ pub struct-read : (names : ℕ) (s : List ℕ) (at : ℕ) → readOf (mapA exprA
 unfolding structFields exprArity
 struct-read names s at =
     read-map-bind exprArity (index names s at) _ _ (λ i p.
-      read-map-bind exprArity (u16 s p) _ _ (λ n q.
-        ap readOf (map-map exprArity (struct i) (many (index names s) n q)) ∙
-        sym (thenIs-read (λ fs. length fs) n (many (index names s) n q) (λ fs r e. many-length (index names s) n q fs r e))))
+    read-map-bind exprArity (u16 s p) _ _ (λ n q.
+    ap readOf (map-map exprArity (struct i) (many (index names s) n q)) ∙
+    sym (thenIs-read (λ fs. length fs) n (many (index names s) n q) (λ fs r e. many-length (index names s) n q fs r e))))
 
 pub iterate-read : (names : ℕ) (s : List ℕ) (at : ℕ) → readOf (mapA exprArity (iterateFields names s at)) ≡ nextR (readOf (below 2 s at)) (λ k p. nextR (readOf (index names s p)) (λ i q. nextR (readOf (below 2 s q)) (λ b o. nextR (readOf (u16 s o)) (λ n e. rd.Is (b + n) e))))
 unfolding iterateFields exprArity
 iterate-read names s at =
     read-map-bind exprArity (below 2 s at) _ _ (λ k p.
-      read-map-bind exprArity (index names s p) _ _ (λ i q.
-        read-map-bind exprArity (below 2 s q) _ _ (λ b o.
-          read-map-map exprArity (iterate k i b) (u16 s o))))
+    read-map-bind exprArity (index names s p) _ _ (λ i q.
+    read-map-bind exprArity (below 2 s q) _ _ (λ b o.
+    read-map-map exprArity (iterate k i b) (u16 s o))))
 
 pub literal-skip : (s : List ℕ) (at : ℕ) → skip (literal s at) ≡ nextS (readOf (below 4 s at)) (λ tag p. skip (literalOf tag s p))
 unfolding literal
@@ -72,10 +72,10 @@ module _ (names : ℕ) (s : List ℕ) where
   unfolding literal literalOf
   fwd-literal at =
       fwd-bind (length s) at (below 4 s at) _ (fwd-below 4 s at) (λ tag p.
-        fwd-cond (length s) p (eqb tag 0) _ _ (fwd-map (length s) p _ _ (fwd-below 2 s p))
-        (fwd-cond (length s) p (eqb tag 1) _ _ (fwd-map (length s) p _ _ (fwd-u64 s p))
-        (fwd-cond (length s) p (eqb tag 2) _ _ (fwd-map (length s) p _ _ (fwd-u64 s p))
-        (fwd-map (length s) p _ _ (fwd-byte s p)))))
+      fwd-cond (length s) p (eqb tag 0) _ _ (fwd-map (length s) p _ _ (fwd-below 2 s p))
+      (fwd-cond (length s) p (eqb tag 1) _ _ (fwd-map (length s) p _ _ (fwd-u64 s p))
+      (fwd-cond (length s) p (eqb tag 2) _ _ (fwd-map (length s) p _ _ (fwd-u64 s p))
+      (fwd-map (length s) p _ _ (fwd-byte s p)))))
 
   fwd-call : (at : ℕ) → Fwd (length s) at (callFields names s at)
   unfolding callFields
@@ -93,30 +93,61 @@ module _ (names : ℕ) (s : List ℕ) where
   unfolding iterateFields
   fwd-iterate at =
       fwd-bind (length s) at _ _ (fwd-below 2 s at) (λ k p.
-        fwd-bind (length s) p _ _ (fwd-index names s p) (λ i q.
-          fwd-bind (length s) q _ _ (fwd-below 2 s q) (λ b o. fwd-map (length s) o _ _ (fwd-u16 s o))))
+      fwd-bind (length s) p _ _ (fwd-index names s p) (λ i q.
+      fwd-bind (length s) q _ _ (fwd-below 2 s q) (λ b o. fwd-map (length s) o _ _ (fwd-u16 s o))))
 
   fwd-rows : (at : ℕ) → Each (Fwd (length s) at) (exprRows names s at)
   unfolding Each exprRows
   fwd-rows at =
-      let n = length s in
-      (fwd-map n at _ _ (fwd-literal at),
-      (fwd-map n at _ _ (fwd-index names s at),
-      (fwd-map n at _ _ (fwd-below 2 s at),
-      (fwd-map n at _ _ (fwd-below 20 s at),
-      (fwd-value n at _,
-      (fwd-value n at _,
-      (fwd-value n at _,
-      (fwd-call at,
-      (fwd-map n at _ _ (fwd-index names s at),
-      (fwd-value n at _,
-      (fwd-map n at _ _ (fwd-u16 s at),
-      (fwd-map n at _ _ (fwd-u16 s at),
-      (fwd-struct at,
-      (fwd-map n at _ _ (fwd-type names s at),
-      (fwd-when at,
-      (fwd-map n at _ _ (fwd-index names s at),
-      (fwd-iterate at, tt)))))))))))))))))
+      let n = length s in (
+        fwd-map n at _ _ (fwd-literal at),
+        (
+          fwd-map n at _ _ (fwd-index names s at),
+          (
+            fwd-map n at _ _ (fwd-below 2 s at),
+            (
+              fwd-map n at _ _ (fwd-below 20 s at),
+              (
+                fwd-value n at _,
+                (
+                  fwd-value n at _,
+                  (
+                    fwd-value n at _,
+                    (
+                      fwd-call at,
+                      (
+                        fwd-map n at _ _ (fwd-index names s at),
+                        (
+                          fwd-value n at _,
+                          (
+                            fwd-map n at _ _ (fwd-u16 s at),
+                            (
+                              fwd-map n at _ _ (fwd-u16 s at),
+                              (
+                                fwd-struct at,
+                                (
+                                  fwd-map n at _ _ (fwd-type names s at),
+                                  (
+                                    fwd-when at,
+                                    (
+                                      fwd-map n at _ _ (fwd-index names s at),
+                                      (fwd-iterate at, tt),
+                                    ),
+                                  ),
+                                ),
+                              ),
+                            ),
+                          ),
+                        ),
+                      ),
+                    ),
+                  ),
+                ),
+              ),
+            ),
+          ),
+        ),
+      )
 
   fwd-fields : (tag at : ℕ) → Fwd (length s) at (exprFields names tag s at)
   unfolding exprFields
@@ -164,39 +195,70 @@ module _ (names : ℕ) (s : List ℕ) (bytes : (i : ℕ) → getD s i 0 < 256) w
   unfolding structFields exprArity
   few-struct at =
       few-bind (index names s at) _ (λ i p e. few-bind (u16 s p) _ (λ n q d x r f.
-        let m = map-value (struct i) (many (index names s) n q) x r f in
-        let l = many-length (index names s) n q (m .0) r (m .1) in
-        let g = ap exprArity (m .2) in
-        let u = u16-value s p n q d in
-        omega (arith, bytes p, bytes (p + 1))))
+      let m = map-value (struct i) (many (index names s) n q) x r f in
+      let l = many-length (index names s) n q (m .0) r (m .1) in
+      let g = ap exprArity (m .2) in
+      let u = u16-value s p n q d in
+      omega (arith, bytes p, bytes (p + 1))))
 
   few-iterate : (at : ℕ) → Few (iterateFields names s at)
   unfolding iterateFields below exprArity
   few-iterate at =
       few-bind (below 2 s at) _ (λ k p e. few-bind (index names s p) _ (λ i q d. few-bind (below 2 s q) _ (λ b o g.
-        let l : b < 2 = ltb-true b 2 (guard-value _ q _ b o g .1) in
-        few-u16 (iterate k i b) o b (omega arith) (λ x. refl))))
+      let l : b < 2 = ltb-true b 2 (guard-value _ q _ b o g .1) in
+      few-u16 (iterate k i b) o b (omega arith) (λ x. refl))))
 
   few-rows : (at : ℕ) → Each Few (exprRows names s at)
   unfolding Each exprRows exprArity callFields whenFields
-  few-rows at =
-      (few-map _ _ (λ x. omega arith),
-      (few-map _ _ (λ x. omega arith),
-      (few-map _ _ (λ x. omega arith),
-      (few-map _ _ (λ x. omega arith),
-      (few-value _ _ (omega arith),
-      (few-value _ _ (omega arith),
-      (few-value _ _ (omega arith),
-      (few-bind (index names s at) _ (λ i p e. few-u16 _ p 0 (omega arith) (λ x. omega arith)),
-      (few-map _ _ (λ x. omega arith),
-      (few-value _ _ (omega arith),
-      (few-u16 _ at 0 (omega arith) (λ x. omega arith),
-      (few-u16 _ at 0 (omega arith) (λ x. omega arith),
-      (few-struct at,
-      (few-map _ _ (λ x. omega arith),
-      (few-bind (index names s at) _ (λ i p e. few-map _ _ (λ x. omega arith)),
-      (few-map _ _ (λ x. omega arith),
-      (few-iterate at, tt)))))))))))))))))
+  few-rows at = (
+    few-map _ _ (λ x. omega arith),
+    (
+      few-map _ _ (λ x. omega arith),
+      (
+        few-map _ _ (λ x. omega arith),
+        (
+          few-map _ _ (λ x. omega arith),
+          (
+            few-value _ _ (omega arith),
+            (
+              few-value _ _ (omega arith),
+              (
+                few-value _ _ (omega arith),
+                (
+                  few-bind (index names s at) _ (λ i p e. few-u16 _ p 0 (omega arith) (λ x. omega arith)),
+                  (
+                    few-map _ _ (λ x. omega arith),
+                    (
+                      few-value _ _ (omega arith),
+                      (
+                        few-u16 _ at 0 (omega arith) (λ x. omega arith),
+                        (
+                          few-u16 _ at 0 (omega arith) (λ x. omega arith),
+                          (
+                            few-struct at,
+                            (
+                              few-map _ _ (λ x. omega arith),
+                              (
+                                few-bind (index names s at) _ (λ i p e. few-map _ _ (λ x. omega arith)),
+                                (
+                                  few-map _ _ (λ x. omega arith),
+                                  (few-iterate at, tt),
+                                ),
+                              ),
+                            ),
+                          ),
+                        ),
+                      ),
+                    ),
+                  ),
+                ),
+              ),
+            ),
+          ),
+        ),
+      ),
+    ),
+  )
 
   pub expr-small : (at m p : ℕ) → exprMore names s at ≡ value m p → m ≤ 65536
   unfolding exprMore exprHead exprFields

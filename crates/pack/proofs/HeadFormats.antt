@@ -60,8 +60,10 @@ formatLiteral = record { back = back; legal = λ s by at x q e. parts s by at x 
   where
     B : Format (below 4) single (Below 4)
     B = formatBelow 4 (omega arith)
+
     tagged : (s : List ℕ) (at k p : ℕ) (z : Answer Lit) → below 4 s at ≡ value k p → literalOf k s p ≡ z → literal s at ≡ z
     tagged s at k p z e g = bind-to (below 4 s at) k p (λ tag p. literalOf tag s p) z e g
+
     back : (s : List ℕ) (at : ℕ) (x : Lit) (post : List ℕ) → LegalLit x → drop at s ≡ litBytes x ++ post → Back literal s at x post
     back s at (lBool b) post h e =
         let t = B .back s at 0 (flagByte b ∷ post) (omega arith) e in
@@ -79,11 +81,13 @@ formatLiteral = record { back = back; legal = λ s by at x q e. parts s by at x 
         let t = B .back s at 3 (n ∷ post) (omega arith) e in
         let d = formatByte .back s (t .to) n post h (t .rest) in
         record { to = d .to; reads = tagged s at 3 (t .to) _ (t .reads) (ap (mapA lChar) (d .reads)); rest = d .rest }
+
     fields : (s : List ℕ) → Bytes s → (tag p : ℕ) (x : Lit) (q : ℕ) → tag < 4 → literalOf tag s p ≡ value x q → LegalLit x × (tag ∷ drop p s ≡ litBytes x ++ drop q s)
     fields s by tag p x q l e = go (eqb tag 0) (eqb tag 1) (eqb tag 2) refl refl refl e
       where
         is : (k : ℕ) → tag ≡ k → LegalLit x × (k ∷ drop p s ≡ litBytes x ++ drop q s) → LegalLit x × (tag ∷ drop p s ≡ litBytes x ++ drop q s)
         is k t r = (r .0, ap (λ (n : ℕ). n ∷ drop p s) t ∙ r .1)
+
         go : (a b c : Bool) → eqb tag 0 ≡ a → eqb tag 1 ≡ b → eqb tag 2 ≡ c → cond a (mapA (λ b. lBool (flagOf b)) (below 2 s p)) (cond b (mapA lInt (u64 s p)) (cond c (mapA lFloat (u64 s p)) (mapA lChar (byte s p)))) ≡ value x q → LegalLit x × (tag ∷ drop p s ≡ litBytes x ++ drop q s)
         go true b c f g h i = is 0 (eqb-true tag 0 f) (row-was (below 2) single (Below 2) (λ b. lBool (flagOf b)) litBytes LegalLit 0 (formatBelow 2 (omega arith)) (λ v o. (tt, ap (λ (n : ℕ). 0 ∷ n ∷ []) (sym (flag-byte v o)))) s by p x q i)
         go false true c f g h i = is 1 (eqb-true tag 1 g) (row-was u64 (bytes 8) (Below 18446744073709551616) lInt litBytes LegalLit 1 format64 (λ v o. (o, refl)) s by p x q i)
@@ -91,6 +95,7 @@ formatLiteral = record { back = back; legal = λ s by at x q e. parts s by at x 
         go false false false f g h i =
             let a = eqb-false tag 0 f in let b = eqb-false tag 1 g in let c = eqb-false tag 2 h in
             is 3 (omega arith) (row-was byte single (Below 256) lChar litBytes LegalLit 3 formatByte (λ v o. (o, refl)) s by p x q i)
+
     parts : (s : List ℕ) → Bytes s → (at : ℕ) (x : Lit) (q : ℕ) → literal s at ≡ value x q → LegalLit x × (drop at s ≡ litBytes x ++ drop q s)
     parts s by at x q e =
         let b = bind-value (below 4 s at) (λ tag p. literalOf tag s p) x q e in
@@ -171,7 +176,7 @@ module _ (names : ℕ) (small : names ≤ 65536) where
 
   iterateF : Format (both (below 2) (both (index names) (both (below 2) u16))) (λ z. single (z .0) ++ (two (z .1 .0) ++ (single (z .1 .1 .0) ++ two (z .1 .1 .1)))) (λ z. (z .0 < 2) × ((z .1 .0 < names) × ((z .1 .1 .0 < 2) × (z .1 .1 .1 < 65536))))
   iterateF = formatBoth (below 2) (both (index names) (both (below 2) u16)) single (λ y. two (y .0) ++ (single (y .1 .0) ++ two (y .1 .1))) (Below 2) (λ y. (y .0 < names) × ((y .1 .0 < 2) × (y .1 .1 < 65536))) (formatBelow 2 (omega arith))
-    (formatBoth (index names) (both (below 2) u16) two (λ y. single (y .0) ++ two (y .1)) (Below names) (λ y. (y .0 < 2) × (y .1 < 65536)) I
+      (formatBoth (index names) (both (below 2) u16) two (λ y. single (y .0) ++ two (y .1)) (Below names) (λ y. (y .0 < 2) × (y .1 < 65536)) I
       (formatBoth (below 2) u16 single two (Below 2) (Below 65536) (formatBelow 2 (omega arith)) format16))
 
   call-is : (s : List ℕ) (at : ℕ) → callFields names s at ≡ mapA (λ (z : ℕ × ℕ). call (z .0) (z .1)) (both (index names) u16 s at)
@@ -190,8 +195,8 @@ module _ (names : ℕ) (small : names ≤ 65536) where
   unfolding iterateFields
   iterate-is s at =
       seq (below 2) (both (index names) (both (below 2) u16)) _ (λ k (y : ℕ × (ℕ × ℕ)). iterate k (y .0) (y .1 .0) (y .1 .1)) s at (λ k p.
-        seq (index names) (both (below 2) u16) _ (λ i (y : ℕ × ℕ). iterate k i (y .0) (y .1)) s p (λ i q.
-          seq (below 2) u16 _ (iterate k i) s q (λ b o. refl)))
+      seq (index names) (both (below 2) u16) _ (λ i (y : ℕ × ℕ). iterate k i (y .0) (y .1)) s p (λ i q.
+      seq (below 2) u16 _ (iterate k i) s q (λ b o. refl)))
 
   head-back : {A : Type 0} (k : ℕ) → k < 17 → (f : List ℕ → ℕ → Answer A) (e : A → List ℕ) (o : A → Type 0) → Format f e o → (c : A → ExprHead) → ((s : List ℕ) (p : ℕ) → exprFields names k s p ≡ mapA c (f s p)) → (s : List ℕ) (at : ℕ) (x : A) (post : List ℕ) → o x → drop at s ≡ (k ∷ e x) ++ post → Back (exprHead names) s at (c x) post
   unfolding exprHead mapA single
@@ -226,25 +231,58 @@ module _ (names : ℕ) (small : names ≤ 65536) where
 
   rows-was : (s : List ℕ) → Bytes s → (at : ℕ) → Rows (RowWas s at) 0 (exprRows names s at)
   unfolding encHead OkHead exprRows nothing mapA Rows
-  rows-was s by at =
-      (λ h q e. row-was literal litBytes LegalLit const encHead (OkHead names) 0 formatLiteral (λ x o. (o, refl)) s by at h q e,
-      (λ h q e. row-was (index names) two (Below names) var encHead (OkHead names) 1 I (λ x o. (o, refl)) s by at h q e,
-      (λ h q e. row-was (below 2) single (Below 2) unary encHead (OkHead names) 2 (formatBelow 2 (omega arith)) (λ x o. (o, refl)) s by at h q e,
-      (λ h q e. row-was (below 20) single (Below 20) binary encHead (OkHead names) 3 (formatBelow 20 (omega arith)) (λ x o. (o, refl)) s by at h q e,
-      (λ h q e. row-was nothing (λ u. []) (λ u. Unit {0}) (λ u. conditional) encHead (OkHead names) 4 formatNothing (λ x o. (o, refl)) s by at h q e,
-      (λ h q e. row-was nothing (λ u. []) (λ u. Unit {0}) (λ u. previous) encHead (OkHead names) 5 formatNothing (λ x o. (o, refl)) s by at h q e,
-      (λ h q e. row-was nothing (λ u. []) (λ u. Unit {0}) (λ u. arrow) encHead (OkHead names) 6 formatNothing (λ x o. (o, refl)) s by at h q e,
-      (λ h q e. row-was (both (index names) u16) (λ z. two (z .0) ++ two (z .1)) (λ z. (z .0 < names) × (z .1 < 65536)) (λ (z : ℕ × ℕ). call (z .0) (z .1)) encHead (OkHead names) 7 callF (λ x o. (o, refl)) s by at h q (sym (call-is s at) ∙ e),
-      (λ h q e. row-was (index names) two (Below names) field encHead (OkHead names) 8 I (λ x o. (o, refl)) s by at h q e,
-      (λ h q e. row-was nothing (λ u. []) (λ u. Unit {0}) (λ u. element) encHead (OkHead names) 9 formatNothing (λ x o. (o, refl)) s by at h q e,
-      (λ h q e. row-was u16 two (Below 65536) tuple encHead (OkHead names) 10 format16 (λ x o. (o, refl)) s by at h q e,
-      (λ h q e. row-was u16 two (Below 65536) array encHead (OkHead names) 11 format16 (λ x o. (o, refl)) s by at h q e,
-      (λ h q e. row-was (both (index names) (λ s at. counted (index names s) s at)) (λ z. two (z .0) ++ (two (length (z .1)) ++ encAll two (z .1))) (λ z. (z .0 < names) × ((length (z .1) < 65536) × All (Below names) (z .1))) (λ (z : ℕ × List ℕ). struct (z .0) (z .1)) encHead (OkHead names) 12 structF (λ x o. (o, refl)) s by at h q (sym (struct-is s at) ∙ e),
-      (λ h q e. row-was (typeAt names) (encTrees encType) (λ ts. (count ts ≡ 1) × OkTrees (OkType names) typeArity ts) cast encHead (OkHead names) 13 (formatTypes names small) (λ x o. (o, refl)) s by at h q e,
-      (λ h q e. row-was (both (index names) (below 2)) (λ z. two (z .0) ++ single (z .1)) (λ z. (z .0 < names) × (z .1 < 2)) (λ (z : ℕ × ℕ). sample (z .0) (z .1)) encHead (OkHead names) 14 whenF (λ x o. (o, refl)) s by at h q (sym (when-is s at) ∙ e),
-      (λ h q e. row-was (index names) two (Below names) merge encHead (OkHead names) 15 I (λ x o. (o, refl)) s by at h q e,
-      (λ h q e. row-was (both (below 2) (both (index names) (both (below 2) u16))) (λ z. single (z .0) ++ (two (z .1 .0) ++ (single (z .1 .1 .0) ++ two (z .1 .1 .1)))) (λ z. (z .0 < 2) × ((z .1 .0 < names) × ((z .1 .1 .0 < 2) × (z .1 .1 .1 < 65536)))) (λ (z : ℕ × (ℕ × (ℕ × ℕ))). iterate (z .0) (z .1 .0) (z .1 .1 .0) (z .1 .1 .1)) encHead (OkHead names) 16 iterateF (λ x o. (o, refl)) s by at h q (sym (iterate-is s at) ∙ e),
-      tt)))))))))))))))))
+  rows-was s by at = (
+    λ h q e. row-was literal litBytes LegalLit const encHead (OkHead names) 0 formatLiteral (λ x o. (o, refl)) s by at h q e,
+    (
+      λ h q e. row-was (index names) two (Below names) var encHead (OkHead names) 1 I (λ x o. (o, refl)) s by at h q e,
+      (
+        λ h q e. row-was (below 2) single (Below 2) unary encHead (OkHead names) 2 (formatBelow 2 (omega arith)) (λ x o. (o, refl)) s by at h q e,
+        (
+          λ h q e. row-was (below 20) single (Below 20) binary encHead (OkHead names) 3 (formatBelow 20 (omega arith)) (λ x o. (o, refl)) s by at h q e,
+          (
+            λ h q e. row-was nothing (λ u. []) (λ u. Unit {0}) (λ u. conditional) encHead (OkHead names) 4 formatNothing (λ x o. (o, refl)) s by at h q e,
+            (
+              λ h q e. row-was nothing (λ u. []) (λ u. Unit {0}) (λ u. previous) encHead (OkHead names) 5 formatNothing (λ x o. (o, refl)) s by at h q e,
+              (
+                λ h q e. row-was nothing (λ u. []) (λ u. Unit {0}) (λ u. arrow) encHead (OkHead names) 6 formatNothing (λ x o. (o, refl)) s by at h q e,
+                (
+                  λ h q e. row-was (both (index names) u16) (λ z. two (z .0) ++ two (z .1)) (λ z. (z .0 < names) × (z .1 < 65536)) (λ (z : ℕ × ℕ). call (z .0) (z .1)) encHead (OkHead names) 7 callF (λ x o. (o, refl)) s by at h q (sym (call-is s at) ∙ e),
+                  (
+                    λ h q e. row-was (index names) two (Below names) field encHead (OkHead names) 8 I (λ x o. (o, refl)) s by at h q e,
+                    (
+                      λ h q e. row-was nothing (λ u. []) (λ u. Unit {0}) (λ u. element) encHead (OkHead names) 9 formatNothing (λ x o. (o, refl)) s by at h q e,
+                      (
+                        λ h q e. row-was u16 two (Below 65536) tuple encHead (OkHead names) 10 format16 (λ x o. (o, refl)) s by at h q e,
+                        (
+                          λ h q e. row-was u16 two (Below 65536) array encHead (OkHead names) 11 format16 (λ x o. (o, refl)) s by at h q e,
+                          (
+                            λ h q e. row-was (both (index names) (λ s at. counted (index names s) s at)) (λ z. two (z .0) ++ (two (length (z .1)) ++ encAll two (z .1))) (λ z. (z .0 < names) × ((length (z .1) < 65536) × All (Below names) (z .1))) (λ (z : ℕ × List ℕ). struct (z .0) (z .1)) encHead (OkHead names) 12 structF (λ x o. (o, refl)) s by at h q (sym (struct-is s at) ∙ e),
+                            (
+                              λ h q e. row-was (typeAt names) (encTrees encType) (λ ts. (count ts ≡ 1) × OkTrees (OkType names) typeArity ts) cast encHead (OkHead names) 13 (formatTypes names small) (λ x o. (o, refl)) s by at h q e,
+                              (
+                                λ h q e. row-was (both (index names) (below 2)) (λ z. two (z .0) ++ single (z .1)) (λ z. (z .0 < names) × (z .1 < 2)) (λ (z : ℕ × ℕ). sample (z .0) (z .1)) encHead (OkHead names) 14 whenF (λ x o. (o, refl)) s by at h q (sym (when-is s at) ∙ e),
+                                (
+                                  λ h q e. row-was (index names) two (Below names) merge encHead (OkHead names) 15 I (λ x o. (o, refl)) s by at h q e,
+                                  (
+                                    λ h q e. row-was (both (below 2) (both (index names) (both (below 2) u16))) (λ z. single (z .0) ++ (two (z .1 .0) ++ (single (z .1 .1 .0) ++ two (z .1 .1 .1)))) (λ z. (z .0 < 2) × ((z .1 .0 < names) × ((z .1 .1 .0 < 2) × (z .1 .1 .1 < 65536)))) (λ (z : ℕ × (ℕ × (ℕ × ℕ))). iterate (z .0) (z .1 .0) (z .1 .1 .0) (z .1 .1 .1)) encHead (OkHead names) 16 iterateF (λ x o. (o, refl)) s by at h q (sym (iterate-is s at) ∙ e),
+                                    tt,
+                                  ),
+                                ),
+                              ),
+                            ),
+                          ),
+                        ),
+                      ),
+                    ),
+                  ),
+                ),
+              ),
+            ),
+          ),
+        ),
+      ),
+    ),
+  )
 
   rows-at : (s : List ℕ) → Bytes s → (tag p : ℕ) (x : ExprHead) (q : ℕ) → tag < 17 → exprFields names tag s p ≡ value x q → OkHead names x × (tag ∷ drop p s ≡ encHead x ++ drop q s)
   unfolding exprFields exprRows
@@ -256,8 +294,10 @@ module _ (names : ℕ) (small : names ≤ 65536) where
     where
       T : Format (below 17) single (Below 17)
       T = formatBelow 17 (omega arith)
+
       fields : (s : List ℕ) → Bytes s → (tag p : ℕ) (x : ExprHead) (q : ℕ) → tag < 17 → exprFields names tag s p ≡ value x q → OkHead names x × (tag ∷ drop p s ≡ encHead x ++ drop q s)
       fields s by tag p x q l e = rows-at s by tag p x q l e
+
       parts : (s : List ℕ) → Bytes s → (at : ℕ) (x : ExprHead) (q : ℕ) → exprHead names s at ≡ value x q → OkHead names x × (drop at s ≡ encHead x ++ drop q s)
       parts s by at x q e =
           let b = bind-value (below 17 s at) (λ tag p. exprFields names tag s p) x q e in

@@ -102,6 +102,7 @@ octets-lit (lChar n) h = small-cons 3 _ (omega arith) (small-one n h)
 
 mutual
   unfolding Formed FormedAll exprItems exprsItems Octets
+
   octets-expr : (e : Expr) → Formed e → Octets (exprItems e)
   octets-expr (eConst l) o = (small-cons 0 _ (omega arith) (octets-lit l o), tt)
   octets-expr (eVar x) o = (small-one 1 (omega arith), tt)
@@ -149,6 +150,7 @@ in-deeper P Q f (suc l) h = f l h
 
 mutual
   unfolding FormedStates FormedRegions drawnItems regionItems Octets
+
   octets-states : (d : Drawn) (levels : ℕ) → FormedStates d levels → Octets (drawnItems d)
   octets-states dNil levels o = tt
   octets-states (dCons s es ts rs f rest) levels o =
@@ -214,9 +216,9 @@ pub encode-bytes : (p : Package) → Legal p → Bytes (encode p)
 unfolding tabled
 encode-bytes p o =
     small-at (encode p) (subst Small (sym (encode-known p (o .known)))
-      (all-append (Below 256) (two (length (p .names)) ++ enc (p .names)) (code (p .names) (packageItems p))
-        (all-append (Below 256) (two (length (p .names))) (enc (p .names)) (small-two (length (p .names))) (small-enc (p .names) (o .names)))
-        (octets-code (p .names) (packageItems p) (octets-package p (o .formed)))))
+    (all-append (Below 256) (two (length (p .names)) ++ enc (p .names)) (code (p .names) (packageItems p))
+    (all-append (Below 256) (two (length (p .names))) (enc (p .names)) (small-two (length (p .names))) (small-enc (p .names) (o .names)))
+    (octets-code (p .names) (packageItems p) (octets-package p (o .formed)))))
 
 pub ready-bytes : (p : Package) → Ready p → Bytes (encode p)
 ready-bytes p o = subst Bytes (complete-encode p) (encode-bytes (completed p) (ready-legal p o))

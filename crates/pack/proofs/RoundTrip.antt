@@ -39,18 +39,18 @@ module _ (ns : List Name) (fresh : Fresh [] ns) (small : length ns < 65536) wher
   pub fmtBody : Fmt ns (bodyIn ns) packageItems (Under ns)
   unfolding bodyIn packageItems
   fmtBody = fmtRecord ns (both (λ s at. counted (enumIn ns s) s at) (both (λ s at. counted (nodeIn ns s) s at) (both (λ s at. counted (machineIn ns s) s at) (both (λ s at. counted (activationIn ns s) s at) (λ s at. counted (originIn ns s) s at)))))
-    (λ z. (list enumItems) (z .0) ++ ((list nodeItems) (z .1 .0) ++ ((list machineItems) (z .1 .1 .0) ++ ((list activationItems) (z .1 .1 .1 .0) ++ (list originItems) (z .1 .1 .1 .1)))))
-    (λ z. (Listed ShapedEnum) (z .0) × ((Listed ShapedNode) (z .1 .0) × ((Listed ShapedMachine) (z .1 .1 .0) × ((Listed ShapedActivation) (z .1 .1 .1 .0) × (Listed ShapedOrigin) (z .1 .1 .1 .1)))))
-    (bodyIn ns)
-    (λ (z : List Enum × (List Node × (List Drawing × (List Activation × List Origin)))). record { names = ns; enums = z .0; nodes = z .1 .0; machines = z .1 .1 .0; activations = z .1 .1 .1 .0; origins = z .1 .1 .1 .1 })
-    (λ (y : Package). (y .enums, (y .nodes, (y .machines, (y .activations, y .origins)))))
-    packageItems (Under ns)
-    (fmtBoth ns (λ s at. counted (enumIn ns s) s at) _ (list enumItems) _ (Listed ShapedEnum) _ (fmtCounted ns (enumIn ns) enumItems ShapedEnum (fmtEnum ns fresh small)) (fmtBoth ns (λ s at. counted (nodeIn ns s) s at) _ (list nodeItems) _ (Listed ShapedNode) _ (fmtCounted ns (nodeIn ns) nodeItems ShapedNode (fmtNode ns fresh small)) (fmtBoth ns (λ s at. counted (machineIn ns s) s at) _ (list machineItems) _ (Listed ShapedMachine) _ (fmtCounted ns (machineIn ns) machineItems ShapedMachine (fmtMachine ns fresh small)) (fmtBoth ns (λ s at. counted (activationIn ns s) s at) (λ s at. counted (originIn ns s) s at) (list activationItems) (list originItems) (Listed ShapedActivation) (Listed ShapedOrigin) (fmtCounted ns (activationIn ns) activationItems ShapedActivation (fmtActivation ns fresh small)) (fmtCounted ns (originIn ns) originItems ShapedOrigin (fmtOrigin ns fresh small))))))
-    (λ s at. seq (λ s at. counted (enumIn ns s) s at) (both (λ s at. counted (nodeIn ns s) s at) (both (λ s at. counted (machineIn ns s) s at) (both (λ s at. counted (activationIn ns s) s at) (λ s at. counted (originIn ns s) s at)))) _ (λ (v0 : List Enum) (z : List Node × (List Drawing × (List Activation × List Origin))). record { names = ns; enums = v0; nodes = z .0; machines = z .1 .0; activations = z .1 .1 .0; origins = z .1 .1 .1 }) s at (λ v0 p1. seq (λ s at. counted (nodeIn ns s) s at) (both (λ s at. counted (machineIn ns s) s at) (both (λ s at. counted (activationIn ns s) s at) (λ s at. counted (originIn ns s) s at))) _ (λ (v1 : List Node) (z : List Drawing × (List Activation × List Origin)). record { names = ns; enums = v0; nodes = v1; machines = z .0; activations = z .1 .0; origins = z .1 .1 }) s p1 (λ v1 p2. seq (λ s at. counted (machineIn ns s) s at) (both (λ s at. counted (activationIn ns s) s at) (λ s at. counted (originIn ns s) s at)) _ (λ (v2 : List Drawing) (z : List Activation × List Origin). record { names = ns; enums = v0; nodes = v1; machines = v2; activations = z .0; origins = z .1 }) s p2 (λ v2 p3. seq (λ s at. counted (activationIn ns s) s at) (λ s at. counted (originIn ns s) s at) _ (λ (v3 : List Activation) (z : List Origin). record { names = ns; enums = v0; nodes = v1; machines = v2; activations = v3; origins = z }) s p3 (λ v3 p4. refl)))))
-    (λ y h. (h .1 .0, (h .1 .1, (h .1 .2, (h .1 .3, h .1 .4)))))
-    (λ y h. λ j. record { names = sym (h .0) j; enums = y .enums; nodes = y .nodes; machines = y .machines; activations = y .activations; origins = y .origins })
-    (λ x h. (refl, (h .0, h .1 .0, h .1 .1 .0, h .1 .1 .1 .0, h .1 .1 .1 .1)))
-    (λ x h. refl)
+      (λ z. (list enumItems) (z .0) ++ ((list nodeItems) (z .1 .0) ++ ((list machineItems) (z .1 .1 .0) ++ ((list activationItems) (z .1 .1 .1 .0) ++ (list originItems) (z .1 .1 .1 .1)))))
+      (λ z. (Listed ShapedEnum) (z .0) × ((Listed ShapedNode) (z .1 .0) × ((Listed ShapedMachine) (z .1 .1 .0) × ((Listed ShapedActivation) (z .1 .1 .1 .0) × (Listed ShapedOrigin) (z .1 .1 .1 .1)))))
+      (bodyIn ns)
+      (λ (z : List Enum × (List Node × (List Drawing × (List Activation × List Origin)))). record { names = ns; enums = z .0; nodes = z .1 .0; machines = z .1 .1 .0; activations = z .1 .1 .1 .0; origins = z .1 .1 .1 .1 })
+      (λ (y : Package). (y .enums, (y .nodes, (y .machines, (y .activations, y .origins)))))
+      packageItems (Under ns)
+      (fmtBoth ns (λ s at. counted (enumIn ns s) s at) _ (list enumItems) _ (Listed ShapedEnum) _ (fmtCounted ns (enumIn ns) enumItems ShapedEnum (fmtEnum ns fresh small)) (fmtBoth ns (λ s at. counted (nodeIn ns s) s at) _ (list nodeItems) _ (Listed ShapedNode) _ (fmtCounted ns (nodeIn ns) nodeItems ShapedNode (fmtNode ns fresh small)) (fmtBoth ns (λ s at. counted (machineIn ns s) s at) _ (list machineItems) _ (Listed ShapedMachine) _ (fmtCounted ns (machineIn ns) machineItems ShapedMachine (fmtMachine ns fresh small)) (fmtBoth ns (λ s at. counted (activationIn ns s) s at) (λ s at. counted (originIn ns s) s at) (list activationItems) (list originItems) (Listed ShapedActivation) (Listed ShapedOrigin) (fmtCounted ns (activationIn ns) activationItems ShapedActivation (fmtActivation ns fresh small)) (fmtCounted ns (originIn ns) originItems ShapedOrigin (fmtOrigin ns fresh small))))))
+      (λ s at. seq (λ s at. counted (enumIn ns s) s at) (both (λ s at. counted (nodeIn ns s) s at) (both (λ s at. counted (machineIn ns s) s at) (both (λ s at. counted (activationIn ns s) s at) (λ s at. counted (originIn ns s) s at)))) _ (λ (v0 : List Enum) (z : List Node × (List Drawing × (List Activation × List Origin))). record { names = ns; enums = v0; nodes = z .0; machines = z .1 .0; activations = z .1 .1 .0; origins = z .1 .1 .1 }) s at (λ v0 p1. seq (λ s at. counted (nodeIn ns s) s at) (both (λ s at. counted (machineIn ns s) s at) (both (λ s at. counted (activationIn ns s) s at) (λ s at. counted (originIn ns s) s at))) _ (λ (v1 : List Node) (z : List Drawing × (List Activation × List Origin)). record { names = ns; enums = v0; nodes = v1; machines = z .0; activations = z .1 .0; origins = z .1 .1 }) s p1 (λ v1 p2. seq (λ s at. counted (machineIn ns s) s at) (both (λ s at. counted (activationIn ns s) s at) (λ s at. counted (originIn ns s) s at)) _ (λ (v2 : List Drawing) (z : List Activation × List Origin). record { names = ns; enums = v0; nodes = v1; machines = v2; activations = z .0; origins = z .1 }) s p2 (λ v2 p3. seq (λ s at. counted (activationIn ns s) s at) (λ s at. counted (originIn ns s) s at) _ (λ (v3 : List Activation) (z : List Origin). record { names = ns; enums = v0; nodes = v1; machines = v2; activations = v3; origins = z }) s p3 (λ v3 p4. refl)))))
+      (λ y h. (h .1 .0, (h .1 .1, (h .1 .2, (h .1 .3, h .1 .4)))))
+      (λ y h. λ j. record { names = sym (h .0) j; enums = y .enums; nodes = y .nodes; machines = y .machines; activations = y .activations; origins = y .origins })
+      (λ x h. (refl, (h .0, h .1 .0, h .1 .1 .0, h .1 .1 .1 .0, h .1 .1 .1 .1)))
+      (λ x h. refl)
 
 -- the bytes of a package whose names are all in its table
 unfoldable pub tabled : Package → List ℕ
@@ -89,9 +89,10 @@ pack-was s by at p q e =
   where
     go : (ns : List Name) (r : ℕ) → LegalTable ns → drop at s ≡ (two (length ns) ++ enc ns) ++ drop r s → Under ns p × Each (Known ns) (packageItems p) → drop r s ≡ code ns (packageItems p) ++ drop q s → Sound p × (drop at s ≡ ((two (length (p .names)) ++ enc (p .names)) ++ code (p .names) (packageItems p)) ++ drop q s)
     go ns r t a l c =
-        let n : ns ≡ p .names = sym (l .0 .0) in
-        (record { table = subst LegalTable n t; shape = l .0 .1; known = subst (λ (m : List Name). Each (Known m) (packageItems p)) n (l .1) },
-        a ∙ ap (λ (x : List ℕ). (two (length ns) ++ enc ns) ++ x) c ∙ sym (append-assoc (two (length ns) ++ enc ns) (code ns (packageItems p)) (drop q s)) ∙ ap (λ (m : List Name). ((two (length m) ++ enc m) ++ code m (packageItems p)) ++ drop q s) n)
+        let n : ns ≡ p .names = sym (l .0 .0) in (
+          record { table = subst LegalTable n t; shape = l .0 .1; known = subst (λ (m : List Name). Each (Known m) (packageItems p)) n (l .1) },
+          a ∙ ap (λ (x : List ℕ). (two (length ns) ++ enc ns) ++ x) c ∙ sym (append-assoc (two (length ns) ++ enc ns) (code ns (packageItems p)) (drop q s)) ∙ ap (λ (m : List Name). ((two (length m) ++ enc m) ++ code m (packageItems p)) ++ drop q s) n,
+        )
 
 -- a legal name takes two bytes of the table
 enc-long : (ns : List Name) → All LegalName ns → length ns + length ns ≤ length (enc ns)
@@ -187,12 +188,13 @@ ready-legal p o =
     let n : r .now ≡ newNames p = sym (new-is p) in
     let f : Fresh (p .names) (newNames p) = subst (Fresh (p .names)) n (r .fresh tt) in
     let a : All LegalName (newNames p) = subst (All LegalName) n (r .legal tt (o .used)) in
-    record
-      { fresh = fresh-append [] (p .names) (newNames p) (o .fresh) f
-      ; names = all-append LegalName (p .names) (newNames p) (o .names) a
-      ; known = known-completed p
-      ; formed = o .formed
-      ; fits = subst (λ (l : List ℕ). length l ≤ maxBytes) (sym (complete-encode p)) (o .fits) }
+    record {
+      fresh = fresh-append [] (p .names) (newNames p) (o .fresh) f;
+      names = all-append LegalName (p .names) (newNames p) (o .names) a;
+      known = known-completed p;
+      formed = o .formed;
+      fits = subst (λ (l : List ℕ). length l ≤ maxBytes) (sym (complete-encode p)) (o .fits);
+    }
 
 pub read-back-completed : (p : Package) → Ready p → read (encode p) ≡ whole (completed p)
 read-back-completed p o = ap read (sym (complete-encode p)) ∙ read-back (completed p) (ready-legal p o)

@@ -32,17 +32,29 @@ c = 99 ∷ 95 ∷ 57 ∷ []
 
 -- the table has its names in the order c, a, b
 unfoldable pub some-package : Package
-some-package = record
-  { names = c ∷ a ∷ b ∷ []
-  ; enums = record { name = a; variants = b ∷ c ∷ [] } ∷ []
-  ; nodes = record
-    { name = b; kind = kOperator; inputs = record { name = a; ty = tArray 300 (tNamed b) } ∷ []; outputs = []; locals = []
-    ; equations = record { lhs = a ∷ c ∷ []; rhs = eIf (eBinary oShr (eVar a) (eConst (lInt 500))) (eStruct a (b ∷ []) (xCons (eCast tChar (eConst (lChar 200))) xNil)) (eIterate iFold b true (xCons (ePre (eVar c)) xNil)) } ∷ [] } ∷ []
-  ; machines = record
-    { name = c; owner = some b; inputs = []; outputs = []; locals = []; initial = a
-    ; states = dCons a [] (record { guard = eVar b; target = a } ∷ []) (qCons c true (dCons c [] [] qNil none dNil) qNil) (some c) dNil } ∷ []
-  ; activations = record { name = a; owner = b; outputs = []; branches = record { name = c; condition = eWhen (eVar a) b true; equations = [] } ∷ []; otherwise = [] } ∷ []
-  ; origins = record { node = b; kind = ofActivation; name = a; first = 65535; after = 7; branches = c ∷ [] } ∷ [] }
+some-package = record {
+  names = c ∷ a ∷ b ∷ [];
+  enums = record { name = a; variants = b ∷ c ∷ [] } ∷ [];
+  nodes = record {
+    name = b;
+    kind = kOperator;
+    inputs = record { name = a; ty = tArray 300 (tNamed b) } ∷ [];
+    outputs = [];
+    locals = [];
+    equations = record { lhs = a ∷ c ∷ []; rhs = eIf (eBinary oShr (eVar a) (eConst (lInt 500))) (eStruct a (b ∷ []) (xCons (eCast tChar (eConst (lChar 200))) xNil)) (eIterate iFold b true (xCons (ePre (eVar c)) xNil)) } ∷ [];
+  } ∷ [];
+  machines = record {
+    name = c;
+    owner = some b;
+    inputs = [];
+    outputs = [];
+    locals = [];
+    initial = a;
+    states = dCons a [] (record { guard = eVar b; target = a } ∷ []) (qCons c true (dCons c [] [] qNil none dNil) qNil) (some c) dNil;
+  } ∷ [];
+  activations = record { name = a; owner = b; outputs = []; branches = record { name = c; condition = eWhen (eVar a) b true; equations = [] } ∷ []; otherwise = [] } ∷ [];
+  origins = record { node = b; kind = ofActivation; name = a; first = 65535; after = 7; branches = c ∷ [] } ∷ [];
+}
 
 reads : Read.read (Write.encode some-package) ≡ Read.whole some-package
 unfolding some-package Limits.maxBytes Limits.maxLevel Limits.maxName Limits.absent Names.eqName Names.member Forms.typeArity Forms.typeFields Forms.typeHead Forms.typeAt Forms.exprArity Forms.flagOf Forms.literalOf Forms.literal Forms.callFields Forms.structFields Forms.whenFields Forms.iterateFields Forms.exprRows Forms.exprFields Forms.exprHead Forms.exprAt Forms.nameAt Forms.plainTypes Forms.typeOver Forms.typeOf Forms.firstType Forms.unOps Forms.binOps Forms.iterKinds Forms.nth Forms.namesAt Forms.exprOver Forms.exprOf Forms.exprsOf Read.nameByte Read.char Read.size Read.name Read.namesAfter Read.nameSection Read.nameIn Read.optional Read.optionalIn Read.namesIn Read.typeIn Read.exprIn Read.portIn Read.portsIn Read.equationIn Read.equationsIn Read.enumIn Read.kindOf Read.nodeIn Read.transitionIn Read.drawnOf Read.regionsOf Read.stateWith Read.regionAt Read.stateAt Read.machineIn Read.branchIn Read.activationIn Read.originKind Read.originIn Read.packAt Read.readingOf Read.read Write.one Write.flagByte Write.each Write.list Write.nameItems Write.optionItems Write.tyItems Write.litBytes Write.unByte Write.binByte Write.iterByte Write.countOf Write.arrays Write.exprItems Write.exprsItems Write.portItems Write.equationItems Write.transitionItems Write.enumItems Write.kindByte Write.nodeItems Write.drawnCount Write.regionCount Write.drawnItems Write.regionItems Write.machineItems Write.branchItems Write.activationItems Write.originByte Write.originItems Write.packageItems Write.enc Write.lookup Write.newIn Write.oldIn Write.spellOne Write.before Write.andThen Write.spell Write.joined Write.encode Answer.bind Answer.mapA Answer.guard Answer.byte Answer.u16 Answer.u32 Answer.u64 Answer.index Answer.below Answer.many Answer.counted Preorder.trees Bytes.bytes Bytes.two

@@ -247,16 +247,17 @@ unfolding code Each
 name-step olds n is ns ms v extra g e p l f a r =
     let pl : place (olds ++ r .now) n ≡ v = ap (λ (x : List Name). place (olds ++ x) n) (r .grows) ∙ p (r .more) in
     let le : length (olds ++ r .now) ≡ length olds + (length ms + length (r .more)) = ap (λ (x : List Name). length (olds ++ x)) (r .grows) ∙ simp length-append in
-    record
-      { now = r .now
-      ; more = extra ++ r .more
-      ; bytes = two v ++ r .bytes
-      ; grows = r .grows ∙ ap (λ (x : List Name). x ++ r .more) g ∙ append-assoc ns extra (r .more)
-      ; spells = spell-step olds (nm n) is ns ms (r .now) (two v) (r .bytes) e (r .spells)
-      ; same = ap (λ (x : List ℕ). two v ++ x) (r .same) ∙ ap (λ (k : ℕ). two k ++ code (olds ++ r .now) is) (sym pl)
-      ; each = (omega arith, r .each)
-      ; fresh = λ h. r .fresh (f h)
-      ; legal = λ h k. r .legal (a h (k .0)) (k .1) }
+    record {
+      now = r .now;
+      more = extra ++ r .more;
+      bytes = two v ++ r .bytes;
+      grows = r .grows ∙ ap (λ (x : List Name). x ++ r .more) g ∙ append-assoc ns extra (r .more);
+      spells = spell-step olds (nm n) is ns ms (r .now) (two v) (r .bytes) e (r .spells);
+      same = ap (λ (x : List ℕ). two v ++ x) (r .same) ∙ ap (λ (k : ℕ). two k ++ code (olds ++ r .now) is) (sym pl);
+      each = (omega arith, r .each);
+      fresh = λ h. r .fresh (f h);
+      legal = λ h k. r .legal (a h (k .0)) (k .1);
+    }
 
 pub complete : (olds : List Name) (is : List Item) (ns : List Name) → Completed olds is ns
 unfolding spell code Each spellOne
@@ -296,7 +297,7 @@ unfolding name size char single
 formatName =
     formatSame name _ _ (λ n. length n ∷ n) LegalName
     (formatTimes size single (λ n. (n < 256) × (ltb 0 n ≡ true)) (formatGuard byte single (Below 256) (λ n. ltb 0 n) formatByte)
-      char single (λ b. (b < 256) × (nameByte b ≡ true)) (formatGuard byte single (Below 256) nameByte formatByte))
+    char single (λ b. (b < 256) × (nameByte b ≡ true)) (formatGuard byte single (Below 256) nameByte formatByte))
     (λ n h. ((h .1, lt-ltb 0 (length n) (h .0)), all-map (λ b. nameByte b ≡ true) (λ b. (b < 256) × (nameByte b ≡ true)) n (λ b k. (nameByte-small b k, k)) (h .2)))
     (λ n h. (ltb-true 0 (length n) (h .0 .1), h .0 .0, all-map (λ b. (b < 256) × (nameByte b ≡ true)) (λ b. nameByte b ≡ true) n (λ b k. k .1) (h .1)))
     (λ n h. ap (λ (l : List ℕ). length n ∷ l) (encAll-single n))
@@ -319,9 +320,14 @@ module _ (s : List ℕ) where
   names-was by (suc n) at t ns q e =
       let b = bind-value (guard (λ y. not (member y t)) at (name s at)) _ ns q e in
       let g = guard-value (λ y. not (member y t)) at (name s at) (b .0) (b .1) (b .2) in
-      let r = names-was by n (b .1) (t ++ (b .0 ∷ [])) ns q (b .3) in
-      (b .0 ∷ r .0, r .1 ∙ append-assoc t (b .0 ∷ []) (r .0), ap suc (r .2), (not-true (member (b .0) t) (g .1), r .3), (formatName .legal s by at (b .0) (b .1) (g .0), r .4),
-      formatName .was s by at (b .0) (b .1) (g .0) ∙ ap (λ (l : List ℕ). length (b .0) ∷ (b .0 ++ l)) (r .5) ∙ ap (λ (l : List ℕ). length (b .0) ∷ l) (sym (append-assoc (b .0) (enc (r .0)) (drop q s))))
+      let r = names-was by n (b .1) (t ++ (b .0 ∷ [])) ns q (b .3) in (
+        b .0 ∷ r .0,
+        r .1 ∙ append-assoc t (b .0 ∷ []) (r .0),
+        ap suc (r .2),
+        (not-true (member (b .0) t) (g .1), r .3),
+        (formatName .legal s by at (b .0) (b .1) (g .0), r .4),
+        formatName .was s by at (b .0) (b .1) (g .0) ∙ ap (λ (l : List ℕ). length (b .0) ∷ (b .0 ++ l)) (r .5) ∙ ap (λ (l : List ℕ). length (b .0) ∷ l) (sym (append-assoc (b .0) (enc (r .0)) (drop q s))),
+      )
 
 pub formatNames : Format nameSection (λ ns. two (length ns) ++ enc ns) LegalTable
 unfolding nameSection
@@ -332,14 +338,16 @@ formatNames = record { back = back; legal = λ s by at x q e. parts s by at x q 
         let b = format16 .back s at (length ns) (enc ns ++ post) (o .0) (e ∙ append-assoc (two (length ns)) (enc ns) post) in
         let d = names-back s ns [] (b .to) post (o .1) (o .2) (b .rest) in
         record { to = d .to; reads = bind-to (u16 s at) (length ns) (b .to) _ _ (b .reads) (d .reads); rest = d .rest }
+
     parts : (s : List ℕ) → Bytes s → (at : ℕ) (ns : List Name) (q : ℕ) → nameSection s at ≡ value ns q → LegalTable ns × (drop at s ≡ (two (length ns) ++ enc ns) ++ drop q s)
     parts s by at ns q e =
         let b = bind-value (u16 s at) (λ n p. namesAfter s [] n p) ns q e in
         let r = names-was s by (b .0) (b .1) [] ns q (b .3) in
         let k = format16 .legal s by at (b .0) (b .1) (b .2) in
-        subst (λ (y : List Name). LegalTable y × (drop at s ≡ (two (length y) ++ enc y) ++ drop q s)) (sym (r .1))
-        ((omega (arith, r .2), r .3, r .4),
-        format16 .was s by at (b .0) (b .1) (b .2) ∙ ap (λ (n : ℕ). two n ++ drop (b .1) s) (sym (r .2)) ∙ ap (λ (l : List ℕ). two (length (r .0)) ++ l) (r .5) ∙ sym (append-assoc (two (length (r .0))) (enc (r .0)) (drop q s)))
+        subst (λ (y : List Name). LegalTable y × (drop at s ≡ (two (length y) ++ enc y) ++ drop q s)) (sym (r .1)) (
+          (omega (arith, r .2), r .3, r .4),
+          format16 .was s by at (b .0) (b .1) (b .2) ∙ ap (λ (n : ℕ). two n ++ drop (b .1) s) (sym (r .2)) ∙ ap (λ (l : List ℕ). two (length (r .0)) ++ l) (r .5) ∙ sym (append-assoc (two (length (r .0))) (enc (r .0)) (drop q s)),
+        )
 
 pub enc-append : (a b : List Name) → enc (a ++ b) ≡ enc a ++ enc b
 unfolding enc

@@ -89,8 +89,8 @@ module _ (ns : List Name) where
     pub fmtName : Fmt ns (nameIn ns) nameItems Any
     unfolding nameIn nameItems code Each
     fmtName = formatMap (index (length ns)) two (Below (length ns)) (nameAt ns) (place ns) (λ n. code ns (nameItems n)) (λ n. Any n × Each (Known ns) (nameItems n)) (formatIndex (length ns) small)
-      (λ n h. (h .1 .0, name-at-place ns n (h .1 .0)))
-      (λ i h. let g = place-at-name ns i fresh h in ((tt, (omega arith, tt)), ap two (sym g) ∙ sym (append-nil (two (place ns (nameAt ns i))))))
+        (λ n h. (h .1 .0, name-at-place ns n (h .1 .0)))
+        (λ i h. let g = place-at-name ns i fresh h in ((tt, (omega arith, tt)), ap two (sym g) ∙ sym (append-nil (two (place ns (nameAt ns i))))))
 
 -- each of a list at its place
 unfoldable pub Rows : {A : Type 0} → (ℕ → A → Type 0) → ℕ → List A → Type 0
@@ -129,6 +129,7 @@ formatType names small = record { back = back; legal = λ s by at x q e. parts s
   where
     B : Format (below 14) single (Below 14)
     B = formatBelow 14 (omega arith)
+
     back : (s : List ℕ) (at : ℕ) (x : TypeHead) (post : List ℕ) → OkType names x → drop at s ≡ encType x ++ post → Back (typeHead names) s at x post
     back s at (plain t) post h e =
         let b = B .back s at t post (omega arith) e in
@@ -145,6 +146,7 @@ formatType names small = record { back = back; legal = λ s by at x q e. parts s
         let b = B .back s at 13 (two i ++ post) (omega arith) e in
         let d = formatIndex names small .back s (b .to) i post h (b .rest) in
         record { to = d .to; reads = bind-to (below 14 s at) 13 (b .to) (λ tag p. typeFields names tag s p) _ (b .reads) (ap (mapA named) (d .reads)); rest = d .rest }
+
     fields : (s : List ℕ) → Bytes s → (tag p : ℕ) (x : TypeHead) (q : ℕ) → tag < 14 → typeFields names tag s p ≡ value x q → OkType names x × (tag ∷ drop p s ≡ encType x ++ drop q s)
     fields s by tag p x q l e = go (eqb tag 12) (eqb tag 13) refl refl e
       where
@@ -163,6 +165,7 @@ formatType names small = record { back = back; legal = λ s by at x q e. parts s
             let a = eqb-false tag 12 f in
             let b = eqb-false tag 13 g in
             subst (λ (y : TypeHead). OkType names y × (tag ∷ drop p s ≡ encType y ++ drop q s)) y (omega arith, ap (λ (k : ℕ). tag ∷ drop k s) t)
+
     parts : (s : List ℕ) → Bytes s → (at : ℕ) (x : TypeHead) (q : ℕ) → typeHead names s at ≡ value x q → OkType names x × (drop at s ≡ encType x ++ drop q s)
     parts s by at x q e =
         let b = bind-value (below 14 s at) (λ tag p. typeFields names tag s p) x q e in
@@ -231,6 +234,7 @@ module _ (ns : List Name) where
 
     mutual
       unfolding OkTree OkTrees encTree encTrees count typeOf firstType
+
       pub type-up : (t : Tree TypeHead) → OkTree (OkType (length ns)) typeArity t → TyUp (encTree encType t) (typeOf ns t)
       type-up (node h ts) o = over-up h ts (o .0) (o .1) (λ e. first-up ts (o .2) e)
 
@@ -245,5 +249,5 @@ module _ (ns : List Name) where
       pub fmtType : Fmt ns (typeIn ns) tyItems ShapedTy
       unfolding typeIn firstType count OkTrees
       fmtType = formatMap (typeAt (length ns)) (encTrees encType) (λ ts. (count ts ≡ 1) × OkTrees (OkType (length ns)) typeArity ts) (firstType ns) (λ t. cons (tyTree ns t) nil) (λ t. code ns (tyItems t)) (λ t. ShapedTy t × Each (Known ns) (tyItems t)) (formatTypes (length ns) small)
-        (λ t h. let r = ty-down t (h .0) (h .1) in ((refl, (r .0, tt)), r .1))
-        (λ ts h. let u = first-up ts (h .1) (h .0) in ((u .0, u .1), u .2))
+          (λ t h. let r = ty-down t (h .0) (h .1) in ((refl, (r .0, tt)), r .1))
+          (λ ts h. let u = first-up ts (h .1) (h .0) in ((u .0, u .1), u .2))

@@ -165,7 +165,7 @@ unfoldable pub machineItems : Drawing → List Item
 machineItems m =
     nm (m .name)
     ∷ (optionItems (m .owner) ++ (list portItems (m .inputs) ++ (list portItems (m .outputs) ++ (list portItems (m .locals)
-        ++ (nm (m .initial) ∷ raw (two (drawnCount (m .states))) ∷ drawnItems (m .states))))))
+    ++ (nm (m .initial) ∷ raw (two (drawnCount (m .states))) ∷ drawnItems (m .states))))))
 
 unfoldable pub branchItems : Branch → List Item
 branchItems b = nm (b .name) ∷ (exprItems (b .condition) ++ list equationItems (b .equations))

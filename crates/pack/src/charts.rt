@@ -1,8 +1,14 @@
 // Charts: a state reads its regions and a region reads its states, each call one level nearer the limit.
-use crate::parts::{then_equations, then_name, then_optional, then_transitions};
+use crate::parts::then_equations;
+use crate::parts::then_name;
+use crate::parts::then_optional;
+use crate::parts::then_transitions;
 use crate::record::Pack;
-use wire::answer::{left, too_deep, Skipped};
-use wire::number::{then_below, then_count};
+use wire::answer::Skipped;
+use wire::answer::left;
+use wire::answer::too_deep;
+use wire::number::then_below;
+use wire::number::then_count;
 ghost use mathlib.Core.List.{List};
 ghost use mathlib.Core.Path.{_≡_};
 ghost use Prim.Native.Nat.{ℕ, _≤_};

@@ -1,8 +1,13 @@
 // The check: what a byte slice is as a pack, and where its sections stand.
 use crate::names::skip_names;
 use crate::record::Pack;
-use crate::sections::{then_activations, then_enums, then_machines, then_nodes, then_origins};
-use wire::answer::{Read, Skipped};
+use crate::sections::then_activations;
+use crate::sections::then_enums;
+use crate::sections::then_machines;
+use crate::sections::then_nodes;
+use crate::sections::then_origins;
+use wire::answer::Read;
+use wire::answer::Skipped;
 use wire::number::read_u16;
 ghost use mathlib.Core.List.{List};
 ghost use mathlib.Core.Path.{_≡_};
@@ -58,7 +63,11 @@ fn judged(r: Skipped, len: usize) -> Verdict
 {
     match r {
         Skipped::To(at) => {
-            if at < len { Verdict::After(at) } else { Verdict::Whole }
+            if at < len {
+                Verdict::After(at)
+            } else {
+                Verdict::Whole
+            }
         }
         Skipped::Early => Verdict::EndsEarly,
         Skipped::Illegal(o) => Verdict::Illegal(o),
@@ -88,7 +97,10 @@ fn read_sections(s: &[u8]) -> Opened
         origins: offset(e),
         end: offset(f),
     };
-    Opened { verdict: judged(f, s.len()), pack }
+    Opened {
+        verdict: judged(f, s.len()),
+        pack,
+    }
 }
 
 // Reads a pack: the verdict on every byte slice, and the record of where the sections of a whole pack stand.
@@ -97,7 +109,10 @@ pub fn read_pack(s: &[u8]) -> Opened
     ensures { λ r. ⌜ ((p : Package) → read (now (s .entry)) ≡ whole p → Stands (now (s .entry)) (r .pack) p) ⌝ }
 {
     if Pack::BYTES < s.len() {
-        return Opened { verdict: Verdict::TooLong, pack: Pack::empty() };
+        return Opened {
+            verdict: Verdict::TooLong,
+            pack: Pack::empty(),
+        };
     }
     read_sections(s)
 }

@@ -1,7 +1,15 @@
 // Expressions: a loop over nodes in preorder, since an expression may nest as deep as the pack is long.
 use crate::types::skip_type;
-use wire::answer::{becomes, past, then_is, Read, Skipped};
-use wire::number::{read_below, read_byte, read_index, read_u16, skip_u64};
+use wire::answer::Read;
+use wire::answer::Skipped;
+use wire::answer::becomes;
+use wire::answer::past;
+use wire::answer::then_is;
+use wire::number::read_below;
+use wire::number::read_byte;
+use wire::number::read_index;
+use wire::number::read_u16;
+use wire::number::skip_u64;
 ghost use mathlib.Core.Path.{_≡_};
 ghost use Prim.Native.Nat.{_≤_};
 ghost use lib.ListN.{length};
@@ -32,7 +40,10 @@ fn other(r: Read) -> Decoded
     ensures { λ q. ⌜ q ≡ otherOf r ⌝ }
 {
     match r {
-        Read::Is { value, next } => Decoded::Is { node: Node::Other(value), next },
+        Read::Is { value, next } => Decoded::Is {
+            node: Node::Other(value),
+            next,
+        },
         Read::Early => Decoded::Early,
         Read::Illegal(o) => Decoded::Illegal(o),
         Read::Deep(o) => Decoded::Deep(o),
@@ -44,7 +55,10 @@ fn variable(r: Read) -> Decoded
     ensures { λ q. ⌜ q ≡ variableOf r ⌝ }
 {
     match r {
-        Read::Is { value, next } => Decoded::Is { node: Node::Var(value), next },
+        Read::Is { value, next } => Decoded::Is {
+            node: Node::Var(value),
+            next,
+        },
         _ => other(r),
     }
 }
@@ -54,7 +68,10 @@ fn called(r: Read, node: usize) -> Decoded
     ensures { λ q. ⌜ q ≡ calledOf r node ⌝ }
 {
     match r {
-        Read::Is { value, next } => Decoded::Is { node: Node::Call { node, under: value }, next },
+        Read::Is { value, next } => Decoded::Is {
+            node: Node::Call { node, under: value },
+            next,
+        },
         _ => other(r),
     }
 }
@@ -64,7 +81,13 @@ fn clocked(r: Read, clock: usize) -> Decoded
     ensures { λ q. ⌜ q ≡ clockedOf r clock ⌝ }
 {
     match r {
-        Read::Is { value, next } => Decoded::Is { node: Node::Clocked { clock, under: value }, next },
+        Read::Is { value, next } => Decoded::Is {
+            node: Node::Clocked {
+                clock,
+                under: value,
+            },
+            next,
+        },
         _ => other(r),
     }
 }
@@ -85,7 +108,10 @@ fn more(d: Decoded) -> Read
     ensures { λ q. ⌜ q ≡ moreOf d ⌝ }
 {
     match d {
-        Decoded::Is { node, next } => Read::Is { value: under(node), next },
+        Decoded::Is { node, next } => Read::Is {
+            value: under(node),
+            next,
+        },
         Decoded::Early => Read::Early,
         Decoded::Illegal(o) => Read::Illegal(o),
         Decoded::Deep(o) => Read::Deep(o),
@@ -113,7 +139,11 @@ fn skip_literal(s: &[u8], at: usize) -> Skipped
     ensures { λ r. ⌜ r ≡ skip (literal (now (s .entry)) at) ⌝ }
 {
     let r = read_below(s, 4, at);
-    let Read::Is { value: tag, next: p } = r else {
+    let Read::Is {
+        value: tag,
+        next: p,
+    } = r
+    else {
         return past(r);
     };
     match tag {
@@ -129,7 +159,11 @@ fn call_fields(s: &[u8], names: usize, at: usize) -> Decoded
     ensures { λ r. ⌜ r ≡ decoded (callFields names (now (s .entry)) at) ⌝ }
 {
     let r = read_index(s, names, at);
-    let Read::Is { value: node, next: p } = r else {
+    let Read::Is {
+        value: node,
+        next: p,
+    } = r
+    else {
         return other(r);
     };
     called(read_u16(s, p), node)
@@ -144,7 +178,11 @@ fn struct_fields(s: &[u8], names: usize, at: usize) -> Read
         return r;
     };
     let t = read_u16(s, p);
-    let Read::Is { value: count, next: q } = t else {
+    let Read::Is {
+        value: count,
+        next: q,
+    } = t
+    else {
         return t;
     };
     then_is(skip_indexes(s, names, count, q), count)
@@ -155,7 +193,11 @@ fn when_fields(s: &[u8], names: usize, at: usize) -> Decoded
     ensures { λ r. ⌜ r ≡ decoded (whenFields names (now (s .entry)) at) ⌝ }
 {
     let r = read_index(s, names, at);
-    let Read::Is { value: clock, next: p } = r else {
+    let Read::Is {
+        value: clock,
+        next: p,
+    } = r
+    else {
         return other(r);
     };
     clocked(becomes(read_below(s, 2, p), 1), clock)
@@ -169,7 +211,10 @@ fn merge_fields(s: &[u8], names: usize, at: usize) -> Decoded
     let Read::Is { value: clock, next } = r else {
         return other(r);
     };
-    Decoded::Is { node: Node::Clocked { clock, under: 2 }, next }
+    Decoded::Is {
+        node: Node::Clocked { clock, under: 2 },
+        next,
+    }
 }
 
 // An iterate's kind, node and flag for an initial value, which is one more sub-expression than the arrays counted after it.
@@ -185,14 +230,25 @@ fn iterate_fields(s: &[u8], names: usize, at: usize) -> Read
         return t;
     };
     let u = read_below(s, 2, q);
-    let Read::Is { value: initial, next: o } = u else {
+    let Read::Is {
+        value: initial,
+        next: o,
+    } = u
+    else {
         return u;
     };
     let v = read_u16(s, o);
-    let Read::Is { value: arrays, next: e } = v else {
+    let Read::Is {
+        value: arrays,
+        next: e,
+    } = v
+    else {
         return v;
     };
-    Read::Is { value: initial + arrays, next: e }
+    Read::Is {
+        value: initial + arrays,
+        next: e,
+    }
 }
 
 // The node of this tag.
@@ -205,12 +261,24 @@ fn expr_fields(s: &[u8], names: usize, tag: usize, at: usize) -> Decoded
         1 => variable(read_index(s, names, at)),
         2 => other(becomes(read_below(s, 2, at), 1)),
         3 => other(becomes(read_below(s, 20, at), 2)),
-        4 => Decoded::Is { node: Node::Other(3), next: at },
-        5 => Decoded::Is { node: Node::Other(1), next: at },
-        6 => Decoded::Is { node: Node::Other(2), next: at },
+        4 => Decoded::Is {
+            node: Node::Other(3),
+            next: at,
+        },
+        5 => Decoded::Is {
+            node: Node::Other(1),
+            next: at,
+        },
+        6 => Decoded::Is {
+            node: Node::Other(2),
+            next: at,
+        },
         7 => call_fields(s, names, at),
         8 => other(becomes(read_index(s, names, at), 1)),
-        9 => Decoded::Is { node: Node::Other(2), next: at },
+        9 => Decoded::Is {
+            node: Node::Other(2),
+            next: at,
+        },
         10 => other(read_u16(s, at)),
         11 => other(read_u16(s, at)),
         12 => other(struct_fields(s, names, at)),
@@ -228,7 +296,11 @@ pub fn read_node(s: &[u8], names: usize, at: usize) -> Decoded
     ensures { λ r. ⌜ r ≡ decoded (exprHead names (now (s .entry)) at) ⌝ }
 {
     let r = read_below(s, 17, at);
-    let Read::Is { value: tag, next: p } = r else {
+    let Read::Is {
+        value: tag,
+        next: p,
+    } = r
+    else {
         return other(r);
     };
     expr_fields(s, names, tag, p)

@@ -1,7 +1,8 @@
 // The last step of both lowerings: what the writer reached becomes a pack in the caller's buffer, where it fits.
 use crate::intern::count_names;
 use crate::record::Pack;
-use wire::writer::{capped, Writer};
+use wire::writer::Writer;
+use wire::writer::capped;
 ghost use mathlib.Core.Path.{_≡_};
 ghost use mathlib.Core.List.{List, _++_};
 ghost use Prim.Native.Nat.{ℕ, _+_, _≤_, min};

@@ -1,6 +1,12 @@
 // Names by number: the old names of a pack, then new ones in order of first use. A table is names, each after its length byte.
 use crate::record::Pack;
-use wire::writer::{capped, put_byte, put_bytes, put_u16, stopped, turned, Writer};
+use wire::writer::Writer;
+use wire::writer::capped;
+use wire::writer::put_byte;
+use wire::writer::put_bytes;
+use wire::writer::put_u16;
+use wire::writer::stopped;
+use wire::writer::turned;
 ghost use mathlib.Core.Path.{_≡_};
 ghost use mathlib.Core.List.{List, []};
 ghost use Prim.Native.Nat.{ℕ, _+_, _≤_, _<_, _^_, min};

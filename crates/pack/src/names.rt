@@ -1,6 +1,9 @@
 // The name section.
-use wire::answer::{past, Read, Skipped};
-use wire::number::{read_byte, read_u16};
+use wire::answer::Read;
+use wire::answer::Skipped;
+use wire::answer::past;
+use wire::number::read_byte;
+use wire::number::read_u16;
 ghost use mathlib.Core.Path.{_≡_};
 ghost use Prim.Native.Nat.{_+_, _≤_};
 ghost use lib.ListN.{length, getD};
@@ -62,7 +65,11 @@ pub fn skip_name(s: &[u8], at: usize) -> Skipped
     ensures { λ r. ⌜ r ≡ skip (name (now (s .entry)) at) ⌝ }
 {
     let t = read_size(s, at);
-    let Read::Is { value: count, next: q } = t else {
+    let Read::Is {
+        value: count,
+        next: q,
+    } = t
+    else {
         return past(t);
     };
     let mut n = count;
@@ -133,7 +140,11 @@ pub fn skip_names(s: &[u8], at: usize) -> Skipped
     ensures { λ r. ⌜ r ≡ skip (nameSection (now (s .entry)) at) ⌝ }
 {
     let t = read_u16(s, at);
-    let Read::Is { value: count, next: q } = t else {
+    let Read::Is {
+        value: count,
+        next: q,
+    } = t
+    else {
         return past(t);
     };
     let mut n: usize = 0;

@@ -2,8 +2,13 @@
 // Each function starts from where reading stands; what stopped stays so.
 use crate::exprs::skip_expr;
 use crate::types::skip_type;
-use wire::answer::{left, past, Read, Skipped};
-use wire::number::{read_u16, then_count, then_index};
+use wire::answer::Read;
+use wire::answer::Skipped;
+use wire::answer::left;
+use wire::answer::past;
+use wire::number::read_u16;
+use wire::number::then_count;
+use wire::number::then_index;
 ghost use mathlib.Core.List.{List};
 ghost use mathlib.Core.Path.{_≡_};
 ghost use Prim.Native.Nat.{ℕ, _≤_};

@@ -21,6 +21,14 @@ impl Pack {
 
     // The record of a pack with no names, of which nothing was read yet.
     pub fn empty() -> Pack {
-        Pack { names: 0, enums: 2, nodes: 2, machines: 2, activations: 2, origins: 2, end: 2 }
+        Pack {
+            names: 0,
+            enums: 2,
+            nodes: 2,
+            machines: 2,
+            activations: 2,
+            origins: 2,
+            end: 2,
+        }
     }
 }

@@ -1,8 +1,16 @@
 // The sections after the names: enums, nodes, machines, activations, origins.
 use crate::charts::then_states;
-use crate::parts::{then_equations, then_expr, then_name, then_names, then_optional, then_ports};
-use wire::answer::{left, Skipped};
-use wire::number::{then_below, then_count, then_u16};
+use crate::parts::then_equations;
+use crate::parts::then_expr;
+use crate::parts::then_name;
+use crate::parts::then_names;
+use crate::parts::then_optional;
+use crate::parts::then_ports;
+use wire::answer::Skipped;
+use wire::answer::left;
+use wire::number::then_below;
+use wire::number::then_count;
+use wire::number::then_u16;
 ghost use mathlib.Core.List.{List};
 ghost use mathlib.Core.Path.{_≡_};
 ghost use Prim.Native.Nat.{ℕ, _≤_};

@@ -1,6 +1,11 @@
 // Types: a loop over heads in preorder, since a type may nest as deep as the pack is long.
-use wire::answer::{becomes, past, Read, Skipped};
-use wire::number::{read_below, read_index, read_u32};
+use wire::answer::Read;
+use wire::answer::Skipped;
+use wire::answer::becomes;
+use wire::answer::past;
+use wire::number::read_below;
+use wire::number::read_index;
+use wire::number::read_u32;
 ghost use mathlib.Core.Path.{_≡_};
 ghost use Prim.Native.Nat.{_≤_};
 ghost use lib.ListN.{length};
@@ -24,7 +29,11 @@ pub fn type_head(s: &[u8], names: usize, at: usize) -> Read
     ensures { λ r. ⌜ r ≡ readOf (typeMore names (now (s .entry)) at) ⌝ }
 {
     let r = read_below(s, 14, at);
-    let Read::Is { value: tag, next: p } = r else {
+    let Read::Is {
+        value: tag,
+        next: p,
+    } = r
+    else {
         return r;
     };
     type_fields(s, names, tag, p)

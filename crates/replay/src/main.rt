@@ -16,10 +16,18 @@ struct Tally {
 
 // Whether the check returns the word that stands at `at`: its value, then its number.
 fn agrees(s: &[u8], at: usize, returned: u64) -> bool {
-    let Read::Is { value: low, next: p } = read_u32(s, at) else {
+    let Read::Is {
+        value: low,
+        next: p,
+    } = read_u32(s, at)
+    else {
         return false;
     };
-    let Read::Is { value: high, next: _ } = read_u32(s, p) else {
+    let Read::Is {
+        value: high,
+        next: _,
+    } = read_u32(s, p)
+    else {
         return false;
     };
     let value = (returned % 0x1_0000_0000) as usize;
@@ -35,7 +43,11 @@ fn broken(s: &[u8], t: Tally) -> Tally
     requires { ⌜ Inside (length (now s)) t ⌝ }
     ensures { λ r. ⌜ Onward (length (now (s .entry))) t r ⌝ }
 {
-    Tally { at: s.len(), compared: t.compared + 1, different: t.different + 1 }
+    Tally {
+        at: s.len(),
+        compared: t.compared + 1,
+        different: t.different + 1,
+    }
 }
 
 // One record more.
@@ -44,7 +56,11 @@ fn replay_one(s: &[u8], t: Tally) -> Tally
     ensures { λ r. ⌜ Onward (length (now (s .entry))) t r ⌝ }
 {
     let at = t.at;
-    let Read::Is { value: len, next: p } = read_u32(s, at) else {
+    let Read::Is {
+        value: len,
+        next: p,
+    } = read_u32(s, at)
+    else {
         return broken(s, t);
     };
     if s.len() < p {
@@ -59,14 +75,26 @@ fn replay_one(s: &[u8], t: Tally) -> Tally
     }
     let returned = ol_pack_check(&s[p..e]);
     if agrees(s, e, returned) {
-        return Tally { at: e + 8, compared: t.compared + 1, different: t.different };
+        return Tally {
+            at: e + 8,
+            compared: t.compared + 1,
+            different: t.different,
+        };
     }
-    Tally { at: e + 8, compared: t.compared + 1, different: t.different + 1 }
+    Tally {
+        at: e + 8,
+        compared: t.compared + 1,
+        different: t.different + 1,
+    }
 }
 
 // All records.
 fn replay(s: &[u8]) -> Tally {
-    let mut t = Tally { at: 0, compared: 0, different: 0 };
+    let mut t = Tally {
+        at: 0,
+        compared: 0,
+        different: 0,
+    };
     let mut at = 0;
     while at < s.len() {
         t = replay_one(s, t);

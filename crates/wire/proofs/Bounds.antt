@@ -104,5 +104,5 @@ module _ (s : List ℕ) where
   within-trees arity head w (suc f) zero p h = within-value (length s) nil p h
   within-trees arity head w (suc f) (suc k) p h =
       within-bind (length s) (head s p) _ (w p h) (λ x q l.
-        within-bind (length s) (trees arity head f s (arity x) q) _ (within-trees arity head w f (arity x) q l) (λ u t m.
-          within-bind (length s) (trees arity head f s k t) _ (within-trees arity head w f k t m) (λ v. within-value (length s) _)))
+      within-bind (length s) (trees arity head f s (arity x) q) _ (within-trees arity head w f (arity x) q l) (λ u t m.
+      within-bind (length s) (trees arity head f s k t) _ (within-trees arity head w f k t m) (λ v. within-value (length s) _)))

@@ -48,6 +48,7 @@ formatMap {A} {B} f e o c d e′ o′ F down up = record { back = back; legal = 
         let same : e′ y ≡ e (d y) = ap e′ (sym (u .1)) ∙ sym (up (d y) (u .0) .1) in
         let b = F .back s at (d y) post (u .0) (g ∙ ap (λ (l : List ℕ). l ++ post) same) in
         record { to = b .to; reads = ap (mapA c) (b .reads) ∙ ap (λ (x : B). value x (b .to)) (u .1); rest = b .rest }
+
     parts : (s : List ℕ) → Bytes s → (at : ℕ) (y : B) (q : ℕ) → mapA c (f s at) ≡ value y q → o′ y × (drop at s ≡ e′ y ++ drop q s)
     parts s by at y q h =
         let m = map-value c (f s at) y q h in
@@ -56,10 +57,11 @@ formatMap {A} {B} f e o c d e′ o′ F down up = record { back = back; legal = 
 
 -- the same reader, what is written and what is legal put another way
 pub formatSame : {A : Type 0} (f : List ℕ → ℕ → Answer A) (e : A → List ℕ) (o : A → Type 0) (e′ : A → List ℕ) (o′ : A → Type 0) → Format f e o → ((x : A) → o′ x → o x) → ((x : A) → o x → o′ x) → ((x : A) → o x → e x ≡ e′ x) → Format f e′ o′
-formatSame f e o e′ o′ F down up same = record
-  { back = λ s at x post k g. F .back s at x post (down x k) (g ∙ ap (λ (l : List ℕ). l ++ post) (sym (same x (down x k))))
-  ; legal = λ s by at x q h. up x (F .legal s by at x q h)
-  ; was = λ s by at x q h. F .was s by at x q h ∙ ap (λ (l : List ℕ). l ++ drop q s) (same x (F .legal s by at x q h)) }
+formatSame f e o e′ o′ F down up same = record {
+  back = λ s at x post k g. F .back s at x post (down x k) (g ∙ ap (λ (l : List ℕ). l ++ post) (sym (same x (down x k))));
+  legal = λ s by at x q h. up x (F .legal s by at x q h);
+  was = λ s by at x q h. F .was s by at x q h ∙ ap (λ (l : List ℕ). l ++ drop q s) (same x (F .legal s by at x q h));
+}
 
 -- one after the other
 unfoldable pub both : {A B : Type 0} → (List ℕ → ℕ → Answer A) → (List ℕ → ℕ → Answer B) → List ℕ → ℕ → Answer (A × B)
@@ -74,15 +76,17 @@ formatBoth {A} {B} f g ef eg of og F G = record { back = back; legal = λ s by a
         let b = F .back s at (z .0) (eg (z .1) ++ post) (o .0) (e ∙ simp append-assoc) in
         let d = G .back s (b .to) (z .1) post (o .1) (b .rest) in
         record { to = d .to; reads = bind-to (f s at) (z .0) (b .to) _ _ (b .reads) (bind-to (g s (b .to)) (z .1) (d .to) _ _ (d .reads) refl); rest = d .rest }
+
     parts : (s : List ℕ) → Bytes s → (at : ℕ) (z : A × B) (q : ℕ) → both f g s at ≡ value z q → (of (z .0) × og (z .1)) × (drop at s ≡ (ef (z .0) ++ eg (z .1)) ++ drop q s)
     parts s by at z q e =
         let b = bind-value (f s at) _ z q e in
         let d = bind-value (g s (b .1)) _ z q (b .3) in
         let t : d .1 ≡ q = cc (d .3) in
         let i : (b .0, d .0) ≡ z = cc (d .3) in
-        subst (λ (y : A × B). (of (y .0) × og (y .1)) × (drop at s ≡ (ef (y .0) ++ eg (y .1)) ++ drop q s)) i
-        ((F .legal s by at (b .0) (b .1) (b .2), G .legal s by (b .1) (d .0) (d .1) (d .2)),
-        F .was s by at (b .0) (b .1) (b .2) ∙ ap (λ (l : List ℕ). ef (b .0) ++ l) (G .was s by (b .1) (d .0) (d .1) (d .2) ∙ ap (λ (k : ℕ). eg (d .0) ++ drop k s) t) ∙ simp append-assoc)
+        subst (λ (y : A × B). (of (y .0) × og (y .1)) × (drop at s ≡ (ef (y .0) ++ eg (y .1)) ++ drop q s)) i (
+          (F .legal s by at (b .0) (b .1) (b .2), G .legal s by (b .1) (d .0) (d .1) (d .2)),
+          F .was s by at (b .0) (b .1) (b .2) ∙ ap (λ (l : List ℕ). ef (b .0) ++ l) (G .was s by (b .1) (d .0) (d .1) (d .2) ∙ ap (λ (k : ℕ). eg (d .0) ++ drop k s) t) ∙ simp append-assoc,
+        )
 
 -- fields bound one after the other are pairs, mapped
 pub seq : {A B C : Type 0} (f : List ℕ → ℕ → Answer A) (g : List ℕ → ℕ → Answer B) (k : A → ℕ → Answer C) (c : A → B → C) (s : List ℕ) (at : ℕ) → ((x : A) (p : ℕ) → k x p ≡ mapA (c x) (g s p)) → bind (f s at) k ≡ mapA (λ (z : A × B). c (z .0) (z .1)) (both f g s at)
@@ -94,6 +98,7 @@ seq {A} {B} {C} f g k c s at h = go (f s at)
     last x early = refl
     last x (illegal o) = refl
     last x (deep o) = refl
+
     go : (a : Answer A) → bind a k ≡ mapA (λ (z : A × B). c (z .0) (z .1)) (bind a (λ x p. bind (g s p) λ y q. value (x, y) q))
     go (value x p) = h x p ∙ last x (g s p)
     go early = refl
@@ -140,8 +145,10 @@ formatByte = record { back = back; legal = legal; was = was }
         let g : getD s at 0 ≡ b = cc in
         let t : drop (suc at) s ≡ post = cc in
         record { to = at + 1; reads = rw (lt-ltb at (length s) l, g); rest = rw add-one t }
+
     legal : (s : List ℕ) → Bytes s → (at x q : ℕ) → byte s at ≡ value x q → x < 256
     legal s by at x q e = let b = byte-value s at x q e in omega (arith, by at)
+
     was : (s : List ℕ) → Bytes s → (at v q : ℕ) → byte s at ≡ value v q → drop at s ≡ v ∷ drop q s
     was s by at v q e =
         let b = byte-value s at v q e in
@@ -179,6 +186,7 @@ module _ (n P Q : ℕ) (r : List ℕ → ℕ → Answer ℕ) (F : Format r (byte
           let a = F .back s at (x % P) (bytes n (x / P) ++ post) (k .0) (e ∙ ap (λ (l : List ℕ). l ++ post) g ∙ simp append-assoc) in
           let b = F .back s (a .to) (x / P) post (k .1) (a .rest) in
           record { to = b .to; reads = bind-to (r s at) (x % P) (a .to) _ _ (a .reads) (bind-to (r s (a .to)) (x / P) (b .to) _ _ (b .reads) (ap (λ (v : ℕ). value v (b .to)) (k .2))); rest = b .rest }
+
       parts : (s : List ℕ) → Bytes s → (at x q : ℕ) → wide s at ≡ value x q → (x < Q) × (drop at s ≡ bytes (n + n) x ++ drop q s)
       parts s by at x q e =
           let b = bind-value (r s at) _ x q e in
@@ -187,9 +195,10 @@ module _ (n P Q : ℕ) (r : List ℕ → ℕ → Answer ℕ) (F : Format r (byte
           let t : d .1 ≡ q = cc (d .3) in
           let i = F .legal s by at (b .0) (b .1) (b .2) in
           let j = F .legal s by (b .1) (d .0) (d .1) (d .2) in
-          subst (λ (y : ℕ). (y < Q) × (drop at s ≡ bytes (n + n) y ++ drop q s)) v
-          (small (b .0) (d .0) i j,
-          F .was s by at (b .0) (b .1) (b .2) ∙ ap (λ (l : List ℕ). bytes n (b .0) ++ l) (F .was s by (b .1) (d .0) (d .1) (d .2) ∙ ap (λ (k : ℕ). bytes n (d .0) ++ drop k s) t) ∙ simp (append-assoc, split (b .0) (d .0) i))
+          subst (λ (y : ℕ). (y < Q) × (drop at s ≡ bytes (n + n) y ++ drop q s)) v (
+            small (b .0) (d .0) i j,
+            F .was s by at (b .0) (b .1) (b .2) ∙ ap (λ (l : List ℕ). bytes n (b .0) ++ l) (F .was s by (b .1) (d .0) (d .1) (d .2) ∙ ap (λ (k : ℕ). bytes n (d .0) ++ drop k s) t) ∙ simp (append-assoc, split (b .0) (d .0) i),
+          )
 
 pub format8 : Format byte (bytes 1) (Below 256)
 unfolding bytes single
@@ -240,9 +249,11 @@ module _ {A : Type 0} (f : List ℕ → ℕ → Answer A) (e : A → List ℕ) (
       let g : b .0 ∷ d .0 ≡ xs = cc (d .3) in
       let t : d .1 ≡ q = cc (d .3) in
       let r = many-was by n (b .1) (d .0) (d .1) (d .2) in
-      subst (λ (y : List A). All o y × (length y ≡ suc n) × (drop at s ≡ encAll e y ++ drop q s)) g
-      ((F .legal s by at (b .0) (b .1) (b .2), r .0), ap suc (r .1),
-      F .was s by at (b .0) (b .1) (b .2) ∙ ap (λ (l : List ℕ). e (b .0) ++ l) (r .2 ∙ ap (λ (k : ℕ). encAll e (d .0) ++ drop k s) t) ∙ simp append-assoc)
+      subst (λ (y : List A). All o y × (length y ≡ suc n) × (drop at s ≡ encAll e y ++ drop q s)) g (
+        (F .legal s by at (b .0) (b .1) (b .2), r .0),
+        ap suc (r .1),
+        F .was s by at (b .0) (b .1) (b .2) ∙ ap (λ (l : List ℕ). e (b .0) ++ l) (r .2 ∙ ap (λ (k : ℕ). encAll e (d .0) ++ drop k s) t) ∙ simp append-assoc,
+      )
 
 -- a number, and as many things
 module _ {A : Type 0} (g : List ℕ → ℕ → Answer ℕ) (eg : ℕ → List ℕ) (og : ℕ → Type 0) (G : Format g eg og) (f : List ℕ → ℕ → Answer A) (e : A → List ℕ) (o : A → Type 0) (F : Format f e o) where
@@ -254,6 +265,7 @@ module _ {A : Type 0} (g : List ℕ → ℕ → Answer ℕ) (eg : ℕ → List �
           let b = G .back s at (length xs) (encAll e xs ++ post) (k .0) (h ∙ simp append-assoc) in
           let d = many-back f e o F s xs (b .to) post (k .1) (b .rest) in
           record { to = d .to; reads = bind-to (g s at) (length xs) (b .to) _ _ (b .reads) (d .reads); rest = d .rest }
+
       parts : (s : List ℕ) → Bytes s → (at : ℕ) (xs : List A) (q : ℕ) → bind (g s at) (λ n p. many (f s) n p) ≡ value xs q → (og (length xs) × All o xs) × (drop at s ≡ (eg (length xs) ++ encAll e xs) ++ drop q s)
       parts s by at xs q h =
           let b = bind-value (g s at) (λ n p. many (f s) n p) xs q h in

@@ -83,10 +83,10 @@ module _ (more : List ℕ → ℕ → Answer ℕ) (M : Moves more) (s : List ℕ
       rw suc-add
       (next-after (more s at) _ _ ∙
       after-cong (more s at) _ _ (λ a p e.
-        let l : at < p = M .on s at a p e in
-        next-cong (run more f s (a + m) p) _ _ (λ q g. let b : p ≤ q = run-moves f (a + m) p q g in fuel (suc f) f n q (omega arith) (omega arith)) ∙
-        append f (a + m) n p (omega arith) ∙
-        ap (λ (k : ℕ). run more f s k p) (add-assoc a m n)))
+      let l : at < p = M .on s at a p e in
+      next-cong (run more f s (a + m) p) _ _ (λ q g. let b : p ≤ q = run-moves f (a + m) p q g in fuel (suc f) f n q (omega arith) (omega arith)) ∙
+      append f (a + m) n p (omega arith) ∙
+      ap (λ (k : ℕ). run more f s k p) (add-assoc a m n)))
 
   pub pending-none : (at : ℕ) → pending more s 0 at ≡ sk.To at
   unfolding pending
@@ -107,15 +107,15 @@ module _ {H : Type 0} (arity : H → ℕ) (head : List ℕ → ℕ → Answer H)
   skip-trees (suc f) (suc n) at h =
       skip-bind (head s at) _ ∙
       after-cong (head s at) _ _ (λ x p e.
-        let l : at < p = M .on s at (arity x) p (ap (mapA arity) e) in
-        skip-bind (trees arity head f s (arity x) p) _ ∙
-        after-cong (trees arity head f s (arity x) p) _ _ (λ u q g. skip-last (trees arity head f s n q) _) ∙
-        after-skip (trees arity head f s (arity x) p) (λ q. skip (trees arity head f s n q)) ∙
-        ap (λ (r : Skipped). next r (λ q. skip (trees arity head f s n q))) (skip-trees f (arity x) p (omega arith)) ∙
-        next-cong (run (λ s at. mapA arity (head s at)) f s (arity x) p) _ _ (λ q g.
-          let b : p ≤ q = run-moves (λ s at. mapA arity (head s at)) M s f (arity x) p q g in
-          skip-trees f n q (omega arith)) ∙
-        append (λ s at. mapA arity (head s at)) M s f (arity x) n p (omega arith)) ∙
+      let l : at < p = M .on s at (arity x) p (ap (mapA arity) e) in
+      skip-bind (trees arity head f s (arity x) p) _ ∙
+      after-cong (trees arity head f s (arity x) p) _ _ (λ u q g. skip-last (trees arity head f s n q) _) ∙
+      after-skip (trees arity head f s (arity x) p) (λ q. skip (trees arity head f s n q)) ∙
+      ap (λ (r : Skipped). next r (λ q. skip (trees arity head f s n q))) (skip-trees f (arity x) p (omega arith)) ∙
+      next-cong (run (λ s at. mapA arity (head s at)) f s (arity x) p) _ _ (λ q g.
+      let b : p ≤ q = run-moves (λ s at. mapA arity (head s at)) M s f (arity x) p q g in
+      skip-trees f n q (omega arith)) ∙
+      append (λ s at. mapA arity (head s at)) M s f (arity x) n p (omega arith)) ∙
       sym (after-map arity (head s at) _)
 
   pub fwd-trees : (f n at : ℕ) → length s ≤ at + f → Fwd (length s) at (trees arity head f s n at)

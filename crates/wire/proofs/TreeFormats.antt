@@ -13,6 +13,7 @@ use Rattle.wire.proofs.Answers.{bind-value}
 unfoldable mutual
   pub encTree : {H : Type 0} → (H → List ℕ) → Tree H → List ℕ
   encTree enc (node h ts) = enc h ++ encTrees enc ts
+
   pub encTrees : {H : Type 0} → (H → List ℕ) → Trees H → List ℕ
   encTrees enc nil = []
   encTrees enc (cons t ts) = encTree enc t ++ encTrees enc ts
@@ -24,6 +25,7 @@ count (cons t ts) = suc (count ts)
 unfoldable mutual
   pub OkTree : {H : Type 0} → (H → Type 0) → (H → ℕ) → Tree H → Type 0
   OkTree ok arity (node h ts) = ok h × (count ts ≡ arity h) × OkTrees ok arity ts
+
   pub OkTrees : {H : Type 0} → (H → Type 0) → (H → ℕ) → Trees H → Type 0
   OkTrees ok arity nil = Unit {0}
   OkTrees ok arity (cons t ts) = OkTree ok arity t × OkTrees ok arity ts
@@ -76,7 +78,7 @@ module _ {H : Type 0} (arity : H → ℕ) (head : List ℕ → ℕ → Answer H)
       let u = trees-was by f (arity (b .0)) (b .1) (d .0) (d .1) (d .2) in
       let v = trees-was by f n (d .1) (w .0) (w .1) (w .2) in
       let whole : drop at s ≡ ((enc (b .0) ++ encTrees enc (d .0)) ++ encTrees enc (w .0)) ++ drop (w .1) s =
-        F .was s by at (b .0) (b .1) (b .2) ∙ ap (λ (l : List ℕ). enc (b .0) ++ l) (u .was ∙ ap (λ (l : List ℕ). encTrees enc (d .0) ++ l) (v .was)) ∙ simp append-assoc in
+      F .was s by at (b .0) (b .1) (b .2) ∙ ap (λ (l : List ℕ). enc (b .0) ++ l) (u .was ∙ ap (λ (l : List ℕ). encTrees enc (d .0) ++ l) (v .was)) ∙ simp append-assoc in
       record { legal = subst (OkTrees ok arity) g ((F .legal s by at (b .0) (b .1) (b .2), u .many, u .legal), v .legal); many = sym (ap count g) ∙ ap suc (v .many); was = whole ∙ ap (λ (k : ℕ). ((enc (b .0) ++ encTrees enc (d .0)) ++ encTrees enc (w .0)) ++ drop k s) t ∙ ap (λ (x : Trees H). encTrees enc x ++ drop q s) g }
 
 -- one tree
@@ -87,5 +89,6 @@ formatTree {H} arity head enc ok F full = record { back = back; legal = legal; w
     back s at x post o e =
         let b = trees-back arity head enc ok F full s (suc (length s)) x at post (omega arith) (o .1) e in
         record { to = b .to; reads = ap (λ (n : ℕ). trees arity head (suc (length s)) s n at) (sym (o .0)) ∙ b .reads; rest = b .rest }
+
     legal : (s : List ℕ) → Bytes s → (at : ℕ) (x : Trees H) (q : ℕ) → trees arity head (suc (length s)) s 1 at ≡ value x q → (count x ≡ 1) × OkTrees ok arity x
     legal s by at x q e = let w = trees-was arity head enc ok F full s by (suc (length s)) 1 at x q e in (w .many, w .legal)

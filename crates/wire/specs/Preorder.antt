@@ -6,6 +6,7 @@ use Rattle.wire.specs.Answer.{Answer, value, early, bind}
 mutual
   pub data Tree (H : Type 0) : Type 0 where
     node : H → Trees H → Tree H
+
   pub data Trees (H : Type 0) : Type 0 where
     nil : Trees H
     cons : Tree H → Trees H → Trees H

@@ -23,9 +23,7 @@ pub fn checked(r: Read, bound: usize, at: usize) -> Read
     ensures { λ q. ⌜ q ≡ checkedOf r bound at ⌝ }
 {
     match r {
-        Read::Is { value, next: _ } => {
-            if value < bound { r } else { Read::Illegal(at) }
-        }
+        Read::Is { value, next: _ } => { if value < bound { r } else { Read::Illegal(at) } }
         _ => r,
     }
 }

@@ -1,5 +1,8 @@
 // Numbers on lent bytes, lowest byte first.
-use crate::answer::{checked, past, Read, Skipped};
+use crate::answer::Read;
+use crate::answer::Skipped;
+use crate::answer::checked;
+use crate::answer::past;
 ghost use mathlib.Core.Path.{_≡_};
 ghost use Prim.Native.Nat.{ℕ};
 ghost use Rattle.wire.specs.declared.answer.Skipped.{Skipped};
@@ -10,7 +13,10 @@ pub fn read_byte(s: &[u8], at: usize) -> Read
     ensures { λ r. ⌜ r ≡ readOf (byte (now (s .entry)) at) ⌝ }
 {
     if at < s.len() {
-        Read::Is { value: s[at] as usize, next: at + 1 }
+        Read::Is {
+            value: s[at] as usize,
+            next: at + 1,
+        }
     } else {
         Read::Early
     }
@@ -28,7 +34,10 @@ pub fn read_u16(s: &[u8], at: usize) -> Read
         return Read::Early;
     }
     let high = s[b] as usize;
-    Read::Is { value: low + 256 * high, next: b + 1 }
+    Read::Is {
+        value: low + 256 * high,
+        next: b + 1,
+    }
 }
 
 // A byte below a bound.
@@ -49,14 +58,25 @@ pub fn read_u32(s: &[u8], at: usize) -> Read
     ensures { λ r. ⌜ r ≡ readOf (u32 (now (s .entry)) at) ⌝ }
 {
     let r = read_u16(s, at);
-    let Read::Is { value: low, next: p } = r else {
+    let Read::Is {
+        value: low,
+        next: p,
+    } = r
+    else {
         return r;
     };
     let t = read_u16(s, p);
-    let Read::Is { value: high, next: q } = t else {
+    let Read::Is {
+        value: high,
+        next: q,
+    } = t
+    else {
         return t;
     };
-    Read::Is { value: low + 65536 * high, next: q }
+    Read::Is {
+        value: low + 65536 * high,
+        next: q,
+    }
 }
 
 pub fn skip_u64(s: &[u8], at: usize) -> Skipped
@@ -111,7 +131,13 @@ pub fn then_count(s: &[u8], from: Skipped) -> Count
     };
     let r = read_u16(s, at);
     let Read::Is { value, next } = r else {
-        return Count { left: 0, at: past(r) };
+        return Count {
+            left: 0,
+            at: past(r),
+        };
     };
-    Count { left: value, at: Skipped::To(next) }
+    Count {
+        left: value,
+        at: Skipped::To(next),
+    }
 }

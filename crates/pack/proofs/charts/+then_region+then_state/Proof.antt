@@ -142,10 +142,10 @@ then-state-returns t c =
     λ ns e. let a = c .before .before .before .before .before .before .args in let s = a .s .now in
     c .then-optional .ensures ns e
     ∙ ap (onward (optionalIn ns s))
-        (list-end (regionAt (a .levels) ns (a .s .now)) _ _ _ (c .before .loop-test .left) (c .before .before .loop .inv ns e)
-        ∙ c .before .before .before .then-count .ensures (skips (regionAt (a .levels) ns (a .s .now)))
-        ∙ listed-counted (regionAt (a .levels) ns (a .s .now)) _ _
-        ∙ ap (onward (counted (regionAt (a .levels) ns (a .s .now)) s)) (c .before .before .before .before .state-head .ensures ns e))
+    (list-end (regionAt (a .levels) ns (a .s .now)) _ _ _ (c .before .loop-test .left) (c .before .before .loop .inv ns e)
+    ∙ c .before .before .before .then-count .ensures (skips (regionAt (a .levels) ns (a .s .now)))
+    ∙ listed-counted (regionAt (a .levels) ns (a .s .now)) _ _
+    ∙ ap (onward (counted (regionAt (a .levels) ns (a .s .now)) s)) (c .before .before .before .before .state-head .ensures ns e))
     ∙ state-steps ns s (regionAt (a .levels) ns (a .s .now)) (a .from)
 
 pub +then-region+then-state-spec : {M : Type 1} → statement M

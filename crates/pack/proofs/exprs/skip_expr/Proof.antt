@@ -51,9 +51,10 @@ loop-less : tie.Need-loop-less Inv-loop μ-loop
 loop-less c = omega (arith, exprMoves _ .on _ _ _ _ (got c), exprMoves _ .inside _ _ _ _ (got c))
 
 loop-again : tie.Need-loop-again Inv-loop μ-loop
-loop-again c =
-    (pending-went _ (exprMoves _) _ _ _ _ _ _ (c .before .before .before .before .loop-test .taken) (got c) (c .before .before .before .before .before .loop .inv .0),
-    omega (arith, expr-small _ _ (λ i. c .before .before .before .before .before .before .shared-slice-known .given i .fits) _ _ _ (got c), exprMoves _ .on _ _ _ _ (got c), c .before .before .before .before .before .loop .inv .1))
+loop-again c = (
+  pending-went _ (exprMoves _) _ _ _ _ _ _ (c .before .before .before .before .loop-test .taken) (got c) (c .before .before .before .before .before .loop .inv .0),
+  omega (arith, expr-small _ _ (λ i. c .before .before .before .before .before .before .shared-slice-known .given i .fits) _ _ _ (got c), exprMoves _ .on _ _ _ _ (got c), c .before .before .before .before .before .loop .inv .1),
+)
 
 returns-2 : tie.Need-returns-2 Inv-loop μ-loop
 returns-2 c =

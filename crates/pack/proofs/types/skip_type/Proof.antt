@@ -51,9 +51,10 @@ loop-less : tie.Need-loop-less Inv-loop μ-loop
 loop-less c = omega (arith, typeMoves _ .on _ _ _ _ (got c), typeMoves _ .inside _ _ _ _ (got c))
 
 loop-again : tie.Need-loop-again Inv-loop μ-loop
-loop-again c =
-    (pending-went _ (typeMoves _) _ _ _ _ _ _ (c .before .before .before .before .loop-test .taken) (got c) (c .before .before .before .before .before .loop .inv .0),
-    omega (arith, type-small _ _ _ _ _ (got c), typeMoves _ .on _ _ _ _ (got c), c .before .before .before .before .before .loop .inv .1))
+loop-again c = (
+  pending-went _ (typeMoves _) _ _ _ _ _ _ (c .before .before .before .before .loop-test .taken) (got c) (c .before .before .before .before .before .loop .inv .0),
+  omega (arith, type-small _ _ _ _ _ (got c), typeMoves _ .on _ _ _ _ (got c), c .before .before .before .before .before .loop .inv .1),
+)
 
 returns-2 : tie.Need-returns-2 Inv-loop μ-loop
 returns-2 c =

@@ -30,10 +30,11 @@ mul-t9 c = omega (arith, u16-small _ _ _ _ (λ i. c .before .before .before .bef
 
 add-t10 : tie.Need-add-t10
 add-t10 c =
-    omega
-    (arith,
-    u16-small _ _ _ _ (λ i. c .before .before .before .before .before .before .before .before .shared-slice-known .given i .fits) (found _ _ _ _ (c .before .t .given .1) (c .before .before .before .read-u162 .ensures)),
-    u16-small _ _ _ _ (λ i. c .before .before .before .before .before .before .before .before .shared-slice-known .given i .fits) (found _ _ _ _ (c .before .before .before .before .before .r .given .1) (c .before .before .before .before .before .before .before .read-u16 .ensures)))
+    omega (
+      arith,
+      u16-small _ _ _ _ (λ i. c .before .before .before .before .before .before .before .before .shared-slice-known .given i .fits) (found _ _ _ _ (c .before .t .given .1) (c .before .before .before .read-u162 .ensures)),
+      u16-small _ _ _ _ (λ i. c .before .before .before .before .before .before .before .before .shared-slice-known .given i .fits) (found _ _ _ _ (c .before .before .before .before .before .r .given .1) (c .before .before .before .before .before .before .before .read-u16 .ensures)),
+    )
 
 returns-3 : tie.Need-returns-3
 unfolding readOf
