@@ -15,20 +15,24 @@ pub data TypeHead : Type 0 where
   sized : ℕ → TypeHead
   named : ℕ → TypeHead
 
+-- how many types stand under a head: an array has its element
 unfoldable pub typeArity : TypeHead → ℕ
 typeArity (plain t) = 0
 typeArity (sized n) = 1
 typeArity (named i) = 0
 
+-- what follows the tag: an array's length, a named type's name
 unfoldable pub typeFields : ℕ → ℕ → List ℕ → ℕ → Answer TypeHead
 typeFields names tag s at =
     cond (eqb tag 12) (mapA sized (u32 s at))
     (cond (eqb tag 13) (mapA named (index names s at))
     (value (plain tag) at))
 
+-- types are bytes 0 to 13
 unfoldable pub typeHead : ℕ → List ℕ → ℕ → Answer TypeHead
 typeHead names s at = bind (below 14 s at) λ tag p. typeFields names tag s p
 
+-- a whole type
 unfoldable pub typeAt : ℕ → List ℕ → ℕ → Answer (Trees TypeHead)
 typeAt names s at = trees typeArity (typeHead names) (suc (length s)) s 1 at
 
@@ -76,6 +80,7 @@ exprArity (iterate k i b n) = b + n
 unfoldable pub flagOf : ℕ → Bool
 flagOf b = eqb b 1
 
+-- what follows the literal's tag
 unfoldable pub literalOf : ℕ → List ℕ → ℕ → Answer Lit
 literalOf tag s at =
     cond (eqb tag 0) (mapA (λ b. lBool (flagOf b)) (below 2 s at))
@@ -83,18 +88,23 @@ literalOf tag s at =
     (cond (eqb tag 2) (mapA lFloat (u64 s at))
     (mapA lChar (byte s at))))
 
+-- literals are bytes 0 to 3
 unfoldable pub literal : List ℕ → ℕ → Answer Lit
 literal s at = bind (below 4 s at) λ tag p. literalOf tag s p
 
+-- a call: its node, then the count of its arguments
 unfoldable pub callFields : ℕ → List ℕ → ℕ → Answer ExprHead
 callFields names s at = bind (index names s at) λ i p. mapA (call i) (u16 s p)
 
+-- a struct: type name, count, field names; the values are sub-expressions
 unfoldable pub structFields : ℕ → List ℕ → ℕ → Answer ExprHead
 structFields names s at = bind (index names s at) λ i p. bind (u16 s p) λ n q. mapA (struct i) (many (index names s) n q)
 
+-- `when`: its clock, then its flag
 unfoldable pub whenFields : ℕ → List ℕ → ℕ → Answer ExprHead
 whenFields names s at = bind (index names s at) λ i p. mapA (sample i) (below 2 s p)
 
+-- an iterate: kind, node, flag of an initial value, count of arrays
 unfoldable pub iterateFields : ℕ → List ℕ → ℕ → Answer ExprHead
 iterateFields names s at =
     bind (below 2 s at) λ k p. bind (index names s p) λ i q. bind (below 2 s q) λ b o. mapA (iterate k i b) (u16 s o)
@@ -120,12 +130,15 @@ exprRows names s at =
     mapA merge (index names s at) ∷
     iterateFields names s at ∷ []
 
+-- the fields of a tag
 unfoldable pub exprFields : ℕ → ℕ → List ℕ → ℕ → Answer ExprHead
 exprFields names tag s at = getD (exprRows names s at) tag (illegal at)
 
+-- expressions are tag bytes 0 to 16
 unfoldable pub exprHead : ℕ → List ℕ → ℕ → Answer ExprHead
 exprHead names s at = bind (below 17 s at) λ tag p. exprFields names tag s p
 
+-- a whole expression
 unfoldable pub exprAt : ℕ → List ℕ → ℕ → Answer (Trees ExprHead)
 exprAt names s at = trees exprArity (exprHead names) (suc (length s)) s 1 at
 
@@ -133,9 +146,11 @@ exprAt names s at = trees exprArity (exprHead names) (suc (length s)) s 1 at
 unfoldable pub nameAt : List Name → ℕ → Name
 nameAt ns i = getD ns i []
 
+-- types 0 to 11, in the order of the source
 unfoldable pub plainTypes : List Ty
 plainTypes = tBool ∷ tInt8 ∷ tInt16 ∷ tInt32 ∷ tInt64 ∷ tUint8 ∷ tUint16 ∷ tUint32 ∷ tUint64 ∷ tFloat32 ∷ tFloat64 ∷ tChar ∷ []
 
+-- a type from its head and the type under it
 unfoldable pub typeOver : List Name → TypeHead → Ty → Ty
 typeOver ns (plain t) under = getD plainTypes t tBool
 typeOver ns (sized n) under = tArray n under
@@ -149,24 +164,30 @@ unfoldable mutual
   firstType ns nil = tBool
   firstType ns (cons t ts) = typeOf ns t
 
+-- by the number of an operator
 unfoldable pub unOps : List UnOp
 unOps = oNot ∷ oNeg ∷ []
 
+-- the same for two operands
 unfoldable pub binOps : List BinOp
 binOps = oAnd ∷ oOr ∷ oXor ∷ oImplies ∷ oEq ∷ oNeq ∷ oLt ∷ oLe ∷ oGt ∷ oGe ∷ oAdd ∷ oSub ∷ oMul ∷ oDiv ∷ oMod ∷ oBitAnd ∷ oBitOr ∷ oBitXor ∷ oShl ∷ oShr ∷ []
 
+-- 0 map, 1 fold
 unfoldable pub iterKinds : List IterKind
 iterKinds = iMap ∷ iFold ∷ []
 
+-- a sub-expression by its place
 unfoldable pub nth : ℕ → Exprs → Expr
 nth n xNil = eConst (lBool false)
 nth zero (xCons e es) = e
 nth (suc n) (xCons e es) = nth n es
 
+-- names for indexes
 unfoldable pub namesAt : List Name → List ℕ → List Name
 namesAt ns [] = []
 namesAt ns (i ∷ is) = nameAt ns i ∷ namesAt ns is
 
+-- an expression from its head and the expressions under it
 unfoldable pub exprOver : List Name → ExprHead → Exprs → Expr
 exprOver ns (const l) es = eConst l
 exprOver ns (var i) es = eVar (nameAt ns i)

@@ -4,8 +4,10 @@ use mathlib.Core.List.{List}
 use Rattle.wire.specs.Answer.{Answer, mapA}
 use Rattle.pack.specs.Forms.{exprArity, exprHead, typeArity, typeHead}
 
+-- types under the head at an offset
 unfoldable pub typeMore : ℕ → List ℕ → ℕ → Answer ℕ
 typeMore names s at = mapA typeArity (typeHead names s at)
 
+-- expressions under the head at an offset
 unfoldable pub exprMore : ℕ → List ℕ → ℕ → Answer ℕ
 exprMore names s at = mapA exprArity (exprHead names s at)

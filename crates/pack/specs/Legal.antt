@@ -35,6 +35,7 @@ Each P [] = Unit {0}
 Each P (raw xs ∷ is) = Each P is
 Each P (nm n ∷ is) = P n × Each P is
 
+-- a literal's number fits its bytes
 unfoldable pub LegalLit : Lit → Type 0
 LegalLit (lBool b) = Unit {0}
 LegalLit (lInt n) = n < 18446744073709551616
@@ -58,6 +59,7 @@ ShapedTy tChar = Unit {0}
 ShapedTy (tArray n t) = (n < 4294967296) × ShapedTy t
 ShapedTy (tNamed n) = Unit {0}
 
+-- a port's type has its numbers in range
 abbrev pub ShapedPort : Port → Type 0
 ShapedPort p = ShapedTy (p .ty)
 
@@ -86,12 +88,15 @@ unfoldable mutual
   FormedAll xNil = Unit {0}
   FormedAll (xCons a xs) = Formed a × FormedAll xs
 
+-- an equation is as its right side is
 abbrev pub FormedEquation : Equation → Type 0
 FormedEquation e = Formed (e .rhs)
 
+-- a transition is as its guard is
 abbrev pub FormedTransition : Transition → Type 0
 FormedTransition t = Formed (t .guard)
 
+-- a node is as its ports and equations are
 abbrev pub FormedNode : Node → Type 0
 FormedNode n = All ShapedPort (n .inputs) × All ShapedPort (n .outputs) × All ShapedPort (n .locals) × All FormedEquation (n .equations)
 
@@ -109,18 +114,23 @@ unfoldable mutual
   FormedRegions qNil levels = Unit {0}
   FormedRegions (qCons i h ss rest) levels = Deeper (λ l. FormedStates ss l) levels × FormedRegions rest levels
 
+-- a machine: top states are level 1
 abbrev pub FormedMachine : Drawing → Type 0
 FormedMachine m = All ShapedPort (m .inputs) × All ShapedPort (m .outputs) × All ShapedPort (m .locals) × FormedStates (m .states) (maxLevel - 1)
 
+-- a branch is as its condition and equations are
 abbrev pub FormedBranch : Branch → Type 0
 FormedBranch b = Formed (b .condition) × All FormedEquation (b .equations)
 
+-- an activation is as its ports, branches and equations are
 abbrev pub FormedActivation : Activation → Type 0
 FormedActivation a = All ShapedPort (a .outputs) × All FormedBranch (a .branches) × All FormedEquation (a .otherwise)
 
+-- equation numbers fit 16 bits
 abbrev pub FormedOrigin : Origin → Type 0
 FormedOrigin o = (o .first < 65536) × (o .after < 65536)
 
+-- a package is as its nodes, machines, activations and origins are
 abbrev pub FormedPackage : Package → Type 0
 FormedPackage p = All FormedNode (p .nodes) × All FormedMachine (p .machines) × All FormedActivation (p .activations) × All FormedOrigin (p .origins)
 
@@ -137,12 +147,15 @@ pub record Legal (p : Package) : Type 0 where
 unfoldable pub newOf : Spelt → List Name
 newOf (spelt b ns) = ns
 
+-- the names that a package uses and its table lacks
 unfoldable pub newNames : Package → List Name
 newNames p = newOf (spell (p .names) (packageItems p) [])
 
+-- a package with another table
 unfoldable pub withNames : Package → List Name → Package
 withNames p ns = record { names = ns; enums = p .enums; nodes = p .nodes; machines = p .machines; activations = p .activations; origins = p .origins }
 
+-- the table with the new names behind the old ones
 unfoldable pub completed : Package → Package
 completed p = withNames p (p .names ++ newNames p)
 

@@ -15,6 +15,7 @@ agree s a b (suc n) = _&&_ (eqb (getD s a 0) (getD s b 0)) (agree s (a + 1) (b +
 unfoldable pub rawName : List ℕ → ℕ → List ℕ
 rawName s at = take (getD s at 0) (drop (at + 1) s)
 
+-- n names, one after the other
 unfoldable pub rawNames : List ℕ → ℕ → ℕ → List (List ℕ)
 rawNames s zero at = []
 rawNames s (suc n) at = rawName s at ∷ rawNames s n (at + 1 + getD s at 0)
@@ -24,6 +25,7 @@ unfoldable pub Inside : List ℕ → ℕ → ℕ → Type 0
 Inside s zero at = Unit {0}
 Inside s (suc n) at = (at + 1 + getD s at 0 ≤ length s) × Inside s n (at + 1 + getD s at 0)
 
+-- whether the name at x is one of the n names from `at` on
 unfoldable pub oneOf : List ℕ → ℕ → ℕ → ℕ → Bool
 oneOf s x n at = member (rawName s x) (rawNames s n at)
 

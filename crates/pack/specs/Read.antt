@@ -11,16 +11,19 @@ use Rattle.pack.specs.Syntax.{Activation, Branch, Drawing, Drawn, DrawnR
 use Rattle.wire.specs.Answer.{Answer, below, bind, byte, counted, deep, early, guard, illegal, index, many, mapA, u16, value}
 use Rattle.pack.specs.Forms.{exprAt, exprsOf, firstType, flagOf, nameAt, nth, typeAt}
 
--- names: a length from 1, then letters, digits and underscores; no name twice
+-- a letter, a digit or an underscore
 unfoldable pub nameByte : ℕ → Bool
 nameByte b = cond (ltb b 48) false (cond (ltb b 58) true (cond (ltb b 65) false (cond (ltb b 91) true (cond (eqb b 95) true (cond (ltb b 97) false (ltb b 123))))))
 
+-- a bad character is illegal at it
 unfoldable pub char : List ℕ → ℕ → Answer ℕ
 char s at = guard nameByte at (byte s at)
 
+-- a length byte, 1 to 255; 0 is illegal at it
 unfoldable pub size : List ℕ → ℕ → Answer ℕ
 size s at = guard (λ n. ltb 0 n) at (byte s at)
 
+-- a length byte, then as many characters
 unfoldable pub name : List ℕ → ℕ → Answer Name
 name s at = bind (size s at) λ n p. many (char s) n p
 
@@ -29,47 +32,61 @@ unfoldable pub namesAfter : List ℕ → List Name → ℕ → ℕ → Answer (L
 namesAfter s t zero at = value t at
 namesAfter s t (suc n) at = bind (guard (λ x. not (member x t)) at (name s at)) λ x p. namesAfter s (t ++ (x ∷ [])) n p
 
+-- the name section: a count, then names
 unfoldable pub nameSection : List ℕ → ℕ → Answer (List Name)
 nameSection s at = bind (u16 s at) λ n p. namesAfter s [] n p
 
 -- what holds names holds indexes of the name section
 module _ (ns : List Name) (s : List ℕ) where
+  -- a name, by its index
   unfoldable pub nameIn : ℕ → Answer Name
   nameIn at = mapA (nameAt ns) (index (length ns) s at)
 
+  -- no name is written 65535
   unfoldable pub optional : ℕ → Option Name
   optional i = cond (eqb i absent) none (some (nameAt ns i))
 
+  -- a name or none: a machine's owner, a state's refinement
   unfoldable pub optionalIn : ℕ → Answer (Option Name)
   optionalIn at = mapA optional (guard (λ i. ltb i (length ns) || eqb i absent) at (u16 s at))
 
+  -- names after their count
   unfoldable pub namesIn : ℕ → Answer (List Name)
   namesIn at = counted nameIn s at
 
+  -- a type, with names for indexes
   unfoldable pub typeIn : ℕ → Answer Ty
   typeIn at = mapA (firstType ns) (typeAt (length ns) s at)
 
+  -- an expression, with names for indexes
   unfoldable pub exprIn : ℕ → Answer Expr
   exprIn at = mapA (λ ts. nth 0 (exprsOf ns ts)) (exprAt (length ns) s at)
 
+  -- a port: name, then type
   unfoldable pub portIn : ℕ → Answer Port
   portIn at = bind (nameIn at) λ n p. mapA (λ (t : Ty). record { name = n; ty = t }) (typeIn p)
 
+  -- ports after their count
   unfoldable pub portsIn : ℕ → Answer (List Port)
   portsIn at = counted portIn s at
 
+  -- left names, then the right side
   unfoldable pub equationIn : ℕ → Answer Equation
   equationIn at = bind (namesIn at) λ l p. mapA (λ (e : Expr). record { lhs = l; rhs = e }) (exprIn p)
 
+  -- equations after their count
   unfoldable pub equationsIn : ℕ → Answer (List Equation)
   equationsIn at = counted equationIn s at
 
+  -- enums: name, variants
   unfoldable pub enumIn : ℕ → Answer Enum
   enumIn at = bind (nameIn at) λ n p. mapA (λ (vs : List Name). record { name = n; variants = vs }) (namesIn p)
 
+  -- kind byte: 0 function, 1 operator, 2 imported
   unfoldable pub kindOf : ℕ → NodeKind
   kindOf k = getD (kFunction ∷ kOperator ∷ kImported ∷ []) k kFunction
 
+  -- a node: name, kind, ports, equations
   unfoldable pub nodeIn : ℕ → Answer Node
   nodeIn at =
       bind (nameIn at) λ n p.
@@ -79,6 +96,7 @@ module _ (ns : List Name) (s : List ℕ) where
       bind (portsIn t) λ locs u.
       mapA (λ (es : List Equation). record { name = n; kind = kindOf k; inputs = ins; outputs = outs; locals = locs; equations = es }) (equationsIn u)
 
+  -- a transition: guard, target
   unfoldable pub transitionIn : ℕ → Answer Transition
   transitionIn at = bind (exprIn at) λ g p. mapA (λ (t : Name). record { guard = g; target = t }) (nameIn p)
 
@@ -90,15 +108,18 @@ pub record OneState : Type 0 where
   pub regions : DrawnRegions
   pub refines : Option Name
 
+-- a region: initial state, history, states
 pub record OneRegion : Type 0 where
   pub initial : Name
   pub history : Bool
   pub states : Drawn
 
+-- states, from a list of them
 unfoldable pub drawnOf : List OneState → Drawn
 drawnOf [] = dNil
 drawnOf (x ∷ xs) = dCons (x .name) (x .equations) (x .transitions) (x .regions) (x .refines) (drawnOf xs)
 
+-- regions, from a list of them
 unfoldable pub regionsOf : List OneRegion → DrawnRegions
 regionsOf [] = qNil
 regionsOf (x ∷ xs) = qCons (x .initial) (x .history) (x .states) (regionsOf xs)
@@ -121,9 +142,11 @@ regionAt (suc levels) ns s at =
     mapA (λ (xs : List OneState). record { initial = i; history = flagOf h; states = drawnOf xs }) (counted (stateWith (regionAt levels ns s) ns s) s q)
 
 module _ (ns : List Name) (s : List ℕ) where
+  -- a top state: its regions open level 2, and level 8 is the last that may open
   unfoldable pub stateAt : ℕ → Answer OneState
   stateAt = stateWith (regionAt (maxLevel - 1) ns s) ns s
 
+  -- a machine: name, owner, ports, initial state, states
   unfoldable pub machineIn : ℕ → Answer Drawing
   machineIn at =
       bind (nameIn ns s at) λ n p.
@@ -134,12 +157,14 @@ module _ (ns : List Name) (s : List ℕ) where
       bind (nameIn ns s u) λ i v.
       mapA (λ (xs : List OneState). record { name = n; owner = o; inputs = ins; outputs = outs; locals = locs; initial = i; states = drawnOf xs }) (counted stateAt s v)
 
+  -- a branch: name, condition, equations
   unfoldable pub branchIn : ℕ → Answer Branch
   branchIn at =
       bind (nameIn ns s at) λ n p.
       bind (exprIn ns s p) λ c q.
       mapA (λ (es : List Equation). record { name = n; condition = c; equations = es }) (equationsIn ns s q)
 
+  -- an activation: name, owner (65535 is illegal here), ports, branches, the equations of else
   unfoldable pub activationIn : ℕ → Answer Activation
   activationIn at =
       bind (nameIn ns s at) λ n p.
@@ -148,9 +173,11 @@ module _ (ns : List Name) (s : List ℕ) where
       bind (counted branchIn s r) λ bs t.
       mapA (λ (es : List Equation). record { name = n; owner = o; outputs = outs; branches = bs; otherwise = es }) (equationsIn ns s t)
 
+  -- kind byte: 0 machine, 1 activation
   unfoldable pub originKind : ℕ → OriginKind
   originKind k = cond (flagOf k) ofActivation ofMachine
 
+  -- an origin: node, kind, name, two equation numbers, branch names
   unfoldable pub originIn : ℕ → Answer Origin
   originIn at =
       bind (nameIn ns s at) λ n p.
@@ -160,6 +187,7 @@ module _ (ns : List Name) (s : List ℕ) where
       bind (u16 s t) λ b u.
       mapA (λ (bs : List Name). record { node = n; kind = originKind k; name = m; first = a; after = b; branches = bs }) (namesIn ns s u)
 
+-- the sections in order
 unfoldable pub packAt : List ℕ → ℕ → Answer Package
 packAt s at =
     bind (nameSection s at) λ ns p.
@@ -178,11 +206,13 @@ pub data Reading : Type 0 where
   bytesAfter : ℕ → Reading
   whole : Package → Reading
 
+-- bytes after the origins are refused at their offset
 unfoldable pub readingOf : ℕ → Answer Package → Reading
 readingOf n (value p q) = cond (ltb q n) (bytesAfter q) (whole p)
 readingOf n early = endsEarly
 readingOf n (illegal o) = illegalAt o
 readingOf n (deep o) = deepAt o
 
+-- the length is tested before anything is read
 unfoldable pub read : List ℕ → Reading
 read s = cond (ltb maxBytes (length s)) tooLong (readingOf (length s) (packAt s 0))

@@ -7,6 +7,7 @@ use Rattle.pack.specs.Names.{Name}
 use Rattle.wire.specs.Bytes.{two}
 use Rattle.pack.specs.Write.{enc}
 
+-- a refused definition
 pub record Refusal : Type 0 where
   pub kind : ℕ
   pub names : List Name
@@ -16,6 +17,7 @@ unfoldable pub firstOf : {A : Type 0} → Option A → Option A → Option A
 firstOf none b = b
 firstOf (some a) b = some a
 
+-- a refusal, where there is something to refuse
 unfoldable pub asRefusal : {A : Type 0} → (A → Refusal) → Option A → Option Refusal
 asRefusal f none = none
 asRefusal f (some a) = some (f a)

@@ -6,23 +6,28 @@ use mathlib.Core.Option.{Option}
 use Prim.Native.Nat.{ℕ}
 use Rattle.pack.specs.Names.{Name}
 
+-- the 14 types, in the order of the source
 pub data Ty : Type 0 where
   tBool tInt8 tInt16 tInt32 tInt64 tUint8 tUint16 tUint32 tUint64 tFloat32 tFloat64 tChar : Ty
   tArray : ℕ → Ty → Ty
   tNamed : Name → Ty
 
+-- literals: numbers are as their bits
 pub data Lit : Type 0 where
   lBool : Bool → Lit
   lInt : ℕ → Lit
   lFloat : ℕ → Lit
   lChar : ℕ → Lit
 
+-- operators of one operand
 pub data UnOp : Type 0 where
   oNot oNeg : UnOp
 
+-- operators of two operands, in the order of the source
 pub data BinOp : Type 0 where
   oAnd oOr oXor oImplies oEq oNeq oLt oLe oGt oGe oAdd oSub oMul oDiv oMod oBitAnd oBitOr oBitXor oShl oShr : BinOp
 
+-- map or fold
 pub data IterKind : Type 0 where
   iMap iFold : IterKind
 
@@ -50,18 +55,22 @@ mutual
     xNil : Exprs
     xCons : Expr → Exprs → Exprs
 
+-- left names and a right side
 pub record Equation : Type 0 where
   pub lhs : List Name
   pub rhs : Expr
 
+-- a guard and a target state
 pub record Transition : Type 0 where
   pub guard : Expr
   pub target : Name
 
+-- an input, output or local
 pub record Port : Type 0 where
   pub name : Name
   pub ty : Ty
 
+-- an enum and its variants
 pub record Enum : Type 0 where
   pub name : Name
   pub variants : List Name
@@ -77,6 +86,7 @@ mutual
     rNil : Regions
     rCons : Name → Bool → States → Regions → Regions
 
+-- a machine whose refinements are resolved
 pub record Machine : Type 0 where
   pub name : Name
   pub inputs : List Port
@@ -95,6 +105,7 @@ mutual
     qNil : DrawnRegions
     qCons : Name → Bool → Drawn → DrawnRegions → DrawnRegions
 
+-- a machine as it is drawn
 pub record Drawing : Type 0 where
   pub name : Name
   pub owner : Option Name
@@ -104,9 +115,11 @@ pub record Drawing : Type 0 where
   pub initial : Name
   pub states : Drawn
 
+-- a node's kind
 pub data NodeKind : Type 0 where
   kFunction kOperator kImported : NodeKind
 
+-- a node with its equations
 pub record Node : Type 0 where
   pub name : Name
   pub kind : NodeKind
@@ -115,11 +128,13 @@ pub record Node : Type 0 where
   pub locals : List Port
   pub equations : List Equation
 
+-- a branch of an activation
 pub record Branch : Type 0 where
   pub name : Name
   pub condition : Expr
   pub equations : List Equation
 
+-- an activation, with the scope that is taken where no branch is
 pub record Activation : Type 0 where
   pub name : Name
   pub owner : Name
@@ -127,6 +142,7 @@ pub record Activation : Type 0 where
   pub branches : List Branch
   pub otherwise : List Equation
 
+-- what an origin's equations came from
 pub data OriginKind : Type 0 where
   ofMachine ofActivation : OriginKind
 
@@ -139,6 +155,7 @@ pub record Origin : Type 0 where
   pub after : ℕ
   pub branches : List Name
 
+-- a package: what a pack holds
 pub record Package : Type 0 where
   pub names : List Name
   pub enums : List Enum

@@ -14,6 +14,7 @@ use Rattle.wire.specs.Answer.{counted, value}
 use Rattle.pack.specs.Syntax.{Package}
 use Rattle.pack.specs.Read.{Reading, activationIn, bytesAfter, deepAt, endsEarly, enumIn, illegalAt, machineIn, nameSection, nodeIn, originIn, tooLong, whole}
 
+-- the verdict of a reading
 unfoldable pub verdictOf : Reading → Verdict
 verdictOf tooLong = vd.TooLong
 verdictOf endsEarly = vd.EndsEarly
@@ -47,6 +48,7 @@ Small (vd.Illegal o) n = o ≤ 65536
 Small (vd.Deep o) n = o ≤ 65536
 Small (vd.After o) n = o ≤ 65536
 
+-- where reading stands, or 0
 unfoldable pub offsetOf : Skipped → ℕ
 offsetOf (sk.To q) = q
 offsetOf sk.Early = 0

@@ -7,5 +7,6 @@ unfoldable pub bytes : ℕ → ℕ → List ℕ
 bytes zero k = []
 bytes (suc n) k = (k % 256) ∷ bytes n (k / 256)
 
+-- 16 bits
 unfoldable pub two : ℕ → List ℕ
 two k = (k % 256) ∷ (k / 256 % 256) ∷ []

@@ -3,6 +3,7 @@ use Prim.Native.Nat.{ℕ, _<_}
 use mathlib.Core.List.{List, [], _∷_}
 use lib.ListN.{getD}
 
+-- of every element
 unfoldable pub All : {A : Type 0} → (A → Type 0) → List A → Type 0
 All o [] = Unit {0}
 All o (x ∷ xs) = o x × All o xs

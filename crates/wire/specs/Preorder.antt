@@ -4,9 +4,11 @@ use mathlib.Core.List.{List}
 use Rattle.wire.specs.Answer.{Answer, value, early, bind}
 
 mutual
+  -- a head and the trees under it
   pub data Tree (H : Type 0) : Type 0 where
     node : H → Trees H → Tree H
 
+  -- trees in order
   pub data Trees (H : Type 0) : Type 0 where
     nil : Trees H
     cons : Tree H → Trees H → Trees H
