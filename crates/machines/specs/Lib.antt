@@ -1,5 +1,6 @@
 pub mod Refusals
 pub mod MadeNames
+pub mod Vars
 pub mod Resolve
 pub mod Lower
 pub mod Checks

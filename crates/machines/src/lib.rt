@@ -1,1 +1,2 @@
 // Machines: resolved, checked and lowered.
+pub mod made; // the names that lowering makes
