@@ -3,6 +3,7 @@ pub mod MadeNames
 pub mod Vars
 pub mod Resolve
 pub mod Lower
+pub mod Locals
 pub mod Checks
 pub mod Machines
 pub mod Call

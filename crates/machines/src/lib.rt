@@ -1,2 +1,3 @@
 // Machines: resolved, checked and lowered.
 pub mod made; // the names that lowering makes
+pub mod locals; // the locals made for regions

@@ -5,11 +5,6 @@ use Rattle.pack.proofs.Interns.{built-of}
 use borrow.Author.Needs.{needs}
 use Rattle.machines.proofs.made.put_enum_name.Statement.{statement}
 use Rattle.machines.proofs.made.put_enum_name.Tie as tie
-use Rattle.machines.proofs.made.put_enum_name.Reads as reads
-use Rattle.machines.proofs.made.put_enum_name.Lts as lts
-use Rattle.machines.proofs.made.put_enum_text.Reads as put-enum-text-reads
-use Rattle.pack.proofs.intern.put_built.Reads as put-built-reads
-use Rattle.wire.proofs.writer.Writer.start.Reads as start-reads
 
 slice-aggregate-put-enum-text : tie.Need-slice-aggregate-put-enum-text
 slice-aggregate-put-enum-text c = search needs

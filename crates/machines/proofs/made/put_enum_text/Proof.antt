@@ -4,10 +4,6 @@ use Rattle.machines.proofs.MadeLaws.{enum-top, enum-inner}
 use borrow.Author.Needs.{needs}
 use Rattle.machines.proofs.made.put_enum_text.Statement.{statement}
 use Rattle.machines.proofs.made.put_enum_text.Tie as tie
-use Rattle.machines.proofs.made.put_enum_text.Reads as reads
-use Rattle.machines.proofs.made.put_enum_text.Lts as lts
-use Rattle.wire.proofs.writer.put_bytes.Reads as put-bytes-reads
-use Rattle.wire.proofs.writer.put_digits.Reads as put-digits-reads
 
 put-bytes-requires : tie.Need-put-bytes-requires
 put-bytes-requires c κs = search needs

@@ -5,10 +5,6 @@ use Rattle.machines.proofs.MadeLaws.{region-text}
 use borrow.Author.Needs.{needs}
 use Rattle.machines.proofs.made.put_region.Statement.{statement}
 use Rattle.machines.proofs.made.put_region.Tie as tie
-use Rattle.machines.proofs.made.put_region.Reads as reads
-use Rattle.machines.proofs.made.put_region.Lts as lts
-use Rattle.wire.proofs.writer.put_bytes.Reads as put-bytes-reads
-use Rattle.wire.proofs.writer.put_digits.Reads as put-digits-reads
 
 slice-aggregate-put-bytes : tie.Need-slice-aggregate-put-bytes
 slice-aggregate-put-bytes c = search needs

@@ -2,10 +2,6 @@ use Rattle.machines.proofs.MadeLaws.{var-is, put-is, state-top, state-i
 use borrow.Author.Needs.{needs}
 use Rattle.machines.proofs.made.put_text.Statement.{statement}
 use Rattle.machines.proofs.made.put_text.Tie as tie
-use Rattle.machines.proofs.made.put_text.Reads as reads
-use Rattle.machines.proofs.made.put_text.Lts as lts
-use Rattle.machines.proofs.made.put_region.Reads as put-region-reads
-use Rattle.wire.proofs.writer.put_bytes.Reads as put-bytes-reads
 
 enum-told : tie.Need-enum-told
 enum-told c = search needs

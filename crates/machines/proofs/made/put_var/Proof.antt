@@ -5,11 +5,6 @@ use Rattle.pack.proofs.Interns.{built-of}
 use borrow.Author.Needs.{needs}
 use Rattle.machines.proofs.made.put_var.Statement.{statement}
 use Rattle.machines.proofs.made.put_var.Tie as tie
-use Rattle.machines.proofs.made.put_var.Reads as reads
-use Rattle.machines.proofs.made.put_var.Lts as lts
-use Rattle.machines.proofs.made.put_text.Reads as put-text-reads
-use Rattle.pack.proofs.intern.put_built.Reads as put-built-reads
-use Rattle.wire.proofs.writer.Writer.start.Reads as start-reads
 
 slice-aggregate-put-text : tie.Need-slice-aggregate-put-text
 slice-aggregate-put-text c = search needs
