@@ -1,3 +1,4 @@
 pub mod MadeLaws
 pub mod LocalLaws
 pub mod Fates
+pub mod RegionCounts
