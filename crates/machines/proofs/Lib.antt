@@ -2,3 +2,4 @@ pub mod MadeLaws
 pub mod LocalLaws
 pub mod Fates
 pub mod RegionCounts
+pub mod Shares
