@@ -3,3 +3,5 @@ pub mod LocalLaws
 pub mod Fates
 pub mod RegionCounts
 pub mod Shares
+pub mod SectionLaws
+pub mod SectionExample
