@@ -6,4 +6,5 @@ pub mod Lower
 pub mod Locals
 pub mod Checks
 pub mod Machines
+pub mod Sections
 pub mod Call
