@@ -3,12 +3,14 @@ use Prim.Native.Nat.{ℕ}
 use mathlib.Core.List.{List, [], _∷_, _++_}
 use mathlib.Core.Bool.{Bool, true, false}
 use mathlib.Core.Path.{_≡_, refl, sym, ap, _∙_}
+use Rattle.wire.specs.Bytes.{two}
+use Rattle.pack.specs.Write.{Item, binByte, each, equationItems, exprItems, flagByte, list, litBytes, nameItems, unByte}
+use Rattle.machines.specs.Equations.{activeEquation, stateEquation}
 use Rattle.machines.specs.declared.made.Var.{Var}
 use Rattle.machines.specs.declared.made.Var.the-variants as vr
 use Rattle.wire.specs.Writer.{State, put, puts}
 use Rattle.pack.specs.Names.{Name}
 use Rattle.pack.specs.Syntax.{Expr, eArrow, eBinary, eConst, eIf, ePre, eUnary, eVar, lBool, oAnd, oEq, oNot}
-use Rattle.pack.specs.Write.{Item, binByte, exprItems, flagByte, litBytes, unByte}
 use Rattle.pack.specs.Intern.{putItem, putName, render}
 use Rattle.pack.proofs.Interns.{render-append}
 use Rattle.machines.specs.MadeNames.{activeVar, nextVar, stateVar}
@@ -49,3 +51,16 @@ active-top old n t id s e = rw e
 pub active-inner : (old n : List ℕ) (t : Bool) (id : ℕ) (s : State) → t ≡ false → render old (exprItems (isName (stateVar id) n)) (render old (exprItems (eVar (varName vr.Active id))) (puts (3 ∷ 0 ∷ []) s)) ≡ render old (exprItems (activeIn t id n)) s
 unfolding activeIn isName exprItems binByte render putItem puts varName
 active-inner old n t id s e = rw e
+
+-- equations
+pub left-term : (old n : List ℕ) (s : State) → putName old n (puts (two 1) s) ≡ render old (list nameItems (n ∷ [])) s
+unfolding list each nameItems render putItem
+left-term old n s = refl
+
+pub active-equation : (old n : List ℕ) (id : ℕ) (t : Bool) (p : ℕ) (s : State) → render old (exprItems (activeIn t p n)) (render old (list nameItems (varName vr.Active id ∷ [])) s) ≡ render old (equationItems (activeEquation id t p n)) s
+unfolding equationItems activeEquation varName
+active-equation old n id t p s = sym (render-append old (list nameItems (activeVar id ∷ [])) (exprItems (activeIn t p n)) s)
+
+pub state-equation : (old i : List ℕ) (id : ℕ) (h : Bool) (s : State) → render old (exprItems (stateRhs id i h)) (render old (list nameItems (varName vr.State id ∷ [])) s) ≡ render old (equationItems (stateEquation id i h)) s
+unfolding equationItems stateEquation varName
+state-equation old i id h s = sym (render-append old (list nameItems (stateVar id ∷ [])) (exprItems (stateRhs id i h)) s)

@@ -4,6 +4,7 @@ pub mod Vars
 pub mod Resolve
 pub mod Lower
 pub mod Locals
+pub mod Equations
 pub mod Checks
 pub mod Machines
 pub mod Sections
