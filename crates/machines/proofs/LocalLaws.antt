@@ -1,6 +1,6 @@
 -- Laws of the locals: their items as the code writes them, and that they depend on the number of regions only.
 use Prim.Native.Nat.{ℕ, zero, suc, _+_, _-_, _<_, _≤_}
-use native.Mathlib.Nat.{zero-add, suc-add, add-assoc}
+use native.Mathlib.Nat.{zero-add, suc-add}
 use native.Mathlib.Numerals.{add-one}
 use native.Mathlib.Omega.{arith}
 use mathlib.Core.List.{List, [], _∷_, _++_, append-assoc, append-nil}
@@ -9,11 +9,11 @@ use Rattle.machines.specs.declared.made.Var.{Var}
 use Rattle.machines.specs.declared.made.Var.the-variants as vr
 use Rattle.wire.specs.Writer.{State, put, puts}
 use Rattle.pack.specs.Names.{Name}
-use Rattle.pack.specs.Syntax.{Port, Regions, States, rCons, rNil, sCons, sNil, tBool, tNamed}
-use Rattle.pack.specs.Write.{Item, each, nm, one, portItems, raw, tyItems}
+use Rattle.pack.specs.Syntax.{Port, Regions, States, rCons, rNil, sCons, sNil}
+use Rattle.pack.specs.Write.{Item, each, one, portItems, tyItems}
 use Rattle.pack.specs.Intern.{putItem, putName, render}
 use Rattle.pack.proofs.Interns.{render-append}
-use Rattle.machines.specs.MadeNames.{activeVar, enumName, nextVar, stateVar}
+use Rattle.machines.specs.MadeNames.{enumName}
 use Rattle.machines.specs.Vars.{varName}
 use Rattle.machines.specs.Lower.{localsR, localsS, regionLocals, sizeR, sizeS}
 use Rattle.machines.specs.Locals.{activePort, innerLocals, statePort}

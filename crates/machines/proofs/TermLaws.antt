@@ -2,18 +2,16 @@
 use Prim.Native.Nat.{ℕ}
 use mathlib.Core.List.{List, [], _∷_, _++_}
 use mathlib.Core.Bool.{Bool, true, false}
-use mathlib.Core.Path.{_≡_, refl, sym, ap, _∙_}
+use mathlib.Core.Path.{_≡_, refl, sym, _∙_}
 use Rattle.wire.specs.Bytes.{two}
-use Rattle.pack.specs.Write.{Item, binByte, each, equationItems, exprItems, flagByte, list, litBytes, nameItems, unByte}
+use Rattle.pack.specs.Write.{binByte, each, equationItems, exprItems, flagByte, list, litBytes, nameItems, unByte}
 use Rattle.machines.specs.Equations.{activeEquation, stateEquation}
-use Rattle.machines.specs.declared.made.Var.{Var}
 use Rattle.machines.specs.declared.made.Var.the-variants as vr
 use Rattle.wire.specs.Writer.{State, put, puts}
-use Rattle.pack.specs.Names.{Name}
-use Rattle.pack.specs.Syntax.{Expr, eArrow, eBinary, eConst, eIf, ePre, eUnary, eVar, lBool, oAnd, oEq, oNot}
+use Rattle.pack.specs.Syntax.{eVar}
 use Rattle.pack.specs.Intern.{putItem, putName, render}
 use Rattle.pack.proofs.Interns.{render-append}
-use Rattle.machines.specs.MadeNames.{activeVar, nextVar, stateVar}
+use Rattle.machines.specs.MadeNames.{activeVar, stateVar}
 use Rattle.machines.specs.Vars.{varName}
 use Rattle.machines.specs.Lower.{activeIn, held, isName, justEntered, stateRhs}
 

@@ -2,9 +2,8 @@
 use mathlib.Core.List.{List, [], _∷_, _++_}
 use mathlib.Core.Bool.{Bool, true, false, cond}
 use mathlib.Core.Option.{Option, none, some}
-use Prim.Native.Nat.{ℕ}
 use Rattle.pack.specs.Names.{Name, member}
-use Rattle.pack.specs.Syntax.{Equation, Machine, Port, Regions, States, Transition, rCons, rNil, sCons, sNil}
+use Rattle.pack.specs.Syntax.{Machine, Port, Regions, States, Transition, rCons, rNil, sCons, sNil}
 use Rattle.machines.specs.Lower.{coversR, isSome, namesOf, ownValue}
 use Rattle.pack.specs.Report.{Refusal, asRefusal, firstOf}
 use Rattle.machines.specs.Refusals.{duplicateState, noStates, unassigned, unknownInitial, unknownTarget}

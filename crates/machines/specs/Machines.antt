@@ -1,8 +1,8 @@
 -- The lowering of a package's machines, one after the other.
 use mathlib.Core.List.{List, [], _∷_, _++_}
-use mathlib.Core.Bool.{Bool, true, false, cond}
+use mathlib.Core.Bool.{cond}
 use mathlib.Core.Option.{Option, none, some}
-use Prim.Native.Nat.{ℕ, _+_}
+use Prim.Native.Nat.{_+_}
 use lib.ListN.{length}
 use Rattle.pack.specs.Names.{Name, eqName}
 use Rattle.pack.specs.Syntax.{Drawing, Enum, Equation, Machine, Node, Origin, OriginKind, Package, Port, States, kOperator, ofMachine}

@@ -1,5 +1,5 @@
 -- The names that lowering a machine makes; regions have ids in preorder, the top region 0.
-use mathlib.Core.List.{List, [], _∷_, _++_}
+use mathlib.Core.List.{[], _∷_, _++_}
 use Prim.Native.Nat.{ℕ, zero, suc}
 use Rattle.pack.specs.Names.{Name}
 use Rattle.wire.specs.Decimal.{decimal}

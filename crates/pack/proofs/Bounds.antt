@@ -1,17 +1,15 @@
 -- No offset that reading a pack answers is past its end.
 use Prim.Native.Nat.{ℕ, _+_, _≤_, zero, suc}
-use native.Mathlib.Omega.{arith}
 use mathlib.Core.List.{List, [], _∷_, _++_}
-use mathlib.Core.Path.{_≡_, refl}
 use mathlib.Core.Bool.{not, _||_}
 use lib.ListN.{length, getD}
 use lib.Dec.{ltb, eqb}
-use Rattle.wire.specs.Answer.{Answer, below, guard, illegal, index, many, mapA, u16}
+use Rattle.wire.specs.Answer.{Answer, illegal, index, u16}
 use Rattle.wire.proofs.Bounds.{Within, offsetIn, within-below, within-bind, within-byte, within-cond, within-counted, within-guard, within-index, within-many, within-map, within-trees, within-u16, within-u32, within-u64, within-value}
 use Rattle.pack.specs.Names.{Name, member}
 use Rattle.pack.specs.Read.{OneRegion, activationIn, branchIn, char, enumIn, equationIn, equationsIn, exprIn, machineIn, name, nameByte, nameIn, nameSection, namesAfter, namesIn, nodeIn, optionalIn, originIn, packAt, portIn, portsIn, regionAt, size, stateAt, stateWith, transitionIn, typeIn}
 use Rattle.pack.specs.Forms.{ExprHead, callFields, exprArity, exprAt, exprFields, exprHead, exprRows, iterateFields, literal, literalOf, structFields, typeArity, typeAt, typeFields, typeHead, whenFields}
-use Rattle.pack.specs.Limits.{absent, maxLevel}
+use Rattle.pack.specs.Limits.{absent}
 
 module _ (s : List ℕ) where
   w-char : Within (length s) (char s)

@@ -1,14 +1,14 @@
 -- Laws of the check: the sections one after the other, and what the verdict on them tells.
-use Prim.Native.Nat.{ℕ, _+_, _*_, _≤_, _<_, zero, suc}
+use Prim.Native.Nat.{ℕ, _+_, _≤_, _<_, zero, suc}
 use native.Mathlib.Omega.{arith}
 use mathlib.Core.List.{List, [], _∷_, _++_}
 use mathlib.Core.Bool.{Bool, true, false, cond, not}
 use mathlib.Core.Path.{_≡_, refl, sym, ap, _∙_, subst}
-use lib.ListN.{length, getD, length-append, replicate, length-replicate}
+use lib.ListN.{length, length-append, replicate, length-replicate}
 use lib.Dec.{ltb}
 use types.Run.{OneOf}
 use denote.Enum.Declared.{tagOf}
-use borrow.Author.Tests.{lt-ltb, le-ltb, ltb-true, ltb-false}
+use borrow.Author.Tests.{lt-ltb, le-ltb, ltb-false}
 use Rattle.wire.proofs.answer.Read as Read-enum
 use Rattle.wire.proofs.answer.Skipped as Skipped-enum
 use Rattle.wire.specs.declared.answer.Read.{Read}
@@ -18,17 +18,17 @@ use Rattle.wire.specs.declared.answer.Skipped.the-variants as sk
 use Rattle.pack.specs.declared.check.Verdict.{Verdict}
 use Rattle.pack.specs.declared.check.Verdict.the-variants as vd
 use Rattle.pack.specs.declared.record.Pack.{Pack}
-use Rattle.wire.specs.Answer.{Answer, bind, counted, deep, early, guard, illegal, mapA, u16, value}
+use Rattle.wire.specs.Answer.{Answer, bind, counted, deep, early, guard, illegal, u16, value}
 use Rattle.wire.specs.Code.{next, onward, readOf, skip, skips}
 use Rattle.wire.proofs.Codes.{bind-steps, last-step, steps, steps-deep, steps-early, steps-illegal}
-use Rattle.wire.proofs.Answers.{bind-value, guard-value, map-value}
+use Rattle.wire.proofs.Answers.{bind-value, map-value}
 use Rattle.wire.proofs.Steps.{found, never-is}
 use Rattle.wire.proofs.Bounds.{offsetIn}
 use Rattle.pack.proofs.Bounds.{within-pack}
 use Rattle.pack.proofs.RoundTrip.{bodyIn, read-value}
 use Rattle.pack.specs.Limits.{maxBytes}
 use Rattle.pack.specs.Names.{Name, member}
-use Rattle.pack.specs.Syntax.{Activation, Drawing, Enum, Node, Origin, Package}
+use Rattle.pack.specs.Syntax.{Package}
 use Rattle.pack.specs.Read.{Reading, activationIn, bytesAfter, deepAt, endsEarly, enumIn, illegalAt, machineIn, name, nameSection, namesAfter, nodeIn, originIn, packAt, read, readingOf, tooLong, whole}
 use Rattle.pack.specs.Outcome.{answers, check, numberOf, onPackage, returned, valueOf}
 use Rattle.pack.specs.Verdict.{Small, Stands, codeOf, judgedOf, offsetOf, verdictOf}

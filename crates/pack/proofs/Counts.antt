@@ -1,18 +1,17 @@
 -- In a pack that is not too long every count fits: what is left to ask of a package is its form.
-use Prim.Native.Nat.{ℕ, _+_, _*_, _≤_, _<_, _-_, zero, suc}
+use Prim.Native.Nat.{ℕ, _+_, _≤_, _<_, _-_, zero, suc}
 use native.Mathlib.Omega.{arith}
-use mathlib.Core.List.{List, [], _∷_, _++_, append-assoc, append-nil}
-use mathlib.Core.Bool.{Bool, true, false, cond}
-use mathlib.Core.Option.{Option, none, some}
-use mathlib.Core.Path.{_≡_, refl, sym, ap, subst, _∙_}
+use mathlib.Core.List.{List, [], _∷_, _++_}
+use mathlib.Core.Bool.{Bool, true, false}
+use mathlib.Core.Path.{_≡_, refl}
 use lib.ListN.{length, length-append}
-use Rattle.pack.specs.Limits.{absent, maxLevel}
+use Rattle.pack.specs.Limits.{maxLevel}
 use Rattle.pack.specs.Names.{Name}
-use Rattle.pack.specs.Syntax.{Activation, Branch, Drawing, Drawn, DrawnRegions, Enum, Equation, Expr, Exprs, Lit, Node, Origin, Package, Port, Transition, Ty, dCons, dNil, eArray, eArrow, eBinary, eCall, eCast, eConst, eField, eIf, eIndex, eIterate, eMerge, ePre, eStruct, eTuple, eUnary, eVar, eWhen, qCons, qNil, tArray, tBool, tChar, tFloat32, tFloat64, tInt16, tInt32, tInt64, tInt8, tNamed, tUint16, tUint32, tUint64, tUint8, xCons, xNil}
-use Rattle.pack.specs.Write.{Item, activationItems, arrays, branchItems, countOf, drawnCount, drawnItems, each, enumItems, equationItems, exprItems, exprsItems, flagByte, list, litBytes, machineItems, nameItems, nm, nodeItems, one, optionItems, originItems, packageItems, portItems, raw, regionCount, regionItems, transitionItems, tyItems}
-use Rattle.wire.specs.Bytes.{bytes, two}
+use Rattle.pack.specs.Syntax.{Activation, Branch, Drawing, Drawn, DrawnRegions, Enum, Equation, Expr, Exprs, Node, Origin, Package, Port, Transition, dCons, dNil, eArray, eArrow, eBinary, eCall, eCast, eConst, eField, eIf, eIndex, eIterate, eMerge, ePre, eStruct, eTuple, eUnary, eVar, eWhen, qCons, qNil, xCons, xNil}
+use Rattle.pack.specs.Write.{Item, activationItems, arrays, branchItems, countOf, drawnCount, drawnItems, each, enumItems, equationItems, exprItems, exprsItems, list, machineItems, nameItems, nm, nodeItems, optionItems, originItems, packageItems, portItems, raw, regionCount, regionItems, transitionItems, tyItems}
+use Rattle.wire.specs.Bytes.{two}
 use Rattle.wire.specs.Lists.{All}
-use Rattle.pack.specs.Legal.{Deeper, Formed, FormedActivation, FormedAll, FormedBranch, FormedEquation, FormedMachine, FormedNode, FormedOrigin, FormedPackage, FormedRegions, FormedStates, FormedTransition, LegalLit, ShapedPort, ShapedTy, place}
+use Rattle.pack.specs.Legal.{Deeper, Formed, FormedActivation, FormedAll, FormedBranch, FormedEquation, FormedMachine, FormedNode, FormedOrigin, FormedPackage, FormedRegions, FormedStates, FormedTransition, ShapedPort}
 use Rattle.pack.proofs.Tables.{all-map, code}
 use Rattle.pack.proofs.ExprFormats.{Shaped, ShapedAll}
 use Rattle.pack.proofs.PartFormats.{Listed, ShapedActivation, ShapedBranch, ShapedEnum, ShapedEquation, ShapedMachine, ShapedNode, ShapedOrigin, ShapedPackage, ShapedRegions, ShapedStates, ShapedTransition}

@@ -1,23 +1,20 @@
 -- Laws of expressions: the fields of each tag as the code goes through them, that heads move forward, and how many expressions stand under one.
-use Prim.Native.Nat.{ℕ, _+_, _*_, _≤_, _<_, zero, suc}
+use Prim.Native.Nat.{ℕ, _+_, _≤_, _<_, zero, suc}
 use native.Mathlib.Omega.{arith}
-use mathlib.Core.List.{List, [], _∷_, _++_}
-use mathlib.Core.Bool.{cond}
+use mathlib.Core.List.{List, [], _∷_}
 use mathlib.Core.Path.{_≡_, refl, sym, ap, _∙_}
-use lib.ListN.{length, getD, List·getD-eq-default}
+use lib.ListN.{length, getD}
 use lib.Dec.{eqb}
 use borrow.Author.Tests.{ne-eqb, ltb-true}
-use Rattle.wire.specs.declared.answer.Read.{Read}
 use Rattle.wire.specs.declared.answer.Read.the-variants as rd
-use Rattle.wire.specs.Answer.{Answer, below, bind, byte, deep, early, guard, illegal, index, many, mapA, u16, u32, u64, value}
-use Rattle.wire.specs.Code.{becomesOf, nextR, nextS, readOf, skip, thenIs}
-use Rattle.wire.proofs.Codes.{becomes-read, read-bind, read-map-bind, read-map-id, read-map-map, skip-bindS, skip-map, thenIs-read}
-use Rattle.wire.proofs.Answers.{Forward, Fwd, bind-value, byte-ends, byte-value, fwd-below, fwd-bind, fwd-index, fwd-many, fwd-map, fwd-u16, fwd-u64, fwd-value, guard-value, many-length, map-bind, map-map, map-value, u16-value, fwd-cond, fwd-byte}
-use Rattle.wire.specs.Preorder.{Tree, Trees, trees}
+use Rattle.wire.specs.Answer.{Answer, below, bind, byte, guard, illegal, index, many, mapA, u16, u64, value}
+use Rattle.wire.specs.Code.{nextR, nextS, readOf, skip, thenIs}
+use Rattle.wire.proofs.Codes.{read-map-bind, read-map-map, skip-bindS, skip-map, thenIs-read}
+use Rattle.wire.proofs.Answers.{Fwd, bind-value, byte-ends, byte-value, fwd-below, fwd-bind, fwd-index, fwd-many, fwd-map, fwd-u16, fwd-u64, fwd-value, guard-value, many-length, map-map, map-value, u16-value, fwd-cond, fwd-byte}
 use Rattle.wire.proofs.Preorders.{Moves, pending, skip-trees}
-use Rattle.pack.specs.Forms.{ExprHead, TypeHead, array, arrow, binary, call, callFields, cast, conditional, const, element, exprArity, exprAt, exprFields, exprHead, exprRows, field, flagOf, iterate, iterateFields, literal, literalOf, merge, previous, sample, struct, structFields, tuple, typeAt, unary, var, whenFields}
+use Rattle.pack.specs.Forms.{ExprHead, callFields, exprArity, exprAt, exprFields, exprHead, exprRows, flagOf, iterate, iterateFields, literal, literalOf, struct, structFields, whenFields}
 use Rattle.pack.proofs.TypeLaws.{fwd-type}
-use Rattle.pack.specs.Syntax.{Lit, lBool, lChar, lFloat, lInt}
+use Rattle.pack.specs.Syntax.{lBool, lChar, lFloat, lInt}
 use Rattle.pack.specs.Heads.{exprMore}
 
 pub struct-read : (names : ℕ) (s : List ℕ) (at : ℕ) → readOf (mapA exprArity (structFields names s at)) ≡ nextR (readOf (index names s at)) (λ i p. nextR (readOf (u16 s p)) (λ n q. thenIs (skip (many (index names s) n q)) n))

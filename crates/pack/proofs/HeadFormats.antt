@@ -1,20 +1,19 @@
 -- The heads of expressions: each tag's fields, written and read.
-use Prim.Native.Nat.{ℕ, _+_, _*_, _≤_, _<_, _-_, zero, suc}
+use Prim.Native.Nat.{ℕ, _+_, _≤_, _<_, _-_}
 use native.Mathlib.Omega.{arith}
-use mathlib.Core.List.{List, [], _∷_, _++_, append-assoc, append-nil}
+use mathlib.Core.List.{List, [], _∷_, _++_}
 use mathlib.Core.Bool.{Bool, true, false, cond}
 use mathlib.Core.Path.{_≡_, refl, sym, ap, subst, _∙_}
-use lib.ListN.{length, getD, drop}
+use lib.ListN.{length, drop}
 use lib.Dec.{eqb}
 use borrow.Author.Tests.{eqb-true, eqb-false}
 use Rattle.pack.specs.Syntax.{Lit, lBool, lChar, lFloat, lInt}
 use Rattle.wire.specs.Answer.{Answer, below, bind, byte, counted, deep, early, illegal, index, many, mapA, u16, u64, value}
-use Rattle.wire.specs.Preorder.{Tree, Trees, cons, nil, node}
-use Rattle.pack.specs.Forms.{ExprHead, TypeHead, array, arrow, binary, call, callFields, cast, conditional, const, element, exprArity, exprAt, exprFields, exprHead, exprRows, field, flagOf, iterate, iterateFields, literal, literalOf, merge, previous, sample, struct, structFields, tuple, typeArity, typeAt, unary, var, whenFields}
+use Rattle.pack.specs.Forms.{ExprHead, array, arrow, binary, call, callFields, cast, conditional, const, element, exprArity, exprAt, exprFields, exprHead, exprRows, field, flagOf, iterate, iterateFields, literal, literalOf, merge, previous, sample, struct, structFields, tuple, typeArity, typeAt, unary, var, whenFields}
 use Rattle.wire.specs.Bytes.{bytes, two}
 use Rattle.pack.specs.Write.{flagByte, litBytes}
 use Rattle.wire.specs.Lists.{All, Bytes}
-use Rattle.wire.proofs.Formats.{Back, Below, Format, bind-to, both, encAll, format16, format64, formatBelow, formatBoth, formatByte, formatCounted, formatIndex, formatNothing, formatSame, nothing, seq, single}
+use Rattle.wire.proofs.Formats.{Back, Below, Format, bind-to, both, encAll, format16, format64, formatBelow, formatBoth, formatByte, formatCounted, formatIndex, formatNothing, nothing, seq, single}
 use Rattle.wire.proofs.Answers.{bind-value, map-value}
 use Rattle.wire.proofs.TreeFormats.{OkTrees, count, encTrees, formatTree}
 use Rattle.pack.proofs.TypeFormats.{OkType, Rows, encType, formatTypes, row-at}

@@ -7,12 +7,11 @@ use mathlib.Core.Bool.{Bool, true, false, not, cond, _&&_, _||_}
 use mathlib.Core.Path.{_≡_, refl, sym, ap, _∙_}
 use lib.ListN.{length, getD, take, drop, length-take, length-drop}
 use lib.Seq.{drop-cons}
-use lib.Dec.{ltb, leb, eqb}
-use borrow.Author.Tests.{ltb-true, eq-eqb, ne-eqb}
-use Rattle.wire.specs.declared.answer.Read.{Read}
+use lib.Dec.{ltb, eqb}
+use borrow.Author.Tests.{eq-eqb, ne-eqb}
 use Rattle.wire.specs.declared.answer.Read.the-variants as rd
 use Rattle.wire.specs.declared.answer.Skipped.the-variants as sk
-use Rattle.wire.specs.Answer.{Answer, bind, byte, deep, early, guard, illegal, many, mapA, u16, value}
+use Rattle.wire.specs.Answer.{Answer, bind, byte, deep, early, guard, illegal, many, u16, value}
 use Rattle.pack.specs.Read.{char, name, nameByte, nameSection, namesAfter, size}
 use Rattle.wire.specs.Code.{next, nextR, nextS, readOf, rep, skip}
 use Rattle.wire.proofs.Answers.{bind-value, byte-value, guard-value}

@@ -3,7 +3,7 @@ use Prim.Native.Nat.{ℕ, _≤_}
 use mathlib.Core.List.{List, [], _∷_}
 use mathlib.Core.Path.{_≡_, refl, sym, ap, _∙_}
 use native.Mathlib.Omega.{arith}
-use lib.ListN.{length, getD, List·getD-eq-default}
+use lib.ListN.{getD, List·getD-eq-default}
 use types.Run.{OneOf}
 use denote.Enum.Declared.{tagOf}
 use Rattle.wire.proofs.answer.Read as Read-enum
@@ -14,11 +14,10 @@ use Rattle.pack.specs.declared.exprs.Node.{Node}
 use Rattle.pack.specs.declared.exprs.Node.the-variants as nd
 use Rattle.pack.specs.declared.exprs.Decoded.{Decoded}
 use Rattle.pack.specs.declared.exprs.Decoded.the-variants as dc
-use Rattle.wire.specs.Answer.{Answer, below, bind, deep, early, illegal, mapA, value}
+use Rattle.wire.specs.Answer.{Answer, bind, deep, early, illegal, mapA, value}
 use Rattle.wire.specs.Code.{becomesOf, readOf}
 use Rattle.wire.proofs.Answers.{bind-value, map-value}
-use Rattle.pack.specs.Forms.{ExprHead, array, arrow, binary, call, cast, conditional, const, element, exprArity, exprFields, exprHead, exprRows, field, iterate, merge, previous, sample, struct, tuple, unary, var, structFields, iterateFields}
-use Rattle.pack.specs.Heads.{exprMore}
+use Rattle.pack.specs.Forms.{ExprHead, array, arrow, binary, call, cast, conditional, const, element, exprArity, exprFields, exprRows, field, iterate, merge, previous, sample, struct, tuple, unary, var, structFields, iterateFields}
 use Rattle.pack.specs.Nodes.{calledOf, clockedOf, decoded, moreOf, nodeOf, otherOf, underOf, variableOf}
 use Rattle.wire.proofs.Steps.{never-is}
 

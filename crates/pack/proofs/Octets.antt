@@ -1,24 +1,24 @@
 -- What is written of a legal package is bytes.
-use Prim.Native.Nat.{ℕ, _+_, _*_, _/_, _%_, _≤_, _<_, _-_, zero, suc}
+use Prim.Native.Nat.{ℕ, _+_, _/_, _<_, _-_, zero, suc}
 use native.Mathlib.Omega.{arith}
-use mathlib.Core.List.{List, [], _∷_, _++_, append-assoc, append-nil}
-use mathlib.Core.Bool.{Bool, true, false}
+use mathlib.Core.List.{List, [], _∷_, _++_}
+use mathlib.Core.Bool.{Bool}
 use mathlib.Core.Option.{Option, none, some}
-use mathlib.Core.Path.{_≡_, refl, sym, ap, subst, _∙_}
-use lib.ListN.{length, getD}
+use mathlib.Core.Path.{sym, subst}
+use lib.ListN.{length}
 use Rattle.pack.specs.Limits.{maxLevel}
 use Rattle.pack.specs.Names.{Name}
-use Rattle.pack.specs.Syntax.{Activation, Branch, Drawing, Drawn, DrawnRegions, Enum, Equation, Expr, Exprs, Lit, Node, Origin, OriginKind, Package, Port, Transition, Ty, dCons, dNil, eArray, eArrow, eBinary, eCall, eCast, eConst, eField, eIf, eIndex, eIterate, eMerge, ePre, eStruct, eTuple, eUnary, eVar, eWhen, lBool, lChar, lFloat, lInt, qCons, qNil, tArray, tBool, tChar, tFloat32, tFloat64, tInt16, tInt32, tInt64, tInt8, tNamed, tUint16, tUint32, tUint64, tUint8, xCons, xNil}
+use Rattle.pack.specs.Syntax.{Activation, Branch, Drawing, Drawn, DrawnRegions, Enum, Equation, Expr, Exprs, Lit, Node, Origin, Package, Port, Transition, Ty, dCons, dNil, eArray, eArrow, eBinary, eCall, eCast, eConst, eField, eIf, eIndex, eIterate, eMerge, ePre, eStruct, eTuple, eUnary, eVar, eWhen, lBool, lChar, lFloat, lInt, qCons, qNil, tArray, tBool, tChar, tFloat32, tFloat64, tInt16, tInt32, tInt64, tInt8, tNamed, tUint16, tUint32, tUint64, tUint8, xCons, xNil}
 use Rattle.pack.specs.Write.{Item, activationItems, arrays, branchItems, countOf, drawnCount, drawnItems, each, enc, encode, enumItems, equationItems, exprItems, exprsItems, flagByte, list, litBytes, machineItems, nameItems, nm, nodeItems, one, optionItems, originItems, packageItems, portItems, raw, regionCount, regionItems, transitionItems, tyItems}
 use Rattle.wire.specs.Bytes.{bytes, two}
 use Rattle.wire.specs.Lists.{All, Bytes}
 use Rattle.wire.proofs.Formats.{Below}
 use Rattle.pack.proofs.Tables.{all-append, all-map, code, nameByte-small}
-use Rattle.pack.specs.Legal.{Deeper, Formed, FormedActivation, FormedAll, FormedBranch, FormedEquation, FormedMachine, FormedNode, FormedOrigin, FormedPackage, FormedRegions, FormedStates, FormedTransition, Legal, LegalLit, LegalName, Ready, ShapedPort, ShapedTy, completed}
+use Rattle.pack.specs.Legal.{Deeper, Formed, FormedActivation, FormedAll, FormedBranch, FormedEquation, FormedMachine, FormedNode, FormedOrigin, FormedPackage, FormedRegions, FormedStates, FormedTransition, Legal, LegalLit, LegalName, Ready, ShapedPort, completed}
 use Rattle.pack.proofs.HeadFormats.{flag-small}
 use Rattle.pack.proofs.ExprFormats.{bin-down, iter-down, un-down}
 use Rattle.pack.proofs.PartFormats.{kind-down, origin-down}
-use Rattle.pack.proofs.RoundTrip.{canonical, complete-encode, encode-known, read-back, ready-legal, tabled}
+use Rattle.pack.proofs.RoundTrip.{complete-encode, encode-known, ready-legal, tabled}
 
 abbrev Small : List ℕ → Type 0
 Small s = All (Below 256) s

@@ -1,23 +1,23 @@
 -- Ports, equations, nodes, machines, activations and origins: each a record of formats.
-use Prim.Native.Nat.{ℕ, _+_, _*_, _≤_, _<_, _-_, zero, suc}
+use Prim.Native.Nat.{ℕ, _+_, _≤_, _<_, _-_, zero, suc}
 use native.Mathlib.Omega.{arith}
 use mathlib.Core.List.{List, [], _∷_, _++_, append-assoc, append-nil}
 use mathlib.Core.Bool.{Bool, true, false, cond, _||_}
 use mathlib.Core.Option.{Option, none, some}
-use mathlib.Core.Path.{_≡_, refl, sym, ap, subst, _∙_}
-use lib.ListN.{length, getD, drop}
+use mathlib.Core.Path.{_≡_, refl, sym, ap, _∙_}
+use lib.ListN.{length, getD}
 use lib.Dec.{eqb, ltb}
-use borrow.Author.Tests.{eqb-true, eqb-false, lt-ltb, le-ltb, ltb-true, ltb-false, ne-eqb, eq-eqb}
+use borrow.Author.Tests.{eqb-true, eqb-false, lt-ltb, le-ltb, ltb-true, ne-eqb}
 use Rattle.pack.specs.Limits.{absent, maxLevel}
 use Rattle.pack.specs.Names.{Name}
 use Rattle.pack.specs.Syntax.{Activation, Branch, Drawing, Drawn, DrawnRegions, Enum, Equation, Expr, Node, NodeKind, Origin, OriginKind, Package, Port, Transition, Ty, dCons, dNil, kFunction, kImported, kOperator, ofActivation, ofMachine, qCons, qNil}
-use Rattle.wire.specs.Answer.{Answer, below, bind, counted, deep, early, guard, illegal, index, mapA, u16, value}
+use Rattle.wire.specs.Answer.{Answer, below, counted, deep, guard, mapA, u16, value}
 use Rattle.pack.specs.Forms.{flagOf, nameAt}
 use Rattle.pack.specs.Read.{OneRegion, OneState, activationIn, branchIn, drawnOf, enumIn, equationIn, equationsIn, exprIn, kindOf, machineIn, nameIn, namesIn, nodeIn, optional, optionalIn, originIn, originKind, portIn, portsIn, regionAt, regionsOf, stateAt, stateWith, transitionIn, typeIn}
 use Rattle.pack.specs.Write.{Item, activationItems, branchItems, drawnCount, drawnItems, each, enumItems, equationItems, exprItems, flagByte, kindByte, list, machineItems, nameItems, nm, nodeItems, optionItems, originByte, originItems, portItems, raw, regionCount, regionItems, transitionItems, tyItems}
 use Rattle.wire.specs.Bytes.{two}
-use Rattle.wire.specs.Lists.{All, Bytes}
-use Rattle.wire.proofs.Formats.{Back, Below, Format, both, format16, formatBelow, formatGuard, formatIs, formatMap, formatSame, seq, single}
+use Rattle.wire.specs.Lists.{All}
+use Rattle.wire.proofs.Formats.{Below, both, format16, formatBelow, formatGuard, formatIs, formatMap, formatSame, seq, single}
 use Rattle.pack.specs.Legal.{Deeper, Each, Fresh, Known, ShapedPort, ShapedTy, place}
 use Rattle.pack.proofs.Tables.{code, name-at-place, place-at-name}
 use Rattle.pack.proofs.TypeFormats.{Alike, Any, Fmt, Rows, alike, fmtBoth, fmtCounted, fmtMap, fmtName, fmtRaw, fmtType, row-at}

@@ -1,24 +1,24 @@
 -- The whole pack: what reads as a package is what is written of it, and what is written of a legal package reads as it.
-use Prim.Native.Nat.{ℕ, _+_, _*_, _≤_, _<_, _-_, zero, suc}
+use Prim.Native.Nat.{ℕ, _+_, _≤_, _<_, _-_}
 use native.Mathlib.Omega.{arith}
 use mathlib.Core.List.{List, [], _∷_, _++_, append-assoc, append-nil}
 use mathlib.Core.Bool.{Bool, true, false, cond}
 use mathlib.Core.Path.{_≡_, refl, sym, ap, subst, _∙_}
-use lib.ListN.{length, getD, drop, length-drop, length-append, drop-of-length-le}
+use lib.ListN.{length, drop, length-drop, length-append, drop-of-length-le}
 use lib.Dec.{ltb}
-use borrow.Author.Tests.{lt-ltb, le-ltb, ltb-true, ltb-false}
+use borrow.Author.Tests.{le-ltb, ltb-false}
 use Rattle.pack.specs.Limits.{maxBytes}
 use Rattle.pack.specs.Names.{Name}
 use Rattle.pack.specs.Syntax.{Activation, Drawing, Enum, Node, Origin, Package}
 use Rattle.wire.specs.Answer.{Answer, bind, counted, deep, early, illegal, mapA, value}
-use Rattle.pack.specs.Read.{Reading, activationIn, bytesAfter, deepAt, endsEarly, enumIn, illegalAt, machineIn, nameSection, nodeIn, originIn, packAt, read, readingOf, tooLong, whole}
-use Rattle.pack.specs.Write.{Item, Spelt, activationItems, enc, encode, enumItems, joined, list, machineItems, nm, nodeItems, originItems, packageItems, raw, spell, spelt}
+use Rattle.pack.specs.Read.{activationIn, bytesAfter, enumIn, machineIn, nameSection, nodeIn, originIn, packAt, read, readingOf, tooLong, whole}
+use Rattle.pack.specs.Write.{activationItems, enc, encode, enumItems, joined, list, machineItems, nodeItems, originItems, packageItems}
 use Rattle.wire.specs.Bytes.{two}
 use Rattle.wire.specs.Lists.{All, Bytes}
-use Rattle.wire.proofs.Formats.{Back, Format, bind-to, both, seq}
+use Rattle.wire.proofs.Formats.{Back, bind-to, both, seq}
 use Rattle.wire.proofs.Answers.{bind-value}
-use Rattle.pack.specs.Legal.{Each, FormedPackage, Fresh, Known, Legal, LegalName, Ready, completed, newNames, newOf, withNames}
-use Rattle.pack.proofs.Tables.{Completed, LegalTable, all-append, code, complete, enc-append, formatNames, fresh-append, spell-known}
+use Rattle.pack.specs.Legal.{Each, Fresh, Known, Legal, LegalName, Ready, completed, newNames, newOf, withNames}
+use Rattle.pack.proofs.Tables.{LegalTable, all-append, code, complete, enc-append, formatNames, fresh-append, spell-known}
 use Rattle.pack.proofs.TypeFormats.{Fmt, fmtBoth, fmtCounted}
 use Rattle.pack.proofs.Counts.{fit-package, package-formed, size-code, sizeOf}
 use Rattle.pack.proofs.PartFormats.{Listed, ShapedActivation, ShapedEnum, ShapedMachine, ShapedNode, ShapedOrigin, ShapedPackage, fmtActivation, fmtEnum, fmtMachine, fmtNode, fmtOrigin, fmtRecord}

@@ -1,10 +1,10 @@
 -- The theorems at a package that has something of everything: their premises can be met.
-use Prim.Native.Nat.{ℕ, _+_, _≤_, _<_, zero, suc}
+use Prim.Native.Nat.{ℕ, _≤_, zero, suc}
 use native.Mathlib.Omega.{arith}
-use mathlib.Core.List.{List, [], _∷_, _++_}
-use mathlib.Core.Bool.{Bool, true, false}
-use mathlib.Core.Option.{Option, none, some}
-use mathlib.Core.Path.{_≡_, refl, sym, ap, subst, _∙_}
+use mathlib.Core.List.{List, [], _∷_}
+use mathlib.Core.Bool.{true, false}
+use mathlib.Core.Option.{none, some}
+use mathlib.Core.Path.{_≡_, refl, ap, _∙_}
 use lib.ListN.{length}
 use Rattle.pack.specs.Limits as Limits
 use Rattle.pack.specs.Names as Names
@@ -15,9 +15,9 @@ use Rattle.wire.specs.Answer as Answer
 use Rattle.wire.specs.Preorder as Preorder
 use Rattle.wire.specs.Bytes as Bytes
 use Rattle.pack.specs.Names.{Name}
-use Rattle.pack.specs.Syntax.{Drawn, Expr, Package, dCons, dNil, eBinary, eCast, eConst, eIf, eIterate, ePre, eStruct, eVar, eWhen, iFold, kOperator, lChar, lInt, oShr, ofActivation, qCons, qNil, tArray, tBool, tChar, tNamed, xCons, xNil}
+use Rattle.pack.specs.Syntax.{Drawn, Package, dCons, dNil, eBinary, eCast, eConst, eIf, eIterate, ePre, eStruct, eVar, eWhen, iFold, kOperator, lChar, lInt, oShr, ofActivation, qCons, qNil, tArray, tChar, tNamed, xCons, xNil}
 use Rattle.wire.specs.Lists.{All, Bytes}
-use Rattle.pack.specs.Legal.{Deeper, Each, FormedRegions, FormedStates, Fresh, Legal, LegalName, Ready, completed, newNames, newOf, withNames}
+use Rattle.pack.specs.Legal.{Deeper, FormedRegions, FormedStates, Fresh, Legal, Ready, completed, newNames, newOf, withNames}
 use Rattle.pack.proofs.RoundTrip.{read-back, read-back-completed, read-legal}
 use Rattle.pack.proofs.WrittenBack.{allSmall, legal-ready, small-bytes}
 

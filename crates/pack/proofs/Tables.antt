@@ -1,14 +1,14 @@
 -- The table of names: places, items under a table, and how spelling completes it.
-use Prim.Native.Nat.{ℕ, _+_, _*_, _≤_, _<_, _-_, zero, suc}
+use Prim.Native.Nat.{ℕ, _+_, _≤_, _<_, _-_, zero, suc}
 use native.Mathlib.Omega.{arith}
 use mathlib.Core.List.{List, [], _∷_, _++_, append-assoc, append-nil}
 use mathlib.Core.Bool.{Bool, true, false, cond, not, _||_, _&&_}
 use mathlib.Core.Path.{_≡_, refl, sym, ap, subst, _∙_}
-use lib.ListN.{length, getD, drop, length-drop, length-append}
+use lib.ListN.{length, getD, drop, length-append}
 use lib.Dec.{ltb, eqb}
 use borrow.Author.Tests.{lt-ltb, le-ltb, ltb-true, ltb-false, eqb-true, eq-eqb, ne-eqb, not-true}
 use Rattle.pack.specs.Names.{Name, eqName, member}
-use Rattle.wire.specs.Answer.{Answer, bind, byte, deep, early, guard, illegal, index, many, mapA, u16, value}
+use Rattle.wire.specs.Answer.{byte, guard, u16, value}
 use Rattle.pack.specs.Forms.{nameAt}
 use Rattle.pack.specs.Read.{char, name, nameByte, nameSection, namesAfter, size}
 use Rattle.pack.specs.Write.{At, Found, Item, Missing, Spelt, andThen, before, enc, lookup, newIn, nm, oldIn, raw, spell, spellOne, spelt}

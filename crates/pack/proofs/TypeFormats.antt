@@ -1,7 +1,7 @@
 -- Items under a table: formats whose bytes are those of items; names, lists, and types.
-use Prim.Native.Nat.{ℕ, _+_, _*_, _≤_, _<_, _-_, zero, suc}
+use Prim.Native.Nat.{ℕ, _+_, _≤_, _<_, _-_, zero, suc}
 use native.Mathlib.Omega.{arith}
-use mathlib.Core.List.{List, [], _∷_, _++_, append-assoc, append-nil}
+use mathlib.Core.List.{List, [], _∷_, _++_, append-nil}
 use mathlib.Core.Bool.{Bool, true, false, cond}
 use mathlib.Core.Path.{_≡_, refl, sym, ap, subst, _∙_}
 use lib.ListN.{length, getD, drop}
@@ -9,11 +9,11 @@ use lib.Dec.{eqb}
 use borrow.Author.Tests.{eqb-true, eqb-false, ne-eqb}
 use Rattle.pack.specs.Names.{Name}
 use Rattle.pack.specs.Syntax.{Ty, tArray, tBool, tChar, tFloat32, tFloat64, tInt16, tInt32, tInt64, tInt8, tNamed, tUint16, tUint32, tUint64, tUint8}
-use Rattle.wire.specs.Answer.{Answer, below, bind, counted, deep, early, illegal, index, many, mapA, u16, u32, value}
-use Rattle.wire.specs.Preorder.{Tree, Trees, cons, nil, node, trees}
+use Rattle.wire.specs.Answer.{Answer, below, bind, counted, index, mapA, u32, value}
+use Rattle.wire.specs.Preorder.{Tree, Trees, cons, nil, node}
 use Rattle.pack.specs.Forms.{TypeHead, firstType, nameAt, named, plain, plainTypes, sized, typeArity, typeAt, typeFields, typeHead, typeOf, typeOver}
 use Rattle.pack.specs.Read.{nameIn, typeIn}
-use Rattle.pack.specs.Write.{Item, each, list, nameItems, nm, one, raw, tyItems}
+use Rattle.pack.specs.Write.{Item, each, list, nameItems, one, raw, tyItems}
 use Rattle.wire.specs.Bytes.{bytes, two}
 use Rattle.wire.specs.Lists.{All, Bytes}
 use Rattle.wire.proofs.Formats.{Back, Below, Format, bind-to, both, encAll, format32, formatBelow, formatBoth, formatCounted, formatIndex, formatMap, formatSame, single}

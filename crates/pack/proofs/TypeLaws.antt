@@ -1,20 +1,16 @@
 -- Laws of types: the fields of each tag as the code goes through them, and that heads move forward.
-use Prim.Native.Nat.{ℕ, _+_, _*_, _≤_, _<_, zero, suc}
+use Prim.Native.Nat.{ℕ, _≤_, _<_, suc}
 use native.Mathlib.Omega.{arith}
-use Rattle.wire.specs.declared.answer.Skipped.{Skipped}
 use Rattle.wire.specs.declared.answer.Read.the-variants as rd
-use Rattle.wire.specs.declared.answer.Read.{Read}
-use Rattle.wire.specs.Answer.{Answer, below, bind, deep, early, guard, illegal, index, mapA, u32, value}
+use Rattle.wire.specs.Answer.{below, bind, guard, index, mapA, u32, value}
 use Rattle.wire.specs.Code.{becomesOf, nextR, readOf, skip}
 use Rattle.wire.proofs.Codes.{becomes-read, read-bind}
-use Rattle.wire.proofs.Answers.{Forward, Fwd, bind-value, byte-ends, byte-value, fwd-bind, fwd-index, fwd-map, fwd-value, guard-value, map-bind, map-value, fwd-cond, fwd-u32}
-use Rattle.wire.specs.Preorder.{Tree, Trees, trees}
+use Rattle.wire.proofs.Answers.{Fwd, bind-value, byte-ends, byte-value, fwd-index, fwd-map, fwd-value, guard-value, map-bind, map-value, fwd-cond, fwd-u32}
 use Rattle.wire.proofs.Preorders.{Moves, fwd-trees, pending, skip-trees}
 use Rattle.pack.specs.Forms.{TypeHead, named, plain, sized, typeArity, typeAt, typeFields, typeHead}
 use Rattle.pack.specs.Heads.{typeMore}
-use mathlib.Core.List.{List, [], _∷_, _++_}
-use mathlib.Core.Bool.{cond}
-use mathlib.Core.Path.{_≡_, refl, sym, ap, _∙_}
+use mathlib.Core.List.{List}
+use mathlib.Core.Path.{_≡_, refl, ap, _∙_}
 use lib.ListN.{length}
 use lib.Dec.{eqb}
 use borrow.Author.Tests.{ne-eqb}

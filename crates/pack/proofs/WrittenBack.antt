@@ -1,23 +1,22 @@
 -- What the lowerings take from the round trip: what is written reads back as the package with its table completed.
-use Prim.Native.Nat.{ℕ, _+_, _*_, _≤_, _<_, _-_, zero, suc}
+use Prim.Native.Nat.{ℕ, _+_, _<_, _-_, zero, suc}
 use native.Mathlib.Omega.{arith}
-use mathlib.Core.List.{List, [], _∷_, _++_, append-assoc, append-nil}
+use mathlib.Core.List.{List, [], _∷_, _++_, append-nil}
 use mathlib.Core.Bool.{Bool, true, false, cond, _&&_}
 use mathlib.Core.Path.{_≡_, refl, sym, ap, subst, _∙_}
-use lib.ListN.{length, getD}
+use lib.ListN.{length}
 use lib.Dec.{ltb, leb}
 use borrow.Author.Tests.{ltb-true, ltb-false, leb-true}
 use Rattle.pack.specs.Limits.{maxBytes, maxName}
 use Rattle.pack.specs.Names.{Name, eqName}
 use Rattle.pack.specs.Syntax.{Package}
-use Rattle.pack.specs.Read.{Reading, nameByte, read, whole}
-use Rattle.pack.specs.Write.{Item, Spelt, encode, nm, packageItems, raw, short, shorts, spell, spelt}
-use Rattle.pack.specs.Outcome.{Outcome, answers, reports, writes, written, sized}
+use Rattle.pack.specs.Read.{read, whole}
+use Rattle.pack.specs.Write.{Item, encode, nm, packageItems, raw, short, shorts, spell}
+use Rattle.pack.specs.Outcome.{answers, writes, written, sized}
 use Rattle.wire.specs.Lists.{All, Bytes}
-use Rattle.wire.proofs.Formats.{Below}
 use Rattle.pack.specs.Legal.{Allowed, Each, FormedPackage, Fresh, Known, Legal, LegalName, Ready, completed, newNames, newOf, place, withNames}
-use Rattle.pack.proofs.Tables.{code, eqName-true, spell-known}
-use Rattle.pack.proofs.RoundTrip.{canonical, read-back, read-back-completed, read-legal}
+use Rattle.pack.proofs.Tables.{eqName-true, spell-known}
+use Rattle.pack.proofs.RoundTrip.{read-back-completed}
 
 -- bytes, by a test
 unfoldable pub allSmall : List ℕ → Bool

@@ -7,7 +7,7 @@ use lib.ListN.{length, getD}
 use lib.Dec.{ltb, eqb}
 use Rattle.pack.specs.Limits.{absent, maxBytes, maxLevel}
 use Rattle.pack.specs.Names.{Name, member}
-use Rattle.pack.specs.Syntax.{Activation, Branch, Drawing, Drawn, DrawnRegions, Enum, Equation, Expr, Exprs, Node, NodeKind, Origin, OriginKind, Package, Port, Transition, Ty, dCons, dNil, kFunction, kImported, kOperator, ofActivation, ofMachine, qCons, qNil}
+use Rattle.pack.specs.Syntax.{Activation, Branch, Drawing, Drawn, DrawnRegions, Enum, Equation, Expr, Node, NodeKind, Origin, OriginKind, Package, Port, Transition, Ty, dCons, dNil, kFunction, kImported, kOperator, ofActivation, ofMachine, qCons, qNil}
 use Rattle.wire.specs.Answer.{Answer, below, bind, byte, counted, deep, early, guard, illegal, index, many, mapA, u16, value}
 use Rattle.pack.specs.Forms.{exprAt, exprsOf, firstType, flagOf, nameAt, nth, typeAt}
 

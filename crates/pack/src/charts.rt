@@ -11,7 +11,7 @@ use wire::number::then_below;
 use wire::number::then_count;
 ghost use mathlib.Core.List.{List};
 ghost use mathlib.Core.Path.{_≡_};
-ghost use Prim.Native.Nat.{ℕ, _≤_};
+ghost use Prim.Native.Nat.{_≤_};
 ghost use lib.ListN.{length};
 ghost use Rattle.wire.specs.Code.{onward};
 ghost use Rattle.pack.specs.Names.{Name};

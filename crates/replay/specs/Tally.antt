@@ -1,5 +1,5 @@
 -- Where a replay stands: counts below the offset, so that no sum wraps.
-use Prim.Native.Nat.{ℕ, _+_, _≤_, _<_}
+use Prim.Native.Nat.{ℕ, _≤_, _<_}
 use Rattle.replay.specs.declared.Tally.{Tally}
 
 pub record Inside (n : ℕ) (t : Tally) : Type 0 where

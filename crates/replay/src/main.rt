@@ -3,7 +3,7 @@
 use pack::check::ol_pack_check;
 use wire::answer::Read;
 use wire::number::read_u32;
-ghost use Prim.Native.Nat.{_+_, _≤_, _<_};
+ghost use Prim.Native.Nat.{_+_, _<_};
 ghost use lib.ListN.{length};
 ghost use Rattle.replay.specs.Tally.{Inside, Onward};
 

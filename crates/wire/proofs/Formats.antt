@@ -3,17 +3,17 @@ use Prim.Native.Nat.{ℕ, _+_, _*_, _/_, _%_, _≤_, _<_, _-_, zero, suc}
 use native.Mathlib.Omega.{arith}
 use native.Mathlib.Nat.{mul-assoc, zero-add, suc-add}
 use native.Mathlib.Numerals.{add-one}
-use mathlib.Core.List.{List, [], _∷_, _++_, append-assoc, append-nil}
-use mathlib.Core.Bool.{Bool, true, false, cond}
+use mathlib.Core.List.{List, [], _∷_, _++_, append-assoc}
+use mathlib.Core.Bool.{Bool, true}
 use mathlib.Core.Path.{_≡_, refl, sym, ap, subst, _∙_}
-use lib.ListN.{length, getD, drop, length-drop, length-append}
+use lib.ListN.{length, getD, drop, length-drop}
 use lib.Seq.{drop-cons}
-use lib.Dec.{ltb, eqb}
+use lib.Dec.{ltb}
 use borrow.Author.Tests.{lt-ltb, ltb-true}
 use Rattle.wire.specs.Answer.{Answer, below, bind, byte, counted, deep, early, guard, illegal, index, many, mapA, u16, u32, u64, value}
 use Rattle.wire.specs.Bytes.{bytes, two}
 use Rattle.wire.specs.Lists.{All, Bytes}
-use Rattle.wire.proofs.Answers.{ByteAt, bind-value, byte-value, guard-value, map-value}
+use Rattle.wire.proofs.Answers.{bind-value, byte-value, guard-value, map-value}
 
 -- x is read at `at`, and post stands after it
 pub record Back {A : Type 0} (r : List ℕ → ℕ → Answer A) (s : List ℕ) (at : ℕ) (x : A) (post : List ℕ) : Type 0 where

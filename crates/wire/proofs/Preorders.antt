@@ -2,16 +2,16 @@
 use Prim.Native.Nat.{ℕ, _+_, _≤_, _<_, zero, suc}
 use native.Mathlib.Nat.{zero-add, suc-add, add-assoc}
 use native.Mathlib.Omega.{arith}
-use mathlib.Core.List.{List, [], _∷_, _++_}
+use mathlib.Core.List.{List}
 use mathlib.Core.Path.{_≡_, refl, sym, ap, _∙_}
-use lib.ListN.{length, getD, drop}
+use lib.ListN.{length}
 use Rattle.wire.specs.declared.answer.Skipped.{Skipped}
 use Rattle.wire.specs.declared.answer.Skipped.the-variants as sk
-use Rattle.wire.specs.Preorder.{Tree, Trees, cons, nil, node, trees}
-use Rattle.wire.specs.Answer.{Answer, bind, deep, early, illegal, mapA, value}
+use Rattle.wire.specs.Preorder.{trees}
+use Rattle.wire.specs.Answer.{Answer, deep, early, illegal, mapA, value}
 use Rattle.wire.specs.Code.{after, next, skip}
-use Rattle.wire.proofs.Codes.{after-cong, after-map, after-skip, next-after, next-cong, skip-bind, skip-last, skip-map}
-use Rattle.wire.proofs.Answers.{Forward, Fwd}
+use Rattle.wire.proofs.Codes.{after-cong, after-map, after-skip, next-after, next-cong, skip-bind, skip-last}
+use Rattle.wire.proofs.Answers.{Fwd}
 
 -- the same with a count of trees still to come: `more s at` is how many trees stand under the head at `at`
 unfoldable pub run : (List ℕ → ℕ → Answer ℕ) → ℕ → List ℕ → ℕ → ℕ → Skipped

@@ -3,7 +3,7 @@
 use mathlib.Core.Path.{_≡_, refl, sym, ap, _∙_}
 use mathlib.Core.List.{List, [], _∷_}
 use mathlib.Core.Logic.{_⊎_, ⊎-elim}
-use Prim.Native.Nat.{ℕ, _+_, _*_, _-_, _<_, _≤_, zero, suc}
+use Prim.Native.Nat.{ℕ, _+_, _-_, _<_, _≤_, zero, suc}
 use native.Mathlib.Omega.{arith}
 use lib.Dec.{ltb}
 use borrow.Author.Tests.{ltb-true}
@@ -13,14 +13,14 @@ use Rattle.wire.specs.declared.answer.Skipped.{Skipped}
 use Rattle.wire.specs.declared.answer.Skipped.the-variants as sk
 use Rattle.wire.specs.declared.answer.Read.{Read}
 use Rattle.wire.specs.declared.answer.Read.the-variants as rd
-use Rattle.wire.specs.Answer.{Answer, below, deep, early, guard, illegal, many, mapA, u16, value}
+use Rattle.wire.specs.Answer.{Answer, below, deep, early, guard, illegal, mapA, u16, value}
 use Rattle.wire.specs.Code.{after, becomesOf, checkedOf, next, nextR, nextS, pastOf, readOf, rep, skip, thenIs, skips, onward, listed, leftOf, tooDeep}
-use Rattle.wire.proofs.Codes.{becomes-read, checked-read, past-read, rep-none, rep-step, skip-many, thenIs-read}
-use Rattle.wire.proofs.Answers.{byte-value, guard-value, map-map, u16-value}
-use Rattle.wire.proofs.Preorders.{Moves, pending, pending-none, pending-step}
+use Rattle.wire.proofs.Codes.{becomes-read, checked-read, past-read, rep-none, rep-step, thenIs-read}
+use Rattle.wire.proofs.Answers.{guard-value, map-map, u16-value}
+use Rattle.wire.proofs.Preorders.{Moves, pending, pending-step}
 use Rattle.wire.proofs.answer.Skipped as Skipped-enum
 use Rattle.wire.proofs.answer.Read as Read-enum
-use lib.ListN.{length, getD}
+use lib.ListN.{getD}
 
 never : OneOf (1 ∷ 2 ∷ 3 ∷ []) 0 → ⊥
 never h = ⊎-elim (λ e. omega arith) (⊎-elim (λ e. omega arith) (λ e. omega arith)) h

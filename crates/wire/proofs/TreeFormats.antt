@@ -1,10 +1,10 @@
 -- Trees in preorder: what is written of them reads as them, and what reads as them was written so.
-use Prim.Native.Nat.{ℕ, _+_, _*_, _≤_, _<_, _-_, zero, suc}
+use Prim.Native.Nat.{ℕ, _+_, _≤_, _<_, _-_, zero, suc}
 use native.Mathlib.Omega.{arith}
-use mathlib.Core.List.{List, [], _∷_, _++_, append-assoc, append-nil}
+use mathlib.Core.List.{List, [], _++_, append-assoc}
 use mathlib.Core.Path.{_≡_, refl, sym, ap, subst, _∙_}
-use lib.ListN.{length, getD, drop, length-drop, length-append}
-use Rattle.wire.specs.Answer.{Answer, bind, deep, early, illegal, mapA, value}
+use lib.ListN.{length, drop, length-drop, length-append}
+use Rattle.wire.specs.Answer.{Answer, bind, mapA, value}
 use Rattle.wire.specs.Preorder.{Tree, Trees, cons, nil, node, trees}
 use Rattle.wire.specs.Lists.{Bytes}
 use Rattle.wire.proofs.Formats.{Back, Format, bind-to}

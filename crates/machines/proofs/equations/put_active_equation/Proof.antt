@@ -1,6 +1,5 @@
 use mathlib.Core.Path.{ap, _∙_}
-use Rattle.wire.specs.Writer.{puts}
-use Rattle.pack.specs.Intern.{putName, render}
+use Rattle.pack.specs.Intern.{render}
 use Rattle.machines.proofs.TermLaws.{active-equation}
 use borrow.Author.Needs.{needs}
 use Rattle.machines.proofs.equations.put_active_equation.Statement.{statement}

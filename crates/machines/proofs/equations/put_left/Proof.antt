@@ -1,6 +1,5 @@
 use mathlib.Core.Path.{ap, _∙_}
-use Rattle.wire.specs.Writer.{puts}
-use Rattle.pack.specs.Intern.{putName, render}
+use Rattle.pack.specs.Intern.{putName}
 use Rattle.machines.proofs.TermLaws.{left-term}
 use borrow.Author.Needs.{needs}
 use Rattle.machines.proofs.equations.put_left.Statement.{statement}

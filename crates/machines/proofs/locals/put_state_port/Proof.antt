@@ -1,5 +1,3 @@
-use mathlib.Core.List.{List}
-use Prim.Native.Nat.{ℕ}
 use mathlib.Core.Path.{ap, _∙_}
 use Rattle.wire.specs.Writer.{put}
 use Rattle.pack.specs.Intern.{putName}

@@ -1,6 +1,5 @@
 use mathlib.Core.Path.{ap, _∙_}
-use Rattle.wire.specs.Writer.{put, puts}
-use Rattle.pack.specs.Intern.{putName, render}
+use Rattle.pack.specs.Intern.{render}
 use Rattle.machines.proofs.TermLaws.{is-term}
 use borrow.Author.Needs.{needs}
 use Rattle.machines.proofs.terms.put_is.Statement.{statement}

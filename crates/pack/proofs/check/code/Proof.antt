@@ -1,4 +1,3 @@
-use mathlib.Core.Path.{refl}
 use native.Mathlib.Omega.{arith}
 use Rattle.pack.specs.Verdict.{codeOf}
 use Rattle.pack.proofs.CheckLaws.{code-is, small-early, small-illegal, small-deep, small-after}

@@ -1,4 +1,4 @@
-use mathlib.Core.Path.{sym, ap, _∙_}
+use mathlib.Core.Path.{sym, ap}
 use Rattle.pack.specs.Nodes.{moreOf}
 use Rattle.pack.proofs.NodeLaws.{more-is}
 use borrow.Author.Needs.{needs}

@@ -2,7 +2,6 @@ use borrow.Author.Tests.{lt-ltb, le-ltb, eq-eqb, ne-eqb}
 use Rattle.pack.specs.Read.{nameByte}
 use Rattle.pack.proofs.names.name_byte.Statement.{statement}
 use Rattle.pack.proofs.names.name_byte.Tie as tie
-use borrow.Author.Needs.{needs}
 
 returns : tie.Need-returns
 unfolding nameByte

@@ -1,5 +1,4 @@
 -- The invariant: what is left to skip from here is what was to be skipped at the start.
-use Prim.Native.Nat.{_≤_}
 use mathlib.Core.List.{List}
 use mathlib.Core.Path.{_≡_, refl, _∙_}
 use lib.ListN.{length}

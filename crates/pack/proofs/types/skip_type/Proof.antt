@@ -2,11 +2,10 @@
 -- Assumes nothing.
 use borrow.Author.Needs.{needs}
 use native.Mathlib.Omega.{arith}
-use Prim.Native.Nat.{_+_, _*_, _-_, _≤_, _<_}
+use Prim.Native.Nat.{_+_, _*_, _-_, _≤_}
 use mathlib.Core.Path.{_≡_, refl, sym, _∙_, ap}
 use lib.ListN.{length}
 use Rattle.wire.specs.Answer.{value}
-use Rattle.wire.specs.declared.answer.Skipped.{Skipped}
 use Rattle.wire.proofs.Preorders.{pending, pending-none}
 use Rattle.pack.specs.Heads.{typeMore}
 use Rattle.pack.proofs.TypeLaws.{type-pending, type-small, typeMoves}
