@@ -2,6 +2,7 @@ pub mod Interns
 pub mod Written
 pub mod Finished
 pub mod NameLaws
+pub mod OrderLaws
 pub mod TypeLaws
 pub mod ExprLaws
 pub mod NodeLaws

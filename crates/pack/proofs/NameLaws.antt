@@ -69,7 +69,7 @@ unfolding Inside
 inside-step s zero at l h = absurd (omega arith)
 inside-step s (suc n) at l h = let e : suc n - 1 ≡ n = omega arith in (h .0, rw e (h .1))
 
-raw-length : (s : List ℕ) (x : ℕ) → x + 1 + getD s x 0 ≤ length s → length (rawName s x) ≡ getD s x 0
+pub raw-length : (s : List ℕ) (x : ℕ) → x + 1 + getD s x 0 ≤ length s → length (rawName s x) ≡ getD s x 0
 unfolding rawName
 raw-length s x h = simp (length-take, length-drop) (omega arith)
 

@@ -7,6 +7,7 @@ pub mod Write
 pub mod Intern
 pub mod Outcome
 pub mod RawNames
+pub mod Distinct
 pub mod Heads
 pub mod Nodes
 pub mod Verdict

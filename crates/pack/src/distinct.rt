@@ -1,0 +1,285 @@
+// Names in a strict order of their own, so that a name is known to be new without a look at all before it.
+use std::num::{wrapping_add_u16};
+ghost use mathlib.Core.Path.{_≡_};
+ghost use mathlib.Core.Bool.{true};
+ghost use Prim.Native.Nat.{_+_, _<_, _≤_};
+ghost use lib.Dec.{leb};
+ghost use lib.ListN.{length, getD};
+ghost use Rattle.pack.specs.RawNames.{rawName};
+ghost use Rattle.pack.specs.Distinct.{ahead, lessName, standing, follower, Rising, listedAt};
+
+// The sort. Nothing is believed of what it leaves in its slices: it is proved to be safe and to end, and `keep_rising` takes
+// of its order what rises.
+
+// The byte at i, or 0 past the end.
+fn byte_at(s: &[u8], i: usize) -> usize
+    ensures { λ r. ⌜ r < 256 ⌝ }
+{
+    if i < s.len() { s[i] as usize } else { 0 }
+}
+
+// The offset at k, or 0 past the end.
+fn offset_at(ord: &[u16], k: usize) -> usize
+    ensures { λ r. ⌜ (r ≡ getD (now (ord .entry)) k 0) × (r < 65536) ⌝ }
+{
+    if k < ord.len() { ord[k] as usize } else { 0 }
+}
+
+// Byte d of the name at k, its length being byte 0.
+fn byte_of(s: &[u8], ord: &[u16], k: usize, d: u8) -> usize
+    ensures { λ r. ⌜ r < 256 ⌝ }
+{
+    byte_at(s, offset_at(ord, k) + d as usize)
+}
+
+// Writes v at k, if there is a k.
+fn put(ord: &mut [u16], k: usize, v: u16) {
+    if k < ord.len() {
+        ord[k] = v;
+    }
+}
+
+// The offsets of the names from q on, and how many: the names are not looked at.
+fn offsets(s: &[u8], q: usize, count: usize, out: &mut [u16]) -> usize {
+    let mut n = 0;
+    let mut p = q;
+    while n < count {
+        if s.len() <= p {
+            return n;
+        }
+        if 65535 < p {
+            return n;
+        }
+        if out.len() <= n {
+            return n;
+        }
+        out[n] = p as u16;
+        p = p + 1 + byte_at(s, p);
+        n += 1;
+    }
+    n
+}
+
+// Where the count names from q on end, or an offset past the end.
+pub fn reach(s: &[u8], q: usize, count: usize) -> usize {
+    let mut n = count;
+    let mut p = q;
+    while 0 < n {
+        if s.len() <= p {
+            return p;
+        }
+        p = p + 1 + byte_at(s, p);
+        n -= 1;
+    }
+    p
+}
+
+// Whether the names lo to n have the same byte d.
+fn alike(s: &[u8], ord: &[u16], lo: usize, n: usize, d: u8) -> bool {
+    let first = byte_of(s, ord, lo, d);
+    let mut k = lo;
+    while k < n {
+        if byte_of(s, ord, k, d) != first {
+            return false;
+        }
+        k += 1;
+    }
+    true
+}
+
+// How often each byte is the byte d of the names lo to n.
+fn count_bytes(s: &[u8], ord: &[u16], lo: usize, n: usize, d: u8, counts: &mut [u16; 256]) {
+    let mut k = lo;
+    while k < n {
+        let b = byte_of(s, ord, k, d);
+        counts[b] = wrapping_add_u16(counts[b], 1);
+        k += 1;
+    }
+}
+
+// Counts become the places where each byte's names begin.
+fn starts(lo: u16, counts: &mut [u16; 256]) {
+    let mut sum = lo;
+    let mut b = 0;
+    while b < 256 {
+        let c = counts[b];
+        counts[b] = sum;
+        sum = wrapping_add_u16(sum, c);
+        b += 1;
+    }
+}
+
+fn wide(x: u16) -> usize {
+    x as usize
+}
+
+// Puts each of the names lo to n at the next place of its byte d.
+fn place(s: &[u8], from: &[u16], lo: usize, n: usize, d: u8, places: &mut [u16; 256], to: &mut [u16]) {
+    let mut k = lo;
+    while k < n {
+        let b = byte_of(s, from, k, d);
+        let i = places[b];
+        put(to, wide(i), offset_at(from, k) as u16);
+        places[b] = wrapping_add_u16(i, 1);
+        k += 1;
+    }
+}
+
+fn copy_back(from: &[u16], lo: usize, n: usize, to: &mut [u16]) {
+    let mut k = lo;
+    while k < n {
+        put(to, k, offset_at(from, k) as u16);
+        k += 1;
+    }
+}
+
+// Sorts the names lo to n by their byte d; those with the same byte stay in their order.
+fn by_byte(s: &[u8], d: u8, ord: &mut [u16], lo: u16, n: usize, other: &mut [u16]) {
+    let from = wide(lo);
+    if alike(s, ord, from, n, d) {
+        return;
+    }
+    let mut counts = [0u16; 256];
+    count_bytes(s, ord, from, n, d, &mut counts);
+    starts(lo, &mut counts);
+    place(s, ord, from, n, d, &mut counts, other);
+    copy_back(other, from, n, ord);
+}
+
+// Of names sorted by length, where those of d bytes or more begin, at lo or before.
+fn longer(s: &[u8], ord: &[u16], lo: u16, d: u8) -> u16 {
+    let mut l = lo;
+    while 0 < l {
+        if byte_of(s, ord, wide(l - 1), 0) < d as usize {
+            return l;
+        }
+        l -= 1;
+    }
+    0
+}
+
+// Sorts the first n names by length, and those of a length by their bytes: from the last byte to the first, each time those
+// that have it.
+fn sort(s: &[u8], ord: &mut [u16], n: u16, other: &mut [u16]) {
+    let end = wide(n);
+    by_byte(s, 0, ord, 0, end, other);
+    let mut lo = n;
+    let mut d: u8 = 255;
+    while 0 < d {
+        lo = longer(s, ord, lo, d);
+        by_byte(s, d, ord, lo, end, other);
+        d -= 1;
+    }
+    by_byte(s, 0, ord, 0, end, other);
+}
+
+// Where each of the first n names stands in the order, by half its offset: a name takes two bytes or more.
+fn ranks(ord: &[u16], n: usize, rank: &mut [u16]) {
+    let mut k = 0;
+    while k < n {
+        if 65535 < k {
+            return;
+        }
+        put(rank, offset_at(ord, k) / 2, k as u16);
+        k += 1;
+    }
+}
+
+// The order, and what is believed of it.
+
+// Whether of the n bytes from a on and from b on the first that differ are less from a on.
+fn lower(s: &[u8], a: usize, b: usize, n: usize) -> bool
+    requires { ⌜ (a + n ≤ length (now s)) × (b + n ≤ length (now s)) ⌝ }
+    ensures { λ r. ⌜ r ≡ ahead (now (s .entry)) a b n ⌝ }
+{
+    let mut i = a;
+    let mut j = b;
+    let mut left = n;
+    while 0 < left {
+        if s[i] != s[j] {
+            return s[i] < s[j];
+        }
+        i += 1;
+        j += 1;
+        left -= 1;
+    }
+    false
+}
+
+// Whether the name at a is shorter than that at b, or as long and less.
+fn less(s: &[u8], a: usize, b: usize) -> bool
+    requires { ⌜ (a + 1 + getD (now s) a 0 ≤ length (now s)) × (b + 1 + getD (now s) b 0 ≤ length (now s)) ⌝ }
+    ensures { λ r. ⌜ r ≡ lessName (rawName (now (s .entry)) a) (rawName (now (s .entry)) b) ⌝ }
+{
+    let n = s[a] as usize;
+    let m = s[b] as usize;
+    if n != m {
+        return n < m;
+    }
+    lower(s, a + 1, b + 1, n)
+}
+
+// Whether a name's bytes at x are all there.
+fn stands(s: &[u8], x: usize) -> bool
+    ensures { λ r. ⌜ r ≡ standing (now (s .entry)) x ⌝ }
+{
+    if x < s.len() { (s[x] as usize) < s.len() - x } else { false }
+}
+
+// Whether the name at x may follow j names, the last at `last`.
+fn follows(s: &[u8], j: usize, last: usize, x: usize) -> bool
+    requires { ⌜ (0 < j → standing (now s) last ≡ true) ⌝ }
+    ensures { λ r. ⌜ r ≡ follower (now (s .entry)) j last x ⌝ }
+{
+    if stands(s, x) {
+        if j == 0 {
+            return true;
+        }
+        return less(s, last, x);
+    }
+    false
+}
+
+// Copies the first n offsets of `from`, leaving out each whose name does not stand above the last one copied.
+fn keep_rising(s: &[u8], from: &[u16], n: usize, ord: &mut [u16]) -> usize
+    ensures { λ r. ⌜ Rising (now (s .entry)) (now (ord .exit)) r ⌝ }
+{
+    let mut j = 0;
+    let mut last = 0;
+    let mut k = 0;
+    while k < n {
+        if ord.len() <= j {
+            return j;
+        }
+        let x = offset_at(from, k);
+        if follows(s, j, last, x) {
+            ord[j] = x as u16;
+            j += 1;
+            last = x;
+        }
+        k += 1;
+    }
+    j
+}
+
+// Whether p is one of the first n offsets of the order, where `rank` says.
+pub fn listed(ord: &[u16], n: usize, rank: &[u16], p: usize) -> bool
+    ensures { λ r. ⌜ r ≡ listedAt (now (ord .entry)) n (now (rank .entry)) p ⌝ }
+{
+    let k = offset_at(rank, p / 2);
+    if k < n { offset_at(ord, k) == p } else { false }
+}
+
+// Sorts the names from q on into `ord` and says how many of them rise.
+pub fn order(s: &[u8], q: usize, count: usize, ord: &mut [u16], other: &mut [u16], rank: &mut [u16]) -> usize
+    ensures { λ r. ⌜ Rising (now (s .entry)) (now (ord .exit)) r ⌝ }
+{
+    let n = offsets(s, q, count, other);
+    if 65535 < n {
+        return 0;
+    }
+    sort(s, other, n as u16, ord);
+    let known = keep_rising(s, other, n, ord);
+    ranks(ord, known, rank);
+    known
+}
