@@ -109,7 +109,9 @@ fn starts(lo: u16, counts: &mut [u16; 256]) {
     }
 }
 
-fn wide(x: u16) -> usize {
+fn wide(x: u16) -> usize
+    ensures { λ r. ⌜ r ≡ x ⌝ }
+{
     x as usize
 }
 
@@ -125,10 +127,24 @@ fn place(s: &[u8], from: &[u16], lo: usize, n: usize, d: u8, places: &mut [u16; 
     }
 }
 
+// The least of three.
+fn least_of(n: usize, a: usize, b: usize) -> usize
+    ensures { λ r. ⌜ (r ≤ a) × (r ≤ b) ⌝ }
+{
+    if n <= a {
+        if n <= b {
+            return n;
+        }
+        return b;
+    }
+    if a <= b { a } else { b }
+}
+
 fn copy_back(from: &[u16], lo: usize, n: usize, to: &mut [u16]) {
+    let end = least_of(n, from.len(), to.len());
     let mut k = lo;
-    while k < n {
-        put(to, k, offset_at(from, k) as u16);
+    while k < end {
+        to[k] = from[k];
         k += 1;
     }
 }
@@ -160,7 +176,7 @@ fn longer(s: &[u8], ord: &[u16], lo: u16, d: u8) -> u16 {
 
 // Sorts the first n names by length, and those of a length by their bytes: from the last byte to the first, each time those
 // that have it.
-fn sort(s: &[u8], ord: &mut [u16], n: u16, other: &mut [u16]) {
+fn radix_sort(s: &[u8], ord: &mut [u16], n: u16, other: &mut [u16]) {
     let end = wide(n);
     by_byte(s, 0, ord, 0, end, other);
     let mut lo = n;
@@ -171,6 +187,136 @@ fn sort(s: &[u8], ord: &mut [u16], n: u16, other: &mut [u16]) {
         d -= 1;
     }
     by_byte(s, 0, ord, 0, end, other);
+}
+
+// Few names, which may be long, are merged. A run has with each name how many bytes it shares with the one before, so that
+// what two names share is not looked at again.
+
+// The number at k, or 0 past the end.
+fn at(list: &[u16], k: u16) -> u16 {
+    let i = k as usize;
+    if i < list.len() { list[i] } else { 0 }
+}
+
+// Byte i of the name at a.
+fn byte_in(s: &[u8], a: u16, i: u16) -> usize {
+    byte_at(s, a as usize + i as usize)
+}
+
+// How many bytes the names at a and at b share, as they share the first `from`.
+fn shared(s: &[u8], a: u16, b: u16, from: u16) -> u16 {
+    let end = byte_in(s, a, 0);
+    let mut i = from;
+    while i < 256 {
+        if end < wide(i) {
+            return i;
+        }
+        if byte_in(s, a, i) != byte_in(s, b, i) {
+            return i;
+        }
+        i += 1;
+    }
+    i
+}
+
+// Which of two names comes first, the one that stands first where they are the same, and how many bytes the other shares with it.
+struct Turn {
+    first: bool,
+    shares: u16,
+}
+
+// The names at a and at b, which share m and n bytes with the name before.
+fn compare(s: &[u8], a: u16, m: u16, b: u16, n: u16) -> Turn {
+    if m < n {
+        return Turn { first: false, shares: m };
+    }
+    if n < m {
+        return Turn { first: true, shares: n };
+    }
+    let h = shared(s, a, b, m);
+    if byte_in(s, a, 0) < wide(h) {
+        return Turn { first: true, shares: h };
+    }
+    let x = byte_in(s, a, h);
+    let y = byte_in(s, b, h);
+    Turn { first: x <= y, shares: h }
+}
+
+fn either(first: bool, x: u16, y: u16) -> u16 {
+    if first { x } else { y }
+}
+
+// Merges the runs from lo to mid and from mid to hi into `to`, with what they share.
+fn merge(s: &[u8], from: &[u16], shares: &[u16], lo: u16, mid: u16, hi: u16, to: &mut [u16], shares_to: &mut [u16]) {
+    let mut i = lo;
+    let mut j = mid;
+    let mut m: u16 = 0;
+    let mut n: u16 = 0;
+    let mut k = lo;
+    while k < hi {
+        let t = next_of(s, from, i, mid, m, j, hi, n);
+        put(to, wide(k), either(t.first, at(from, i), at(from, j)));
+        put(shares_to, wide(k), either(t.first, m, n));
+        if t.first {
+            i = wrapping_add_u16(i, 1);
+            m = at(shares, i);
+            n = t.shares;
+        } else {
+            j = wrapping_add_u16(j, 1);
+            n = at(shares, j);
+            m = t.shares;
+        }
+        k += 1;
+    }
+}
+
+// The next of two runs, of which one may have ended.
+fn next_of(s: &[u8], from: &[u16], i: u16, mid: u16, m: u16, j: u16, hi: u16, n: u16) -> Turn {
+    if mid <= i {
+        return Turn { first: false, shares: 0 };
+    }
+    if hi <= j {
+        return Turn { first: true, shares: 0 };
+    }
+    compare(s, at(from, i), m, at(from, j), n)
+}
+
+fn least(a: u16, b: u16) -> u16 {
+    if a < b { a } else { b }
+}
+
+// Merges the runs of w names of the first n by twos.
+fn merge_all(s: &[u8], from: &[u16], shares: &[u16], w: u16, n: u16, to: &mut [u16], shares_to: &mut [u16])
+    requires { ⌜ (0 < w) × (w < 2048) × (n < 2048) ⌝ }
+{
+    let mut lo: u16 = 0;
+    while lo < n {
+        merge(s, from, shares, lo, least(lo + w, n), least(lo + 2 * w, n), to, shares_to);
+        lo += 2 * w;
+    }
+}
+
+// Sorts the first n names, up to 1,024, by length and bytes.
+fn merge_sort(s: &[u8], ord: &mut [u16], n: u16, other: &mut [u16])
+    requires { ⌜ n ≤ 1024 ⌝ }
+{
+    let mut shares = [0u16; 1024];
+    let mut others = [0u16; 1024];
+    let mut w: u16 = 1;
+    while w < n {
+        merge_all(s, ord, &shares, w, n, other, &mut others);
+        copy_back(other, 0, wide(n), ord);
+        copy_back(&others, 0, wide(n), &mut shares);
+        w *= 2;
+    }
+}
+
+fn sort(s: &[u8], ord: &mut [u16], n: u16, other: &mut [u16]) {
+    if n <= 1024 {
+        merge_sort(s, ord, n, other);
+        return;
+    }
+    radix_sort(s, ord, n, other);
 }
 
 // Where each of the first n names stands in the order, by half its offset: a name takes two bytes or more.

@@ -213,6 +213,21 @@ fn names_to(s: &[u8], q: usize, count: usize) -> Skipped
     many_names(s, q, count)
 }
 
+// The same, after a look at the first of many names: where those are refused, the others need no order.
+fn all_names(s: &[u8], q: usize, count: usize) -> Skipped
+    ensures { λ r. ⌜ r ≡ skip (namesAfter (now (s .entry)) [] count q) ⌝ }
+{
+    let mut m: usize = 32;
+    while m < count / 8 {
+        let r = names_to(s, q, m);
+        let Skipped::To(_) = r else {
+            return r;
+        };
+        m *= 8;
+    }
+    names_to(s, q, count)
+}
+
 // The name section: no name twice.
 pub fn skip_names(s: &[u8], at: usize) -> Skipped
     ensures { λ r. ⌜ r ≡ skip (nameSection (now (s .entry)) at) ⌝ }
@@ -221,5 +236,5 @@ pub fn skip_names(s: &[u8], at: usize) -> Skipped
     let Read::Is { value: count, next: q } = t else {
         return past(t);
     };
-    names_to(s, q, count)
+    all_names(s, q, count)
 }

@@ -16,13 +16,13 @@ past-requires c κs = search needs
 returns : tie.Need-returns
 returns c = stoppedS _ _ _ _ _ (c .before .match .keys2) (c .before .before .read-u16 .ensures) (c .past .ensures) (section-skip _ _)
 
-names-to-requires : tie.Need-names-to-requires
-names-to-requires c κs = search needs
+all-names-requires : tie.Need-all-names-requires
+all-names-requires c κs = search needs
 
 returns-2 : tie.Need-returns-2
-returns-2 c = goesS _ _ _ _ _ _ _ (c .before .before .t .given .1) (c .before .before .before .before .read-u16 .ensures) (section-skip _ _) (c .names-to .ensures)
+returns-2 c = goesS _ _ _ _ _ _ _ (c .before .before .t .given .1) (c .before .before .before .before .read-u16 .ensures) (section-skip _ _) (c .all-names .ensures)
 
 pub skip-names-spec : {M : Type 1} → statement M
 skip-names-spec =
     tie.close
-    (tie.spec read-u16-requires enum-known-t past-requires returns names-to-requires returns-2)
+    (tie.spec read-u16-requires enum-known-t past-requires returns all-names-requires returns-2)

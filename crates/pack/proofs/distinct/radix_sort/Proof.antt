@@ -2,8 +2,8 @@ use mathlib.Core.Path.{_≡_, refl}
 use lib.ListN.{length}
 use Prim.Native.Nat.{_≤_, _-_, _+_}
 use borrow.Author.Needs.{needs}
-use Rattle.pack.proofs.distinct.sort.Statement.{statement}
-use Rattle.pack.proofs.distinct.sort.Tie as tie
+use Rattle.pack.proofs.distinct.radix_sort.Statement.{statement}
+use Rattle.pack.proofs.distinct.radix_sort.Tie as tie
 
 abbrev Inv-loop : tie.InvT-loop
 Inv-loop s ord₀ n other₀ end lo₀ d₀ ord other lo d = (length ord ≡ length ord₀) × (length other ≡ length other₀)
@@ -47,8 +47,8 @@ same-length-2 c = search needs
 returns : tie.Need-returns Inv-loop μ-loop
 returns c = search needs
 
-pub sort-spec : {M : Type 1} → statement M
-sort-spec =
+pub radix-sort-spec : {M : Type 1} → statement M
+radix-sort-spec =
     tie.close
     (tie.spec
     Inv-loop
