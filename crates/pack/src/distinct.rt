@@ -1,9 +1,8 @@
 // Names in a strict order of their own, so that a name is known to be new without a look at all before it.
-use std::num::{wrapping_add_u16};
+use std::num::wrapping_add_u16;
 ghost use mathlib.Core.Path.{_≡_};
 ghost use mathlib.Core.Bool.{true};
 ghost use Prim.Native.Nat.{_+_, _<_, _≤_};
-ghost use lib.Dec.{leb};
 ghost use lib.ListN.{length, getD};
 ghost use Rattle.pack.specs.RawNames.{rawName};
 ghost use Rattle.pack.specs.Distinct.{ahead, lessName, standing, follower, Rising, listedAt};
@@ -25,11 +24,18 @@ fn offset_at(ord: &[u16], k: usize) -> usize
     if k < ord.len() { ord[k] as usize } else { 0 }
 }
 
-// Byte d of the name at k, its length being byte 0.
-fn byte_of(s: &[u8], ord: &[u16], k: usize, d: u8) -> usize
+// Byte i of the name at a.
+fn byte_in(s: &[u8], a: u16, i: u16) -> usize
     ensures { λ r. ⌜ r < 256 ⌝ }
 {
-    byte_at(s, offset_at(ord, k) + d as usize)
+    byte_at(s, a as usize + i as usize)
+}
+
+// Byte d of the name at k, its length being byte 0.
+fn byte_of(s: &[u8], ord: &[u16], k: usize, d: u16) -> usize
+    ensures { λ r. ⌜ r < 256 ⌝ }
+{
+    byte_at(s, offset_at(ord, k) + wide(d))
 }
 
 // Writes v at k, if there is a k.
@@ -75,7 +81,7 @@ pub fn reach(s: &[u8], q: usize, count: usize) -> usize {
 }
 
 // Whether the names lo to n have the same byte d.
-fn alike(s: &[u8], ord: &[u16], lo: usize, n: usize, d: u8) -> bool {
+fn alike(s: &[u8], ord: &[u16], lo: usize, n: usize, d: u16) -> bool {
     let first = byte_of(s, ord, lo, d);
     let mut k = lo;
     while k < n {
@@ -87,11 +93,25 @@ fn alike(s: &[u8], ord: &[u16], lo: usize, n: usize, d: u8) -> bool {
     true
 }
 
+// The least of three.
+fn least_of(n: usize, a: usize, b: usize) -> usize
+    ensures { λ r. ⌜ (r ≤ a) × (r ≤ b) ⌝ }
+{
+    if n <= a {
+        if n <= b {
+            return n;
+        }
+        return b;
+    }
+    if a <= b { a } else { b }
+}
+
 // How often each byte is the byte d of the names lo to n.
-fn count_bytes(s: &[u8], ord: &[u16], lo: usize, n: usize, d: u8, counts: &mut [u16; 256]) {
+fn count_bytes(s: &[u8], ord: &[u16], lo: usize, n: usize, d: u16, counts: &mut [u16; 256]) {
+    let end = least_of(n, ord.len(), ord.len());
     let mut k = lo;
-    while k < n {
-        let b = byte_of(s, ord, k, d);
+    while k < end {
+        let b = byte_in(s, ord[k], d);
         counts[b] = wrapping_add_u16(counts[b], 1);
         k += 1;
     }
@@ -116,28 +136,24 @@ fn wide(x: u16) -> usize
 }
 
 // Puts each of the names lo to n at the next place of its byte d.
-fn place(s: &[u8], from: &[u16], lo: usize, n: usize, d: u8, places: &mut [u16; 256], to: &mut [u16]) {
+fn place(
+    s: &[u8],
+    from: &[u16],
+    lo: usize,
+    n: usize,
+    d: u16,
+    places: &mut [u16; 256],
+    to: &mut [u16],
+) {
+    let end = least_of(n, from.len(), from.len());
     let mut k = lo;
-    while k < n {
-        let b = byte_of(s, from, k, d);
+    while k < end {
+        let b = byte_in(s, from[k], d);
         let i = places[b];
-        put(to, wide(i), offset_at(from, k) as u16);
+        put(to, wide(i), from[k]);
         places[b] = wrapping_add_u16(i, 1);
         k += 1;
     }
-}
-
-// The least of three.
-fn least_of(n: usize, a: usize, b: usize) -> usize
-    ensures { λ r. ⌜ (r ≤ a) × (r ≤ b) ⌝ }
-{
-    if n <= a {
-        if n <= b {
-            return n;
-        }
-        return b;
-    }
-    if a <= b { a } else { b }
 }
 
 fn copy_back(from: &[u16], lo: usize, n: usize, to: &mut [u16]) {
@@ -150,7 +166,7 @@ fn copy_back(from: &[u16], lo: usize, n: usize, to: &mut [u16]) {
 }
 
 // Sorts the names lo to n by their byte d; those with the same byte stay in their order.
-fn by_byte(s: &[u8], d: u8, ord: &mut [u16], lo: u16, n: usize, other: &mut [u16]) {
+fn by_byte(s: &[u8], d: u16, ord: &mut [u16], lo: u16, n: usize, other: &mut [u16]) {
     let from = wide(lo);
     if alike(s, ord, from, n, d) {
         return;
@@ -163,10 +179,10 @@ fn by_byte(s: &[u8], d: u8, ord: &mut [u16], lo: u16, n: usize, other: &mut [u16
 }
 
 // Of names sorted by length, where those of d bytes or more begin, at lo or before.
-fn longer(s: &[u8], ord: &[u16], lo: u16, d: u8) -> u16 {
+fn longer(s: &[u8], ord: &[u16], lo: u16, d: u16) -> u16 {
     let mut l = lo;
     while 0 < l {
-        if byte_of(s, ord, wide(l - 1), 0) < d as usize {
+        if byte_of(s, ord, wide(l - 1), 0) < wide(d) {
             return l;
         }
         l -= 1;
@@ -180,7 +196,7 @@ fn radix_sort(s: &[u8], ord: &mut [u16], n: u16, other: &mut [u16]) {
     let end = wide(n);
     by_byte(s, 0, ord, 0, end, other);
     let mut lo = n;
-    let mut d: u8 = 255;
+    let mut d: u16 = 255;
     while 0 < d {
         lo = longer(s, ord, lo, d);
         by_byte(s, d, ord, lo, end, other);
@@ -196,11 +212,6 @@ fn radix_sort(s: &[u8], ord: &mut [u16], n: u16, other: &mut [u16]) {
 fn at(list: &[u16], k: u16) -> u16 {
     let i = k as usize;
     if i < list.len() { list[i] } else { 0 }
-}
-
-// Byte i of the name at a.
-fn byte_in(s: &[u8], a: u16, i: u16) -> usize {
-    byte_at(s, a as usize + i as usize)
 }
 
 // How many bytes the names at a and at b share, as they share the first `from`.
@@ -228,18 +239,30 @@ struct Turn {
 // The names at a and at b, which share m and n bytes with the name before.
 fn compare(s: &[u8], a: u16, m: u16, b: u16, n: u16) -> Turn {
     if m < n {
-        return Turn { first: false, shares: m };
+        return Turn {
+            first: false,
+            shares: m,
+        };
     }
     if n < m {
-        return Turn { first: true, shares: n };
+        return Turn {
+            first: true,
+            shares: n,
+        };
     }
     let h = shared(s, a, b, m);
     if byte_in(s, a, 0) < wide(h) {
-        return Turn { first: true, shares: h };
+        return Turn {
+            first: true,
+            shares: h,
+        };
     }
     let x = byte_in(s, a, h);
     let y = byte_in(s, b, h);
-    Turn { first: x <= y, shares: h }
+    Turn {
+        first: x <= y,
+        shares: h,
+    }
 }
 
 fn either(first: bool, x: u16, y: u16) -> u16 {
@@ -247,7 +270,16 @@ fn either(first: bool, x: u16, y: u16) -> u16 {
 }
 
 // Merges the runs from lo to mid and from mid to hi into `to`, with what they share.
-fn merge(s: &[u8], from: &[u16], shares: &[u16], lo: u16, mid: u16, hi: u16, to: &mut [u16], shares_to: &mut [u16]) {
+fn merge(
+    s: &[u8],
+    from: &[u16],
+    shares: &[u16],
+    lo: u16,
+    mid: u16,
+    hi: u16,
+    to: &mut [u16],
+    shares_to: &mut [u16],
+) {
     let mut i = lo;
     let mut j = mid;
     let mut m: u16 = 0;
@@ -273,10 +305,16 @@ fn merge(s: &[u8], from: &[u16], shares: &[u16], lo: u16, mid: u16, hi: u16, to:
 // The next of two runs, of which one may have ended.
 fn next_of(s: &[u8], from: &[u16], i: u16, mid: u16, m: u16, j: u16, hi: u16, n: u16) -> Turn {
     if mid <= i {
-        return Turn { first: false, shares: 0 };
+        return Turn {
+            first: false,
+            shares: 0,
+        };
     }
     if hi <= j {
-        return Turn { first: true, shares: 0 };
+        return Turn {
+            first: true,
+            shares: 0,
+        };
     }
     compare(s, at(from, i), m, at(from, j), n)
 }
@@ -286,12 +324,29 @@ fn least(a: u16, b: u16) -> u16 {
 }
 
 // Merges the runs of w names of the first n by twos.
-fn merge_all(s: &[u8], from: &[u16], shares: &[u16], w: u16, n: u16, to: &mut [u16], shares_to: &mut [u16])
+fn merge_all(
+    s: &[u8],
+    from: &[u16],
+    shares: &[u16],
+    w: u16,
+    n: u16,
+    to: &mut [u16],
+    shares_to: &mut [u16],
+)
     requires { ⌜ (0 < w) × (w < 2048) × (n < 2048) ⌝ }
 {
     let mut lo: u16 = 0;
     while lo < n {
-        merge(s, from, shares, lo, least(lo + w, n), least(lo + 2 * w, n), to, shares_to);
+        merge(
+            s,
+            from,
+            shares,
+            lo,
+            least(lo + w, n),
+            least(lo + 2 * w, n),
+            to,
+            shares_to,
+        );
         lo += 2 * w;
     }
 }
@@ -369,7 +424,11 @@ fn less(s: &[u8], a: usize, b: usize) -> bool
 fn stands(s: &[u8], x: usize) -> bool
     ensures { λ r. ⌜ r ≡ standing (now (s .entry)) x ⌝ }
 {
-    if x < s.len() { (s[x] as usize) < s.len() - x } else { false }
+    if x < s.len() {
+        (s[x] as usize) < s.len() - x
+    } else {
+        false
+    }
 }
 
 // Whether the name at x may follow j names, the last at `last`.
@@ -417,7 +476,14 @@ pub fn listed(ord: &[u16], n: usize, rank: &[u16], p: usize) -> bool
 }
 
 // Sorts the names from q on into `ord` and says how many of them rise.
-pub fn order(s: &[u8], q: usize, count: usize, ord: &mut [u16], other: &mut [u16], rank: &mut [u16]) -> usize
+pub fn order(
+    s: &[u8],
+    q: usize,
+    count: usize,
+    ord: &mut [u16],
+    other: &mut [u16],
+    rank: &mut [u16],
+) -> usize
     ensures { λ r. ⌜ Rising (now (s .entry)) (now (ord .exit)) r ⌝ }
 {
     let n = offsets(s, q, count, other);

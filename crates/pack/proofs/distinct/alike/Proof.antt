@@ -1,4 +1,4 @@
-use Prim.Native.Nat.{_≤_, _-_, _+_}
+use Prim.Native.Nat.{_≤_, _-_}
 use borrow.Author.Needs.{needs}
 use Rattle.pack.proofs.distinct.alike.Statement.{statement}
 use Rattle.pack.proofs.distinct.alike.Tie as tie

@@ -1,21 +1,28 @@
-use mathlib.Core.Path.{_≡_}
-use lib.ListN.{length}
-use Prim.Native.Nat.{_≤_, _-_, _+_}
+use Prim.Native.Nat.{_≤_, _-_}
 use borrow.Author.Needs.{needs}
 use Rattle.pack.proofs.distinct.count_bytes.Statement.{statement}
 use Rattle.pack.proofs.distinct.count_bytes.Tie as tie
 
 abbrev Inv-loop : tie.InvT-loop
-Inv-loop s ord lo n d counts₀ k₀ counts k = lo ≤ k
+Inv-loop s ord lo n d counts₀ end k₀ counts k = lo ≤ k
 
 abbrev μ-loop : tie.MeasureT-loop
-μ-loop s ord lo n d counts₀ k₀ counts k = n - k
+μ-loop s ord lo n d counts₀ end k₀ counts k = end - k
+
+least-of-requires : tie.Need-least-of-requires Inv-loop μ-loop
+least-of-requires c κs = search needs
 
 loop-holds : tie.Need-loop-holds Inv-loop μ-loop
 loop-holds c = search needs
 
-byte-of-requires : tie.Need-byte-of-requires Inv-loop μ-loop
-byte-of-requires c κs = search needs
+mul-byte-in : tie.Need-mul-byte-in Inv-loop μ-loop
+mul-byte-in c = search needs
+
+shared-slice-read-byte-in : tie.Need-shared-slice-read-byte-in Inv-loop μ-loop
+shared-slice-read-byte-in c = search needs
+
+byte-in-requires : tie.Need-byte-in-requires Inv-loop μ-loop
+byte-in-requires c κs = search needs
 
 mul-wrapping-add-u16 : tie.Need-mul-wrapping-add-u16 Inv-loop μ-loop
 mul-wrapping-add-u16 c = search needs
@@ -50,8 +57,11 @@ count-bytes-spec =
     (tie.spec
     Inv-loop
     μ-loop
+    least-of-requires
     loop-holds
-    byte-of-requires
+    mul-byte-in
+    shared-slice-read-byte-in
+    byte-in-requires
     mul-wrapping-add-u16
     element-copy-out-wrapping-add-u16
     wrapping-add-u16-requires

@@ -1,10 +1,7 @@
 use Rattle.pack.proofs.OrderLaws.{Kept, kept-more, kept-none, kept-same}
-use Rattle.pack.specs.Distinct.{Rising}
 use mathlib.Core.Logic.{⊎-elim}
-use mathlib.Core.Path.{_≡_, refl}
 use lib.ListN.{length}
-use Prim.Native.Nat.{_≤_, _-_, _+_}
-use native.Mathlib.Omega.{arith}
+use Prim.Native.Nat.{_-_}
 use borrow.Author.Needs.{needs}
 use Rattle.pack.proofs.distinct.keep_rising.Statement.{statement}
 use Rattle.pack.proofs.distinct.keep_rising.Tie as tie

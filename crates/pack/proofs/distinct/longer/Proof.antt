@@ -1,4 +1,4 @@
-use Prim.Native.Nat.{_≤_, _-_, _+_}
+use Prim.Native.Nat.{_≤_}
 use borrow.Author.Needs.{needs}
 use Rattle.pack.proofs.distinct.longer.Statement.{statement}
 use Rattle.pack.proofs.distinct.longer.Tie as tie
@@ -20,6 +20,9 @@ wide-requires c κs = search needs
 
 byte-of-requires : tie.Need-byte-of-requires Inv-loop μ-loop
 byte-of-requires c κs = search needs
+
+wide-requires-2 : tie.Need-wide-requires-2 Inv-loop μ-loop
+wide-requires-2 c κs = search needs
 
 returns : tie.Need-returns Inv-loop μ-loop
 returns c = search needs
@@ -46,6 +49,7 @@ longer-spec =
     sub-wide
     wide-requires
     byte-of-requires
+    wide-requires-2
     returns
     sub-l
     loop-less

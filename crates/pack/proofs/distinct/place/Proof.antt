@@ -1,21 +1,30 @@
 use mathlib.Core.Path.{_≡_}
 use lib.ListN.{length}
-use Prim.Native.Nat.{_≤_, _-_, _+_}
+use Prim.Native.Nat.{_-_}
 use borrow.Author.Needs.{needs}
 use Rattle.pack.proofs.distinct.place.Statement.{statement}
 use Rattle.pack.proofs.distinct.place.Tie as tie
 
 abbrev Inv-loop : tie.InvT-loop
-Inv-loop s from lo n d places₀ to₀ k₀ places to k = length to ≡ length to₀
+Inv-loop s from lo n d places₀ to₀ end k₀ places to k = length to ≡ length to₀
 
 abbrev μ-loop : tie.MeasureT-loop
-μ-loop s from lo n d places₀ to₀ k₀ places to k = n - k
+μ-loop s from lo n d places₀ to₀ end k₀ places to k = end - k
+
+least-of-requires : tie.Need-least-of-requires Inv-loop μ-loop
+least-of-requires c κs = search needs
 
 loop-holds : tie.Need-loop-holds Inv-loop μ-loop
 loop-holds c = search needs
 
-byte-of-requires : tie.Need-byte-of-requires Inv-loop μ-loop
-byte-of-requires c κs = search needs
+mul-byte-in : tie.Need-mul-byte-in Inv-loop μ-loop
+mul-byte-in c = search needs
+
+shared-slice-read-byte-in : tie.Need-shared-slice-read-byte-in Inv-loop μ-loop
+shared-slice-read-byte-in c = search needs
+
+byte-in-requires : tie.Need-byte-in-requires Inv-loop μ-loop
+byte-in-requires c κs = search needs
 
 mul-i : tie.Need-mul-i Inv-loop μ-loop
 mul-i c = search needs
@@ -26,11 +35,11 @@ element-copy-out-i c = search needs
 wide-requires : tie.Need-wide-requires Inv-loop μ-loop
 wide-requires c κs = search needs
 
-offset-at-requires : tie.Need-offset-at-requires Inv-loop μ-loop
-offset-at-requires c κs = search needs
+mul-put : tie.Need-mul-put Inv-loop μ-loop
+mul-put c = search needs
 
-cast-put : tie.Need-cast-put Inv-loop μ-loop
-cast-put c = search needs
+shared-slice-read-put : tie.Need-shared-slice-read-put Inv-loop μ-loop
+shared-slice-read-put c = search needs
 
 put-requires : tie.Need-put-requires Inv-loop μ-loop
 put-requires c κs = search needs
@@ -65,13 +74,16 @@ place-spec =
     (tie.spec
     Inv-loop
     μ-loop
+    least-of-requires
     loop-holds
-    byte-of-requires
+    mul-byte-in
+    shared-slice-read-byte-in
+    byte-in-requires
     mul-i
     element-copy-out-i
     wide-requires
-    offset-at-requires
-    cast-put
+    mul-put
+    shared-slice-read-put
     put-requires
     wrapping-add-u16-requires
     mul-places

@@ -1,6 +1,4 @@
-use mathlib.Core.Path.{_≡_}
-use lib.ListN.{length}
-use Prim.Native.Nat.{_≤_, _-_, _+_}
+use Prim.Native.Nat.{_≤_, _-_}
 use borrow.Author.Needs.{needs}
 use Rattle.pack.proofs.distinct.starts.Statement.{statement}
 use Rattle.pack.proofs.distinct.starts.Tie as tie

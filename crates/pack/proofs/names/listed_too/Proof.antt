@@ -1,5 +1,5 @@
-use mathlib.Core.Path.{_∙_, sym}
-use Rattle.wire.proofs.Answers.{cond-true, cond-false}
+use mathlib.Core.Path.{_∙_}
+use Rattle.wire.proofs.Answers.{cond-true}
 use borrow.Author.Needs.{needs}
 use Rattle.pack.proofs.names.listed_too.Statement.{statement}
 use Rattle.pack.proofs.names.listed_too.Tie as tie
