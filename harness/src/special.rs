@@ -255,12 +255,11 @@ pub fn repeated_ports(states: usize, ports: usize) -> Package {
     b.done()
 }
 
-/// As many short names as a pack of `size` bytes holds.
-pub fn names_only(size: usize) -> Package {
+/// As many of the names as go into `size` bytes, and nothing that uses them.
+pub fn names_of(size: usize, names: impl Iterator<Item = String>) -> Package {
     let mut p = Package::default();
     let mut left = size.saturating_sub(12);
-    for i in 0.. {
-        let text = short_name(i);
+    for text in names {
         if left < text.len() + 1 {
             break;
         }
@@ -271,14 +270,46 @@ pub fn names_only(size: usize) -> Package {
     p
 }
 
+/// As many short names as a pack of `size` bytes holds.
+pub fn names_only(size: usize) -> Package {
+    names_of(size, (0..).map(short_name))
+}
+
 /// Names of 255 bytes that differ in their last bytes only.
 pub fn alike_names(size: usize) -> Package {
-    let mut p = Package::default();
-    for i in 0..size.saturating_sub(12) / 256 {
-        p.names.push(format!("{}{i:05}", "n".repeat(250)).as_bytes());
-        p.old += 1;
+    stem_names(size, 1)
+}
+
+/// Names of 255 bytes with one of a few stems, by turns, that differ in their last bytes only.
+pub fn stem_names(size: usize, stems: usize) -> Package {
+    let stem = |i: usize| short_name(i % stems).repeat(250);
+    names_of(size, (0..99_999).map(|i| format!("{}{i:05}", stem(i))))
+}
+
+/// The shortest names, in no order.
+pub fn mixed_names(rng: &mut Rng, size: usize) -> Package {
+    let mut names: Vec<String> = (0..names_only(size).old).map(short_name).collect();
+    for i in (1..names.len()).rev() {
+        names.swap(i, rng.below(i + 1));
     }
-    p
+    names_of(size, names.into_iter())
+}
+
+/// Names of random letters, `length` bytes each.
+pub fn random_names(rng: &mut Rng, size: usize, length: usize) -> Package {
+    let names: Vec<String> =
+        (0..size / (length + 1)).map(|_| (0..length).map(|_| (b'a' + rng.below(26) as u8) as char).collect()).collect();
+    names_of(size, names.into_iter())
+}
+
+/// Names of 255 bytes down to 6, again and again.
+pub fn ragged_names(size: usize) -> Package {
+    names_of(size, (0..99_999).map(|i| format!("{}{i:05}", "n".repeat(250 - i % 250))))
+}
+
+/// The package with its first name once more, in the place of the one at `at`.
+pub fn repeated(p: Package, at: usize) -> Package {
+    names_of(usize::MAX, (0..p.old).map(|i| p.names.text(if i == at { 0 } else { i as Name }).to_string()))
 }
 
 /// One of the packages above, with numbers around the limits.

@@ -46,9 +46,9 @@ split old m id n s =
     ap (λ (is : List Item). render old is s) (each-append portItems (regionLocals m id ++ (activePort id ∷ [])) (innerLocals m (suc id) n))
     ∙ render-append old (each portItems (regionLocals m id ++ (activePort id ∷ []))) _ s
     ∙ ap (render old (each portItems (innerLocals m (suc id) n)))
-      (ap (λ (is : List Item). render old is s) (each-append portItems (regionLocals m id) (activePort id ∷ []))
-      ∙ render-append old (each portItems (regionLocals m id)) _ s
-      ∙ ap (λ (is : List Item). render old is (render old (each portItems (regionLocals m id)) s)) (each-one (activePort id)))
+    (ap (λ (is : List Item). render old is s) (each-append portItems (regionLocals m id) (activePort id ∷ []))
+    ∙ render-append old (each portItems (regionLocals m id)) _ s
+    ∙ ap (λ (is : List Item). render old is (render old (each portItems (regionLocals m id)) s)) (each-one (activePort id)))
 
 -- the loop over regions: one more, and the end
 pub inner-more : (old : List ℕ) (m : Name) (id n : ℕ) (s t u z : State) → 0 < n → t ≡ render old (each portItems (regionLocals m id)) s → u ≡ render old (portItems (activePort id)) t → render old (each portItems (innerLocals m id n)) s ≡ z → render old (each portItems (innerLocals m (id + 1) (n - 1))) u ≡ z
@@ -77,6 +77,7 @@ inner-append m id (suc a) b =
 
 mutual
   unfolding localsS localsR sizeS sizeR innerLocals activePort
+
   pub locals-states : (m : Name) (id : ℕ) (ss : States) → localsS m id ss ≡ innerLocals m id (sizeS ss)
   locals-states m id sNil = refl
   locals-states m id (sCons s es ts rs rest) =

@@ -22,7 +22,16 @@ pub fn put_left(old: &[u8], v: Var, id: usize, out: &mut [u8], made: &mut [u8], 
 }
 
 // A region is active where the region holding its state is active and in that state.
-pub fn put_active_equation(old: &[u8], id: usize, top: bool, parent: usize, s: &[u8], out: &mut [u8], made: &mut [u8], w: Writer) -> Writer
+pub fn put_active_equation(
+    old: &[u8],
+    id: usize,
+    top: bool,
+    parent: usize,
+    s: &[u8],
+    out: &mut [u8],
+    made: &mut [u8],
+    w: Writer,
+) -> Writer
     ensures { λ r. ⌜ stateOf (now (out .exit)) (now (made .exit)) r ≡ render (now (old .entry)) (equationItems (activeEquation id top parent (now (s .entry)))) (stateOf (now (out .entry)) (now (made .entry)) w) ⌝ }
 {
     let a = put_left(old, Var::Active, id, out, made, w);
@@ -30,7 +39,15 @@ pub fn put_active_equation(old: &[u8], id: usize, top: bool, parent: usize, s: &
 }
 
 // A region's state.
-pub fn put_state_equation(old: &[u8], id: usize, initial: &[u8], history: bool, out: &mut [u8], made: &mut [u8], w: Writer) -> Writer
+pub fn put_state_equation(
+    old: &[u8],
+    id: usize,
+    initial: &[u8],
+    history: bool,
+    out: &mut [u8],
+    made: &mut [u8],
+    w: Writer,
+) -> Writer
     ensures { λ r. ⌜ stateOf (now (out .exit)) (now (made .exit)) r ≡ render (now (old .entry)) (equationItems (stateEquation id (now (initial .entry)) history)) (stateOf (now (out .entry)) (now (made .entry)) w) ⌝ }
 {
     let a = put_left(old, Var::State, id, out, made, w);

@@ -13,7 +13,15 @@ ghost use Rattle.machines.specs.Lower.{regionLocals};
 ghost use Rattle.machines.specs.Locals.{statePort, activePort, innerLocals};
 
 // A region's state or next state: its type is the region's enum.
-fn put_state_port(old: &[u8], v: Var, m: &[u8], id: usize, out: &mut [u8], made: &mut [u8], w: Writer) -> Writer
+fn put_state_port(
+    old: &[u8],
+    v: Var,
+    m: &[u8],
+    id: usize,
+    out: &mut [u8],
+    made: &mut [u8],
+    w: Writer,
+) -> Writer
     ensures { λ r. ⌜ stateOf (now (out .exit)) (now (made .exit)) r ≡ render (now (old .entry)) (portItems (statePort v (now (m .entry)) id)) (stateOf (now (out .entry)) (now (made .entry)) w) ⌝ }
 {
     let a = put_var(old, v, id, out, made, w);
@@ -30,7 +38,14 @@ fn put_active_port(old: &[u8], id: usize, out: &mut [u8], made: &mut [u8], w: Wr
 }
 
 // A region's state and next state.
-pub fn put_region_locals(old: &[u8], m: &[u8], id: usize, out: &mut [u8], made: &mut [u8], w: Writer) -> Writer
+pub fn put_region_locals(
+    old: &[u8],
+    m: &[u8],
+    id: usize,
+    out: &mut [u8],
+    made: &mut [u8],
+    w: Writer,
+) -> Writer
     ensures { λ r. ⌜ stateOf (now (out .exit)) (now (made .exit)) r ≡ render (now (old .entry)) (each portItems (regionLocals (now (m .entry)) id)) (stateOf (now (out .entry)) (now (made .entry)) w) ⌝ }
 {
     let a = put_state_port(old, Var::State, m, id, out, made, w);
@@ -38,7 +53,15 @@ pub fn put_region_locals(old: &[u8], m: &[u8], id: usize, out: &mut [u8], made: 
 }
 
 // The locals of `count` regions from `first` on.
-pub fn put_inner_locals(old: &[u8], m: &[u8], first: usize, count: usize, out: &mut [u8], made: &mut [u8], w: Writer) -> Writer
+pub fn put_inner_locals(
+    old: &[u8],
+    m: &[u8],
+    first: usize,
+    count: usize,
+    out: &mut [u8],
+    made: &mut [u8],
+    w: Writer,
+) -> Writer
     requires { ⌜ first + count < 4294967296 ⌝ }
     ensures { λ r. ⌜ stateOf (now (out .exit)) (now (made .exit)) r ≡ render (now (old .entry)) (each portItems (innerLocals (now (m .entry)) first count)) (stateOf (now (out .entry)) (now (made .entry)) w) ⌝ }
 {

@@ -72,7 +72,14 @@ fn put_enum_text(out: &mut [u8], w: Writer, m: &[u8], id: usize) -> Writer
 }
 
 // The name of a region's enum, by its number among the names.
-pub fn put_enum_name(old: &[u8], m: &[u8], id: usize, out: &mut [u8], made: &mut [u8], w: Writer) -> Writer
+pub fn put_enum_name(
+    old: &[u8],
+    m: &[u8],
+    id: usize,
+    out: &mut [u8],
+    made: &mut [u8],
+    w: Writer,
+) -> Writer
     ensures { λ r. ⌜ stateOf (now (out .exit)) (now (made .exit)) r ≡ putName (now (old .entry)) (enumName (now (m .entry)) id) (stateOf (now (out .entry)) (now (made .entry)) w) ⌝ }
 {
     let mut buf = [0u8; 255];

@@ -5,7 +5,6 @@ use pack::intern::put_name;
 use wire::writer::Writer;
 use wire::writer::put_byte;
 use wire::writer::put_bytes;
-
 ghost use mathlib.Core.Path.{_≡_};
 ghost use Rattle.wire.specs.Writer.{stateOf};
 ghost use Rattle.pack.specs.Syntax.{eVar};
@@ -16,7 +15,14 @@ ghost use Rattle.machines.specs.Lower.{isName, held, justEntered, stateR
 ghost use Rattle.machines.specs.Vars.{varName};
 
 // A region's variable.
-pub fn put_variable(old: &[u8], v: Var, id: usize, out: &mut [u8], made: &mut [u8], w: Writer) -> Writer
+pub fn put_variable(
+    old: &[u8],
+    v: Var,
+    id: usize,
+    out: &mut [u8],
+    made: &mut [u8],
+    w: Writer,
+) -> Writer
     ensures { λ r. ⌜ stateOf (now (out .exit)) (now (made .exit)) r ≡ render (now (old .entry)) (exprItems (eVar (varName v id))) (stateOf (now (out .entry)) (now (made .entry)) w) ⌝ }
 {
     let a = put_byte(out, w, 1);
@@ -32,7 +38,14 @@ pub fn put_named(old: &[u8], n: &[u8], out: &mut [u8], made: &mut [u8], w: Write
 }
 
 // The initial state, then what was chosen a cycle ago.
-pub fn put_held(old: &[u8], id: usize, initial: &[u8], out: &mut [u8], made: &mut [u8], w: Writer) -> Writer
+pub fn put_held(
+    old: &[u8],
+    id: usize,
+    initial: &[u8],
+    out: &mut [u8],
+    made: &mut [u8],
+    w: Writer,
+) -> Writer
     ensures { λ r. ⌜ stateOf (now (out .exit)) (now (made .exit)) r ≡ render (now (old .entry)) (exprItems (held id (now (initial .entry)))) (stateOf (now (out .entry)) (now (made .entry)) w) ⌝ }
 {
     let a = put_byte(out, w, 6);
@@ -52,7 +65,15 @@ fn put_entered(old: &[u8], id: usize, out: &mut [u8], made: &mut [u8], w: Writer
 }
 
 // A region's state: without history it is the initial one when the region is entered.
-pub fn put_state_rhs(old: &[u8], id: usize, initial: &[u8], history: bool, out: &mut [u8], made: &mut [u8], w: Writer) -> Writer
+pub fn put_state_rhs(
+    old: &[u8],
+    id: usize,
+    initial: &[u8],
+    history: bool,
+    out: &mut [u8],
+    made: &mut [u8],
+    w: Writer,
+) -> Writer
     ensures { λ r. ⌜ stateOf (now (out .exit)) (now (made .exit)) r ≡ render (now (old .entry)) (exprItems (stateRhs id (now (initial .entry)) history)) (stateOf (now (out .entry)) (now (made .entry)) w) ⌝ }
 {
     if history {
@@ -74,7 +95,15 @@ pub fn put_is(old: &[u8], id: usize, s: &[u8], out: &mut [u8], made: &mut [u8], 
 }
 
 // Whether the regions of the state s of region id are active; the top region always is.
-pub fn put_active_in(old: &[u8], top: bool, id: usize, s: &[u8], out: &mut [u8], made: &mut [u8], w: Writer) -> Writer
+pub fn put_active_in(
+    old: &[u8],
+    top: bool,
+    id: usize,
+    s: &[u8],
+    out: &mut [u8],
+    made: &mut [u8],
+    w: Writer,
+) -> Writer
     ensures { λ r. ⌜ stateOf (now (out .exit)) (now (made .exit)) r ≡ render (now (old .entry)) (exprItems (activeIn top id (now (s .entry)))) (stateOf (now (out .entry)) (now (made .entry)) w) ⌝ }
 {
     if top {

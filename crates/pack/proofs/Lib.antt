@@ -1,4 +1,5 @@
 pub mod NameLaws
+pub mod OrderLaws
 pub mod TypeLaws
 pub mod ExprLaws
 pub mod NodeLaws

@@ -1,16 +1,22 @@
 // The name section.
+use crate::distinct::listed;
+use crate::distinct::order;
+use crate::distinct::reach;
 use wire::answer::Read;
 use wire::answer::Skipped;
 use wire::answer::past;
 use wire::number::read_byte;
 use wire::number::read_u16;
 ghost use mathlib.Core.Path.{_≡_};
+ghost use mathlib.Core.Bool.{cond, false};
+ghost use mathlib.Core.List.{[]};
 ghost use Prim.Native.Nat.{_+_, _≤_};
 ghost use lib.ListN.{length, getD};
 ghost use Rattle.wire.specs.Code.{readOf, skip};
 ghost use Rattle.pack.specs.Names.{eqName};
-ghost use Rattle.pack.specs.Read.{nameByte, char, size, name, nameSection};
+ghost use Rattle.pack.specs.Read.{nameByte, char, size, name, namesAfter, nameSection};
 ghost use Rattle.pack.specs.RawNames.{agree, rawName, Inside, oneOf};
+ghost use Rattle.pack.specs.Distinct.{Rising, listedAt};
 
 // A byte of a name: a letter, a digit or an underscore.
 pub fn name_byte(b: usize) -> bool
@@ -135,6 +141,106 @@ pub fn seen(s: &[u8], x: usize, count: usize, at: usize) -> bool
     false
 }
 
+// Whether the name at p is listed as all before it are: it is then none of them.
+fn listed_too(all: bool, ord: &[u16], known: usize, rank: &[u16], p: usize) -> bool
+    ensures { λ r. ⌜ r ≡ cond all (listedAt (now (ord .entry)) known (now (rank .entry)) p) false ⌝ }
+{
+    if all {
+        listed(ord, known, rank, p)
+    } else {
+        false
+    }
+}
+
+// Whether the name at p is one of the n from q on, where it is not known to be new.
+fn again(s: &[u8], p: usize, n: usize, q: usize, new: bool) -> bool
+    requires { ⌜ (p + 1 + getD (now s) p 0 ≤ length (now s)) × Inside (now s) n q ⌝ }
+    ensures { λ r. ⌜ r ≡ cond new false (oneOf (now (s .entry)) p n q) ⌝ }
+{
+    if new { false } else { seen(s, p, n, q) }
+}
+
+// The count names from q on, none twice. A name that is listed, as all before it are, needs no look at them.
+fn read_names(s: &[u8], q: usize, count: usize, ord: &[u16], known: usize, rank: &[u16]) -> Skipped
+    requires { ⌜ Rising (now s) (now ord) known ⌝ }
+    ensures { λ r. ⌜ r ≡ skip (namesAfter (now (s .entry)) [] count q) ⌝ }
+{
+    let mut n: usize = 0;
+    let mut p = q;
+    let mut all = true;
+    while n < count {
+        let e = skip_name(s, p);
+        let Skipped::To(next) = e else {
+            return e;
+        };
+        all = listed_too(all, ord, known, rank, p);
+        if again(s, p, n, q, all) {
+            return Skipped::Illegal(p);
+        }
+        n += 1;
+        p = next;
+    }
+    Skipped::To(p)
+}
+
+// The same with no order.
+fn few_names(s: &[u8], q: usize, count: usize) -> Skipped
+    ensures { λ r. ⌜ r ≡ skip (namesAfter (now (s .entry)) [] count q) ⌝ }
+{
+    let none = [0u16; 1];
+    read_names(s, q, count, &none, 0, &none)
+}
+
+// The same for names that end within 8,192 bytes: small slices are quick to clear.
+fn some_names(s: &[u8], q: usize, count: usize) -> Skipped
+    ensures { λ r. ⌜ r ≡ skip (namesAfter (now (s .entry)) [] count q) ⌝ }
+{
+    let mut ord = [0u16; 4096];
+    let mut other = [0u16; 4096];
+    let mut rank = [0u16; 4096];
+    let known = order(s, q, count, &mut ord, &mut other, &mut rank);
+    read_names(s, q, count, &ord, known, &rank)
+}
+
+// The same for the names of any pack.
+fn many_names(s: &[u8], q: usize, count: usize) -> Skipped
+    ensures { λ r. ⌜ r ≡ skip (namesAfter (now (s .entry)) [] count q) ⌝ }
+{
+    let mut ord = [0u16; 32768];
+    let mut other = [0u16; 32768];
+    let mut rank = [0u16; 32768];
+    let known = order(s, q, count, &mut ord, &mut other, &mut rank);
+    read_names(s, q, count, &ord, known, &rank)
+}
+
+// The count names from q on, in the way that is quick for so many.
+fn names_to(s: &[u8], q: usize, count: usize) -> Skipped
+    ensures { λ r. ⌜ r ≡ skip (namesAfter (now (s .entry)) [] count q) ⌝ }
+{
+    if count < 32 {
+        return few_names(s, q, count);
+    }
+    if reach(s, q, count) < 8192 {
+        return some_names(s, q, count);
+    }
+    many_names(s, q, count)
+}
+
+// The same, after a look at the first of many names: where those are refused, the others need no order.
+fn all_names(s: &[u8], q: usize, count: usize) -> Skipped
+    ensures { λ r. ⌜ r ≡ skip (namesAfter (now (s .entry)) [] count q) ⌝ }
+{
+    let mut m: usize = 32;
+    while m < count / 8 {
+        let r = names_to(s, q, m);
+        let Skipped::To(_) = r else {
+            return r;
+        };
+        m *= 8;
+    }
+    names_to(s, q, count)
+}
+
 // The name section: no name twice.
 pub fn skip_names(s: &[u8], at: usize) -> Skipped
     ensures { λ r. ⌜ r ≡ skip (nameSection (now (s .entry)) at) ⌝ }
@@ -147,18 +253,5 @@ pub fn skip_names(s: &[u8], at: usize) -> Skipped
     else {
         return past(t);
     };
-    let mut n: usize = 0;
-    let mut p = q;
-    while n < count {
-        let e = skip_name(s, p);
-        let Skipped::To(next) = e else {
-            return e;
-        };
-        if seen(s, p, n, q) {
-            return Skipped::Illegal(p);
-        }
-        n += 1;
-        p = next;
-    }
-    Skipped::To(p)
+    all_names(s, q, count)
 }

@@ -64,6 +64,7 @@ fn turn(set: &Set, call: impl Fn(&[u8]) -> u64) -> f64 {
 
 fn sets() -> Vec<Set> {
     let one = |name, p: Package| Set { name, packs: vec![encode_any(&p).0] };
+    let mixed = || special::mixed_names(&mut Rng::new(1), 65_536);
     let padded = |mut p: Package| {
         special::pad(&mut p, 65_536);
         p
@@ -71,7 +72,16 @@ fn sets() -> Vec<Set> {
     vec![
         Set { name: "generated, 2 to 20 KB", packs: generated(60) },
         one("worst: short names", special::names_only(65_536)),
+        one("worst: short names, mixed", mixed()),
+        one("worst: short names, last repeated", special::repeated(mixed(), mixed().old - 1)),
         one("worst: long names all alike", special::alike_names(65_536)),
+        one("worst: long names, last repeated", special::repeated(special::alike_names(65_536), 254)),
+        one("worst: long names of two stems", special::stem_names(65_536, 2)),
+        one("worst: long names of 40 stems", special::stem_names(65_536, 40)),
+        one("worst: names of 31 bytes", special::random_names(&mut Rng::new(1), 65_536, 31)),
+        one("worst: names of all lengths", special::ragged_names(65_536)),
+        one("early: second name repeated", special::repeated(mixed(), 1)),
+        one("early: name 1000 repeated", special::repeated(mixed(), 1_000)),
         one("worst: deep unary expression", padded(pre(65_000))),
         one("worst: binary leaning left", padded(special::leaning(13_000, true))),
         one("worst: many tiny states", padded(tiny_states())),

@@ -1,0 +1,76 @@
+use Rattle.pack.proofs.OrderLaws.{Kept, kept-more, kept-none, kept-same}
+use mathlib.Core.Logic.{⊎-elim}
+use lib.ListN.{length}
+use Prim.Native.Nat.{_-_}
+use borrow.Author.Needs.{needs}
+use Rattle.pack.proofs.distinct.keep_rising.Statement.{statement}
+use Rattle.pack.proofs.distinct.keep_rising.Tie as tie
+
+abbrev Inv-loop : tie.InvT-loop
+Inv-loop s from n ord₀ j₀ last₀ k₀ ord j last k = Kept s (length ord₀) ord j last
+
+abbrev μ-loop : tie.MeasureT-loop
+μ-loop s from n ord₀ j₀ last₀ k₀ ord j last k = n - k
+
+loop-holds : tie.Need-loop-holds Inv-loop μ-loop
+loop-holds c = kept-none _ _ _
+
+same-length : tie.Need-same-length Inv-loop μ-loop
+same-length c = c .before .before .loop .inv .size
+
+returns : tie.Need-returns Inv-loop μ-loop
+returns c = c .before .before .loop .inv .rising
+
+offset-at-requires : tie.Need-offset-at-requires Inv-loop μ-loop
+offset-at-requires c κs = search needs
+
+follows-requires : tie.Need-follows-requires Inv-loop μ-loop
+follows-requires c κs = c .before .before .before .loop .inv .above .stands
+
+cast-ord : tie.Need-cast-ord Inv-loop μ-loop
+cast-ord c = search needs
+
+mul-ord : tie.Need-mul-ord Inv-loop μ-loop
+mul-ord c = search needs
+
+slice-write-ord : tie.Need-slice-write-ord Inv-loop μ-loop
+slice-write-ord c = search needs
+
+add-j : tie.Need-add-j Inv-loop μ-loop
+add-j c = search needs
+
+add-k : tie.Need-add-k Inv-loop μ-loop
+add-k c = search needs
+
+loop-less : tie.Need-loop-less Inv-loop μ-loop
+loop-less c = search needs
+
+loop-again : tie.Need-loop-again Inv-loop μ-loop
+loop-again c = ⊎-elim (λ w. kept-more _ _ _ _ _ _ _ _ _ _ (c .before .before .before .before .before .loop .inv) (c .before .before .before .if1 .left) (c .before .follows .ensures) (w .0 .taken) (w .1) (w .2) (w .3)) (λ w. kept-same _ _ _ _ _ _ _ _ (c .before .before .before .before .before .loop .inv) (w .1) (w .2) (w .3)) (c .if2 .came)
+
+same-length-2 : tie.Need-same-length-2 Inv-loop μ-loop
+same-length-2 c = c .before .loop .inv .size
+
+returns-2 : tie.Need-returns-2 Inv-loop μ-loop
+returns-2 c = c .before .loop .inv .rising
+
+pub keep-rising-spec : {M : Type 1} → statement M
+keep-rising-spec =
+    tie.close
+    (tie.spec
+    Inv-loop
+    μ-loop
+    loop-holds
+    same-length
+    returns
+    offset-at-requires
+    follows-requires
+    cast-ord
+    mul-ord
+    slice-write-ord
+    add-j
+    add-k
+    loop-less
+    loop-again
+    same-length-2
+    returns-2)
