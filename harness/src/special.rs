@@ -312,6 +312,25 @@ pub fn repeated(p: Package, at: usize) -> Package {
     names_of(usize::MAX, (0..p.old).map(|i| p.names.text(if i == at { 0 } else { i as Name }).to_string()))
 }
 
+/// Names of one of the kinds above, half of the time with one of them repeated.
+fn name_list(rng: &mut Rng) -> Package {
+    let size = rng.pick(&[300, 1_000, 8_200, 30_000]);
+    let p = match rng.below(4) {
+        0 => mixed_names(rng, size),
+        1 => stem_names(size, rng.range(1, 40)),
+        2 => {
+            let length = rng.range(1, 60);
+            random_names(rng, size, length)
+        }
+        _ => ragged_names(size),
+    };
+    if p.old < 2 || rng.chance(1, 2) {
+        return p;
+    }
+    let at = rng.range(1, p.old - 1);
+    repeated(p, at)
+}
+
 /// One of the packages above, with numbers around the limits.
 pub fn any(rng: &mut Rng) -> Package {
     match rng.below(16) {
@@ -329,6 +348,7 @@ pub fn any(rng: &mut Rng) -> Package {
         10 => repeated_ports(rng.range(1, 12), rng.range(1, 12)),
         11 => deep_type(rng.range(1, 300)),
         12 => leaning(rng.range(1, 200), rng.chance(1, 2)),
+        13 => name_list(rng),
         _ => {
             let bytes = rng.range(100, 2_000);
             deep(rng, bytes)

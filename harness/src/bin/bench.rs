@@ -79,6 +79,7 @@ fn sets() -> Vec<Set> {
         one("worst: long names of two stems", special::stem_names(65_536, 2)),
         one("worst: long names of 40 stems", special::stem_names(65_536, 40)),
         one("worst: names of 31 bytes", special::random_names(&mut Rng::new(1), 65_536, 31)),
+        one("worst: names of 62 bytes", special::random_names(&mut Rng::new(1), 65_536, 62)),
         one("worst: names of all lengths", special::ragged_names(65_536)),
         one("early: second name repeated", special::repeated(mixed(), 1)),
         one("early: name 1000 repeated", special::repeated(mixed(), 1_000)),
