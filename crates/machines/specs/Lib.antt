@@ -2,6 +2,11 @@ pub mod Refusals
 pub mod MadeNames
 pub mod Resolve
 pub mod Stands
+pub mod Sure
+pub mod Tables
+pub mod Paths
+pub mod Walks
+pub mod Covers
 pub mod Lower
 pub mod Checks
 pub mod Machines

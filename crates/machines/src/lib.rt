@@ -1,1 +1,6 @@
 // Machines: resolved, checked and lowered.
+pub mod sure; // total readers on a checked pack
+pub mod table; // names and machines by name index
+pub mod path; // the machines on the way from the top
+pub mod walk; // resolving, which counts states and makes no tree
+pub mod cover; // whether a resolved machine's states give an output
