@@ -4,3 +4,10 @@ pub mod SureLaws
 pub mod TableLaws
 pub mod WalkLaws
 pub mod CoverLaws
+pub mod NamesPlaced
+pub mod MachinesPlaced
+pub mod Lengths
+pub mod WalkSame
+pub mod Agreeing
+pub mod Walked
+pub mod Covered

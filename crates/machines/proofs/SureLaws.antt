@@ -95,3 +95,7 @@ then-to x v q k e = rw e
 pub end-to : {A : Type 0} (a : Answer A) (x : A) (q : ℕ) → a ≡ value x q → endOf a ≡ q
 unfolding endOf
 end-to a x q e = rw e
+
+pub number-num : (s : List ℕ) (at v q : ℕ) → u16 s at ≡ value v q → numberIn s at ≡ num v q
+unfolding numberIn sureOf readOf
+number-num s at v q e = rw e

@@ -6,6 +6,7 @@ pub mod Sure
 pub mod Tables
 pub mod Paths
 pub mod Walks
+pub mod Same
 pub mod Covers
 pub mod Lower
 pub mod Checks
