@@ -3,6 +3,7 @@ pub mod Standing
 pub mod SureLaws
 pub mod TableLaws
 pub mod WalkLaws
+pub mod HeadLaws
 pub mod CoverLaws
 pub mod NamesPlaced
 pub mod MachinesPlaced

@@ -7,6 +7,7 @@ pub mod Tables
 pub mod Paths
 pub mod Walks
 pub mod Same
+pub mod Heads
 pub mod Covers
 pub mod Lower
 pub mod Checks

@@ -60,7 +60,7 @@ pub fn name_len(s: &[u8], spots: &[usize], i: usize) -> usize
 }
 
 // From a machine's owner, past its ports: where its initial state is.
-fn to_initial(s: &[u8], names: usize, at: usize) -> usize
+pub fn to_initial(s: &[u8], names: usize, at: usize) -> usize
     requires { ⌜ length (now s) ≤ 65536 ⌝ }
     ensures { λ r. ⌜ ((ns : List Name) → length ns ≡ names → r ≡ initialIn ns (now (s .entry)) at) ⌝ }
 {

@@ -1,7 +1,8 @@
 // Resolving a machine on the pack's bytes: a state's regions, then its refinement by going to the machine's place.
 // No tree is made. Of names only the longest length is kept, which decides whether qualified names fit.
+use crate::heads::{head_of, most};
 use crate::path::{on_path, pushed, start, Path};
-use crate::sure::{after_equations, after_expr, machine, number, region, Num};
+use crate::sure::{machine, number, region};
 use crate::table::{entry, name_len};
 use pack::record::Pack;
 ghost use mathlib.Core.List.{List};
@@ -10,7 +11,8 @@ ghost use Prim.Native.Nat.{ℕ, _≤_};
 ghost use lib.ListN.{length};
 ghost use Rattle.pack.specs.Names.{Name};
 ghost use Rattle.machines.specs.Paths.{startOf};
-ghost use Rattle.machines.specs.Walks.{maxOf, lenAt, targetT, headT, enterW, qualifyOf, regionW, stateW, walk as walkIn, machineW};
+ghost use Rattle.machines.specs.Heads.{HeadsRight};
+ghost use Rattle.machines.specs.Walks.{lenAt, enterW, qualifyOf, stateW, walk as walkIn, machineW};
 
 // What walking came to: up to `next`, with so many states so far and the longest name's length; or why it stopped.
 pub enum Walked {
@@ -20,46 +22,12 @@ pub enum Walked {
     Large,
 }
 
-fn most(a: usize, b: usize) -> usize
-    ensures { λ r. ⌜ r ≡ maxOf a b ⌝ }
-{
-    if a < b { b } else { a }
-}
-
 // The length of the name whose index stands at `at`.
 fn len_at(s: &[u8], spots: &[usize], at: usize) -> usize
     ensures { λ r. ⌜ r ≡ lenAt (now (s .entry)) (now (spots .entry)) at ⌝ }
 {
     let i = number(s, at);
     name_len(s, spots, i.value)
-}
-
-// A transition: its target's length.
-fn target_len(s: &[u8], names: usize, spots: &[usize], at: usize) -> Num
-    requires { ⌜ length (now s) ≤ 65536 ⌝ }
-    ensures { λ r. ⌜ ((ns : List Name) → length ns ≡ names → r ≡ targetT ns (now (s .entry)) (now (spots .entry)) at) ⌝ }
-{
-    let i = number(s, after_expr(s, names, at));
-    Num { value: name_len(s, spots, i.value), next: i.next }
-}
-
-// A state's name, equations and transitions: the longest name, and where its regions' count stands.
-fn head(s: &[u8], names: usize, spots: &[usize], at: usize) -> Num
-    requires { ⌜ length (now s) ≤ 65536 ⌝ }
-    ensures { λ r. ⌜ ((ns : List Name) → length ns ≡ names → r ≡ headT ns (now (s .entry)) (now (spots .entry)) at) ⌝ }
-{
-    let i = number(s, at);
-    let t = number(s, after_equations(s, names, i.next));
-    let mut n = t.value;
-    let mut p = t.next;
-    let mut a = name_len(s, spots, i.value);
-    while 0 < n {
-        let x = target_len(s, names, spots, p);
-        a = most(a, x.value);
-        n = n - 1;
-        p = x.next;
-    }
-    Num { value: a, next: p }
 }
 
 // Where the refinement m of the state i leads: its states' offset and count, and its initial state's length.
@@ -91,14 +59,14 @@ fn qualify(i: usize, w: usize, a: usize, next: usize, states: usize) -> Walked
 }
 
 // One state: it is counted, then its regions, then its refinement.
-fn walk_state(s: &[u8], names: usize, spots: &[usize], to: &[usize], levels: usize, p: Path, at: usize, count: usize) -> Walked
-    requires { ⌜ length (now s) ≤ 65536 ⌝ }
+fn walk_state(s: &[u8], names: usize, spots: &[usize], to: &[usize], heads: &[u32], levels: usize, p: Path, at: usize, count: usize) -> Walked
+    requires { ⌜ (length (now s) ≤ 65536) × ((ns : List Name) → length ns ≡ names → HeadsRight ns (now s) (now spots) (now heads)) ⌝ }
     ensures { λ r. ⌜ ((ns : List Name) → length ns ≡ names → r ≡ stateW ns (now (s .entry)) (now (spots .entry)) (now (to .entry)) (walkIn ns (now (s .entry)) (now (spots .entry)) (now (to .entry)) levels) p at count) ⌝ }
 {
     if Pack::STATES <= count {
         return Walked::Large;
     }
-    let h = head(s, names, spots, at);
+    let h = head_of(s, names, spots, heads, at);
     let t = number(s, h.next);
     let mut n = t.value;
     let mut o = t.next;
@@ -106,7 +74,7 @@ fn walk_state(s: &[u8], names: usize, spots: &[usize], to: &[usize], levels: usi
     let mut a = h.value;
     while 0 < n {
         let g = region(s, o);
-        let e = walk_states(s, names, spots, to, levels, p, g.value, g.next, c);
+        let e = walk_states(s, names, spots, to, heads, levels, p, g.value, g.next, c);
         let Walked::Went { next, states, longest } = e else {
             return e;
         };
@@ -124,7 +92,7 @@ fn walk_state(s: &[u8], names: usize, spots: &[usize], to: &[usize], levels: usi
     let Walked::Went { next: b, states: k, longest: v } = d else {
         return d;
     };
-    let y = walk_states(s, names, spots, to, levels, pushed(p, f.value), k, b, c);
+    let y = walk_states(s, names, spots, to, heads, levels, pushed(p, f.value), k, b, c);
     let Walked::Went { next: _, states: j, longest: w } = y else {
         return y;
     };
@@ -132,8 +100,8 @@ fn walk_state(s: &[u8], names: usize, spots: &[usize], to: &[usize], levels: usi
 }
 
 // So many states, with so many levels left: with none they may not open.
-fn walk_states(s: &[u8], names: usize, spots: &[usize], to: &[usize], levels: usize, p: Path, count: usize, at: usize, done: usize) -> Walked
-    requires { ⌜ length (now s) ≤ 65536 ⌝ }
+fn walk_states(s: &[u8], names: usize, spots: &[usize], to: &[usize], heads: &[u32], levels: usize, p: Path, count: usize, at: usize, done: usize) -> Walked
+    requires { ⌜ (length (now s) ≤ 65536) × ((ns : List Name) → length ns ≡ names → HeadsRight ns (now s) (now spots) (now heads)) ⌝ }
     ensures { λ r. ⌜ ((ns : List Name) → length ns ≡ names → r ≡ walkIn ns (now (s .entry)) (now (spots .entry)) (now (to .entry)) levels p count at done) ⌝ }
 {
     if levels == 0 {
@@ -144,7 +112,7 @@ fn walk_states(s: &[u8], names: usize, spots: &[usize], to: &[usize], levels: us
     let mut c = done;
     let mut a: usize = 0;
     while 0 < n {
-        let e = walk_state(s, names, spots, to, levels - 1, p, o, c);
+        let e = walk_state(s, names, spots, to, heads, levels - 1, p, o, c);
         let Walked::Went { next, states, longest } = e else {
             return e;
         };
@@ -157,10 +125,10 @@ fn walk_states(s: &[u8], names: usize, spots: &[usize], to: &[usize], levels: us
 }
 
 // Resolves the machine of the name m, whose initial state stands at `at`.
-pub fn walk_machine(s: &[u8], names: usize, spots: &[usize], to: &[usize], m: usize, at: usize) -> Walked
-    requires { ⌜ length (now s) ≤ 65536 ⌝ }
+pub fn walk_machine(s: &[u8], names: usize, spots: &[usize], to: &[usize], heads: &[u32], m: usize, at: usize) -> Walked
+    requires { ⌜ (length (now s) ≤ 65536) × ((ns : List Name) → length ns ≡ names → HeadsRight ns (now s) (now spots) (now heads)) ⌝ }
     ensures { λ r. ⌜ ((ns : List Name) → length ns ≡ names → r ≡ machineW ns (now (s .entry)) (now (spots .entry)) (now (to .entry)) m at) ⌝ }
 {
     let k = machine(s, at);
-    walk_states(s, names, spots, to, Pack::LEVELS, start(m), k.value, k.next, 0)
+    walk_states(s, names, spots, to, heads, Pack::LEVELS, start(m), k.value, k.next, 0)
 }

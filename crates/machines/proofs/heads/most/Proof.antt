@@ -1,6 +1,6 @@
 use Rattle.machines.proofs.WalkLaws.{most-less, most-not}
-use Rattle.machines.proofs.walk.most.Statement.{statement}
-use Rattle.machines.proofs.walk.most.Tie as tie
+use Rattle.machines.proofs.heads.most.Statement.{statement}
+use Rattle.machines.proofs.heads.most.Tie as tie
 
 returns : tie.Need-returns
 returns c = most-less _ _ (c .if1 .taken)

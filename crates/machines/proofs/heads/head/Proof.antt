@@ -8,8 +8,8 @@ use Rattle.machines.specs.Sure.{turns}
 use Rattle.machines.specs.Walks.{targetT, maxOf}
 use Rattle.machines.proofs.SureLaws.{turns-went, turns-done}
 use Rattle.machines.proofs.WalkLaws.{head-is}
-use Rattle.machines.proofs.walk.head.Statement.{statement}
-use Rattle.machines.proofs.walk.head.Tie as tie
+use Rattle.machines.proofs.heads.head.Statement.{statement}
+use Rattle.machines.proofs.heads.head.Tie as tie
 
 abbrev Inv-loop : tie.InvT-loop
 Inv-loop s names spots at n₀ p₀ a₀ n p a = (ns : List Name) → length ns ≡ names → turns (targetT ns s spots) maxOf n p a ≡ turns (targetT ns s spots) maxOf n₀ p₀ a₀

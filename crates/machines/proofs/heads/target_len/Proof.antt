@@ -1,7 +1,7 @@
 use Rattle.machines.proofs.WalkLaws.{target-is}
 use borrow.Author.Needs.{needs}
-use Rattle.machines.proofs.walk.target_len.Statement.{statement}
-use Rattle.machines.proofs.walk.target_len.Tie as tie
+use Rattle.machines.proofs.heads.target_len.Statement.{statement}
+use Rattle.machines.proofs.heads.target_len.Tie as tie
 
 after-expr-requires : tie.Need-after-expr-requires
 after-expr-requires c κs = search needs
