@@ -1,11 +1,14 @@
 -- Laws for the code that looks for coverage on bytes, step by step.
-use Prim.Native.Nat.{ℕ, zero, suc, _-_, _<_, _≤_}
+use Prim.Native.Nat.{ℕ, zero, suc, _+_, _*_, _/_, _%_, _-_, _<_, _≤_}
+use native.Mathlib.Nat.{div-add-mod', mod-lt}
 use native.Mathlib.Omega.{arith}
 use mathlib.Core.List.{List}
 use mathlib.Core.Bool.{Bool, true, false, cond, _&&_, _||_}
 use mathlib.Core.Path.{_≡_, refl, sym, ap, _∙_}
-use lib.ListN.{getD}
-use lib.Dec.{eqb}
+use lib.ListN.{getD, length, set, List·getD-eq-default}
+use lib.Seq.{getD-set-same, getD-set-other}
+use lib.Dec.{eqb, ltb}
+use borrow.Author.Tests.{eqb-true, eqb-false, ltb-true, ltb-false}
 use Rattle.wire.specs.Answer.{counted}
 use Rattle.pack.specs.Limits.{absent, maxLevel}
 use Rattle.pack.specs.Names.{Name}
@@ -14,7 +17,7 @@ use Rattle.machines.specs.declared.cover.Told.{Told}
 use Rattle.machines.specs.declared.sure.Num.{Num}
 use Rattle.machines.specs.Stands.{endOf}
 use Rattle.machines.specs.Sure.{machineFrom, numberIn, regionIn, with}
-use Rattle.machines.specs.Covers.{asked, coverT, givesT, machineT, ownT, refineT, regionT, stateT, tells, told}
+use Rattle.machines.specs.Covers.{OwnsRight, asked, bitOf, coverT, givesT, machineT, ownT, refineT, regionT, stateT, tells, told}
 use Rattle.machines.proofs.SureLaws.{no, on, yes}
 
 -- a step of the code
@@ -71,3 +74,62 @@ module _ (ns : List Name) (s : List ℕ) where
     pub machine-covers : (at : ℕ) (k : Num) (t : Told) → k ≡ machineFrom s at → t ≡ coverT ns s to out 8 (k .value) (k .next) → t .yes ≡ machineT ns s to out at
     unfolding machineT maxLevel
     machine-covers at k t x y = on k _ _ _ x (ap (λ (z : Told). z .yes) y)
+
+-- what is noted is what is found
+split : (b : Bool) (q : ℕ) → told (eqb ((q * 2 + bitOf b) % 2) 1) ((q * 2 + bitOf b) / 2) ≡ told b q
+unfolding bitOf
+split true q =
+    let a = div-add-mod' (q * 2 + 1) 2 in
+    let b = mod-lt (q * 2 + 1) {m = 2} (omega arith) in
+    let i : (q * 2 + 1) % 2 ≡ 1 = omega arith in
+    let j : (q * 2 + 1) / 2 ≡ q = omega arith in
+    ap (λ y. told (eqb y 1) ((q * 2 + 1) / 2)) i ∙ ap (told true) j
+split false q =
+    let a = div-add-mod' (q * 2 + 0) 2 in
+    let b = mod-lt (q * 2 + 0) {m = 2} (omega arith) in
+    let i : (q * 2 + 0) % 2 ≡ 0 = omega arith in
+    let j : (q * 2 + 0) / 2 ≡ q = omega arith in
+    ap (λ y. told (eqb y 1) ((q * 2 + 0) / 2)) i ∙ ap (told false) j
+
+module _ (ns : List Name) (s : List ℕ) (out : ℕ) where
+  pub note-found : (owns : List ℕ) (at : ℕ) → OwnsRight ns s out owns → (getD owns at 0 ≡ 0 → ⊥) → told (eqb (getD owns at 0 % 2) 1) (getD owns at 0 / 2) ≡ ownT ns s out at
+  note-found owns at r n = r at n
+
+  pub note-put : (owns : List ℕ) (at v : ℕ) (h : Told) → at < length owns → h ≡ ownT ns s out at → v ≡ bitOf (h .yes) → OwnsRight ns s out owns → OwnsRight ns s out (set owns at (h .next * 2 + v))
+  note-put owns at v h l e f r = λ j. go j (eqb j at) refl
+    where
+      go : (j : ℕ) (b : Bool) → eqb j at ≡ b → (getD (set owns at (h .next * 2 + v)) j 0 ≡ 0 → ⊥) → told (eqb (getD (set owns at (h .next * 2 + v)) j 0 % 2) 1) (getD (set owns at (h .next * 2 + v)) j 0 / 2) ≡ ownT ns s out j
+      go j false g = rw (getD-set-other owns at j (h .next * 2 + v) 0 (eqb-false j at g)) (r j)
+      go j true g = rw (eqb-true j at g) (rw (getD-set-same owns at (h .next * 2 + v) 0 l) (λ y. ap (λ x. told (eqb ((h .next * 2 + x) % 2) 1) ((h .next * 2 + x) / 2)) f ∙ split (h .yes) (h .next) ∙ e))
+
+  -- zeros note nothing
+  pub note-none : (owns : List ℕ) → ((i : ℕ) → getD owns i 0 ≡ 0) → OwnsRight ns s out owns
+  note-none owns z = λ at n. absurd (n (z at))
+
+-- zeros so far, one more, all
+pub zeros-more : (l : List ℕ) (i : ℕ) → i < length l → ((k : ℕ) → k < i → getD l k 0 ≡ 0) → (k : ℕ) → k < i + 1 → getD (set l i 0) k 0 ≡ 0
+zeros-more l i h z k m = go (eqb k i) refl
+  where
+    go : (b : Bool) → eqb k i ≡ b → getD (set l i 0) k 0 ≡ 0
+    go true e = rw (eqb-true k i e) (getD-set-same l i 0 0 h)
+    go false e = getD-set-other l i k 0 0 (eqb-false k i e) ∙ z k (let n = eqb-false k i e in omega arith)
+
+pub zeros-all : (l : List ℕ) (i : ℕ) → length l ≤ i → ((k : ℕ) → k < i → getD l k 0 ≡ 0) → (k : ℕ) → getD l k 0 ≡ 0
+zeros-all l i h z k = go (ltb k i) refl
+  where
+    go : (b : Bool) → ltb k i ≡ b → getD l k 0 ≡ 0
+    go true e = z k (ltb-true k i e)
+    go false e = List·getD-eq-default l 0 (let n = ltb-false k i e in omega arith)
+
+pub bit-yes : (b : Bool) → b ≡ true → 1 ≡ bitOf b
+unfolding bitOf
+bit-yes b e = rw e
+
+pub bit-no : (b : Bool) → b ≡ false → 0 ≡ bitOf b
+unfolding bitOf
+bit-no b e = rw e
+
+pub bit-small : (b : Bool) (v : ℕ) → v ≡ bitOf b → v ≤ 1
+unfolding bitOf
+bit-small true v e = omega arith
+bit-small false v e = omega arith

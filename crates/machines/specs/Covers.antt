@@ -1,7 +1,8 @@
 -- Coverage of an output on bytes: what the code does, structural on the levels left. No tree is made.
-use Prim.Native.Nat.{ℕ, zero, suc}
+use Prim.Native.Nat.{ℕ, zero, suc, _/_, _%_}
 use mathlib.Core.List.{List}
 use mathlib.Core.Bool.{Bool, true, false, cond, _&&_, _||_}
+use mathlib.Core.Path.{_≡_}
 use lib.ListN.{getD}
 use lib.Dec.{eqb}
 use Rattle.wire.specs.Answer.{counted}
@@ -58,3 +59,11 @@ module _ (ns : List Name) (s : List ℕ) where
     -- the machine whose initial state stands at `at`
     unfoldable pub machineT : ℕ → Bool
     machineT at = with (machineFrom s at) λ k b. coverT maxLevel k b .yes
+
+-- what is noted of states by their offsets, for one output: each entry is 0 or right
+unfoldable pub bitOf : Bool → ℕ
+bitOf true = 1
+bitOf false = 0
+
+abbrev pub OwnsRight : List Name → List ℕ → ℕ → List ℕ → Type 0
+OwnsRight ns s out owns = (at : ℕ) → (getD owns at 0 ≡ 0 → ⊥) → told (eqb (getD owns at 0 % 2) 1) (getD owns at 0 / 2) ≡ ownT ns s out at
