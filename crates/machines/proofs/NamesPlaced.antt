@@ -1,5 +1,5 @@
 -- The table of names is right: the spot of an index is where the name of that index stands.
-use Prim.Native.Nat.{ℕ, zero, suc, _+_, _-_, _<_, _≤_}
+use Prim.Native.Nat.{ℕ, zero, suc, _+_, _*_, _-_, _<_, _≤_}
 use native.Mathlib.Omega.{arith}
 use mathlib.Core.List.{List, [], _∷_, _++_, append-assoc, append-nil}
 use mathlib.Core.Bool.{Bool, true, false, cond, not}
@@ -7,14 +7,14 @@ use mathlib.Core.Path.{_≡_, refl, sym, ap, subst, _∙_}
 use lib.ListN.{length, getD, set, take, drop, length-set, length-take, length-drop, length-append}
 use lib.Seq.{getD-set-same, getD-set-other}
 use lib.Dec.{eqb, ltb}
-use borrow.Author.Tests.{eqb-true, eqb-false, eq-eqb, ne-eqb, lt-ltb}
-use Rattle.wire.specs.Answer.{Answer, bind, guard, u16, value}
-use Rattle.wire.proofs.Answers.{bind-value, guard-value, u16-value}
+use borrow.Author.Tests.{eqb-true, eqb-false, ltb-true}
+use Rattle.wire.specs.Answer.{Answer, bind, byte, guard, u16, value}
+use Rattle.wire.proofs.Answers.{bind-value, byte-value, guard-value, u16-value}
 use Rattle.pack.specs.Names.{Name, eqName, member}
 use Rattle.pack.specs.Forms.{nameAt}
 use Rattle.pack.specs.Legal.{Fresh, place}
 use Rattle.pack.specs.RawNames.{rawName, rawNames}
-use Rattle.pack.specs.Read.{name, nameSection, namesAfter}
+use Rattle.pack.specs.Read.{name, nameSection, namesAfter, size}
 use Rattle.pack.proofs.NameLaws.{name-value}
 use Rattle.pack.proofs.Tables.{eqName-ne, eqName-refl, place-at-name}
 use Rattle.machines.specs.Tables.{lenOf, namesPlaced, nextName}
@@ -23,6 +23,7 @@ use Rattle.machines.proofs.TableLaws.{name-next}
 -- a name stands at an offset, after its length byte
 pub record SpotAt (s : List ℕ) (at : ℕ) (n : Name) : Type 0 where
   pub is : rawName s at ≡ n
+  pub some : 0 < getD s at 0
   pub inside : at + 1 + getD s at 0 ≤ length s
 
 pub spot-length : (s : List ℕ) (at : ℕ) (n : Name) → SpotAt s at n → getD s at 0 ≡ length n
@@ -36,6 +37,15 @@ spot-length s at n h =
 pub data Spots (s : List ℕ) : ℕ → ℕ → List Name → Type 0 where
   none : {at : ℕ} → Spots s zero at []
   more : {n at : ℕ} {x : Name} {xs : List Name} → SpotAt s at x → Spots s n (nextName s at) xs → Spots s (suc n) at (x ∷ xs)
+
+name-some : (s : List ℕ) (at : ℕ) (x : Name) (q : ℕ) → name s at ≡ value x q → 0 < getD s at 0
+unfolding name size
+name-some s at x q e =
+    let b = bind-value (size s at) _ x q e in
+    let g = guard-value (λ n. ltb 0 n) at (byte s at) (b .0) (b .1) (b .2) in
+    let v = byte-value s at (b .0) (b .1) (g .0) in
+    let l = ltb-true 0 (b .0) (g .1) in
+    omega (arith, v .is)
 
 -- what reading names says
 pub names-read : (s : List ℕ) (n at : ℕ) (t ns : List Name) (q : ℕ) → namesAfter s t n at ≡ value ns q → (xs : List Name) × (ns ≡ t ++ xs) × (length xs ≡ n) × Fresh t xs × Spots s n at xs
@@ -54,7 +64,7 @@ names-read s (suc n) at t ns q e =
     , r .1 ∙ append-assoc t (b .0 ∷ []) (r .0)
     , ap suc (r .2)
     , (fresh (b .0) (member (b .0) t) refl (g .1), r .3)
-    , more (record { is = sym (v .is); inside = l }) (subst (λ (p : ℕ). Spots s n p (r .0)) k (r .4)) )
+    , more (record { is = sym (v .is); some = name-some s at (b .0) (b .1) (g .0); inside = l }) (subst (λ (p : ℕ). Spots s n p (r .0)) k (r .4)) )
   where
     fresh : (x : Name) (b : Bool) → member x t ≡ b → not b ≡ true → member x t ≡ false
     fresh x true e f = let z : _≡_ {A = ℕ} 0 1 = cc in absurd (omega arith)
@@ -79,6 +89,21 @@ section-read s ns q e =
       { count = (b .1, b .2 ∙ ap (λ (n : ℕ). value n (b .1)) (sym i))
       ; fresh = subst (Fresh []) (sym (r .1)) (r .3)
       ; spots = subst (λ (l : List Name). Spots s (length ns) 2 l) (sym (r .1)) (subst (λ (n : ℕ). Spots s n 2 (r .0)) (sym i) (subst (λ (a : ℕ). Spots s (b .0) a (r .0)) two (r .4))) }
+
+-- each name takes two bytes or more
+spots-few : (s : List ℕ) (n at : ℕ) (xs : List Name) → Spots s n at xs → at ≤ length s → at + 2 * n ≤ length s
+spots-few s zero at [] none h = omega arith
+spots-few s (suc n) at (x ∷ xs) (more a r) h =
+    let i = a .inside in
+    let j = a .some in
+    let e : at + 1 + getD s at 0 ≡ nextName s at = name-next s at (omega arith) in
+    let k = spots-few s n (nextName s at) xs r (omega arith) in
+    omega arith
+
+pub names-few : (s : List ℕ) (ns : List Name) → NamesAre s ns → 2 + 2 * length ns ≤ length s
+names-few s ns h =
+    let p = u16-value s 0 (length ns) (h .count .0) (h .count .1) in
+    spots-few s (length ns) 2 ns (h .spots) (omega (arith, p .inside))
 
 -- indexes of names are equal where the names are
 pub alone : (ns : List Name) → Fresh [] ns → (i x : ℕ) → i < length ns → x < length ns → eqName (nameAt ns x) (nameAt ns i) ≡ eqb x i

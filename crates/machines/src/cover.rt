@@ -140,7 +140,8 @@ fn forget(owns: &mut [u32])
     }
 }
 
-// Whether the machine whose initial state stands at `at` gives `out` in all its states. What is noted in `owns` stays right for `out`.
+// Whether the machine whose initial state stands at `at` gives `out` in all its states. `owns` is scratch, no longer than the pack is enough;
+// what is noted in it stays right for `out`.
 pub fn covers(s: &[u8], names: usize, to: &[usize], out: usize, owns: &mut [u32], at: usize) -> bool
     requires { ⌜ length (now s) ≤ 65536 ⌝ }
     ensures { λ r. ⌜ ((ns : List Name) → length ns ≡ names → (r ≡ machineT ns (now (s .entry)) (now (to .entry)) out at) × OwnsRight ns (now (s .entry)) out (now (owns .exit))) ⌝ }
