@@ -1,17 +1,17 @@
 -- Resolving on bytes comes to what resolving the tree that is read there comes to.
 use Prim.Native.Nat.{ℕ, _+_, _-_, _<_, _≤_, zero, suc}
 use native.Mathlib.Omega.{arith}
-use mathlib.Core.List.{List, [], _∷_, _++_}
-use mathlib.Core.Bool.{Bool, true, false, cond, _&&_, and-true}
+use mathlib.Core.List.{List, [], _∷_}
+use mathlib.Core.Bool.{Bool, true, false, cond, and-true}
 use mathlib.Core.Option.{Option, none, some}
 use mathlib.Core.Path.{_≡_, refl, sym, ap, subst, _∙_}
 use lib.ListN.{length, getD}
 use lib.Dec.{eqb, leb}
 use borrow.Author.Tests.{eq-eqb, ne-eqb}
-use Rattle.wire.specs.Answer.{Answer, many, u16, value}
+use Rattle.wire.specs.Answer.{many, value}
 use Rattle.pack.specs.Limits.{absent, maxLevel, maxName}
 use Rattle.pack.specs.Names.{Name, member}
-use Rattle.pack.specs.Syntax.{Drawing, Regions, States, rCons, sCons}
+use Rattle.pack.specs.Syntax.{Drawing, Regions, rCons, sCons}
 use Rattle.pack.specs.Forms.{nameAt}
 use Rattle.pack.specs.Legal.{Fresh}
 use Rattle.pack.specs.Read.{OneRegion, OneState, drawnOf, optionalIn, regionAt, regionsOf, stateWith}
@@ -19,18 +19,18 @@ use Rattle.machines.specs.declared.path.Path.{Path}
 use Rattle.machines.specs.declared.walk.Walked.{Walked}
 use Rattle.machines.specs.declared.walk.Walked.the-variants as wk
 use Rattle.machines.specs.Refusals.{refineCycle, tooLarge, unknownRefine}
-use Rattle.machines.specs.Resolve.{Target, Walk, deeper, machineOf, refineAt, refineWith, resolveR, resolveS, shortR, shortS, stop, walkOn, went, withRefine, withTarget}
+use Rattle.machines.specs.Resolve.{Target, Walk, deeper, machineOf, refineAt, refineWith, resolveR, resolveS, shortR, shortS, stop, walkOn, withRefine, withTarget}
 use Rattle.machines.specs.Sure.{machineFrom, numberIn, regionIn, with}
 use Rattle.machines.specs.Tables.{lenOf}
-use Rattle.machines.specs.Paths.{onOf, pushedOf}
+use Rattle.machines.specs.Paths.{pushedOf}
 use Rattle.machines.specs.Walks.{enterW, goOn, headT, lenAt, maxOf, qualifyOf, refineW, regionW, rounds, stateW, walk}
 use Rattle.machines.specs.Same.{Same, fitR, fitS, goes, stops, whyOf}
 use Rattle.machines.proofs.Reading.{many-cut, many-end, many-more, many-over, optional-none, optional-some, region-none, region-value, state-value}
 use Rattle.machines.proofs.Standing.{Found}
-use Rattle.machines.proofs.SureLaws.{number-to, then-to}
+use Rattle.machines.proofs.SureLaws.{machine-to, number-to, region-to, then-to}
 use Rattle.machines.proofs.MachinesPlaced.{Places}
 use Rattle.machines.proofs.Lengths.{region-law, state-law}
-use Rattle.machines.proofs.WalkSame.{Knows, arrive-same, goOn-assoc, head-is, large-why, len-at, less-known, machine-named, machine-to, push, qualify-same, region-to, same-by, same-map, same-onward, stays, walkOn-assoc}
+use Rattle.machines.proofs.WalkSame.{Knows, arrive-same, goOn-assoc, head-is, large-why, len-at, less-known, machine-named, push, qualify-same, same-by, same-map, same-onward, stays, walkOn-assoc}
 
 module _ (ns : List Name) (s spots to : List ℕ) (top : Name) (ms : List Drawing)
     (fresh : Fresh [] ns)

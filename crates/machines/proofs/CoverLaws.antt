@@ -1,10 +1,9 @@
 -- Laws for the code that looks for coverage on bytes, step by step.
 use Prim.Native.Nat.{ℕ, zero, suc, _+_, _*_, _/_, _%_, _-_, _<_, _≤_}
-use native.Mathlib.Nat.{div-add-mod', mod-lt}
 use native.Mathlib.Omega.{arith}
 use mathlib.Core.List.{List}
-use mathlib.Core.Bool.{Bool, true, false, cond, _&&_, _||_}
-use mathlib.Core.Path.{_≡_, refl, sym, ap, _∙_}
+use mathlib.Core.Bool.{Bool, true, false, _&&_, _||_}
+use mathlib.Core.Path.{_≡_, refl, ap, _∙_}
 use lib.ListN.{getD, length, set, List·getD-eq-default}
 use lib.Seq.{getD-set-same, getD-set-other}
 use lib.Dec.{eqb, ltb}
@@ -16,9 +15,9 @@ use Rattle.pack.specs.Read.{equationIn, transitionIn}
 use Rattle.machines.specs.declared.cover.Told.{Told}
 use Rattle.machines.specs.declared.sure.Num.{Num}
 use Rattle.machines.specs.Stands.{endOf}
-use Rattle.machines.specs.Sure.{machineFrom, numberIn, regionIn, with}
+use Rattle.machines.specs.Sure.{machineFrom, numberIn, regionIn}
 use Rattle.machines.specs.Covers.{OwnsRight, asked, bitOf, coverT, givesT, machineT, ownT, refineT, regionT, stateT, tells, told}
-use Rattle.machines.proofs.SureLaws.{no, on, yes}
+use Rattle.machines.proofs.SureLaws.{high-part, low-part, no, on, yes}
 
 -- a step of the code
 pub ask : {A : Type 0} (h x : Told) (k : Bool → ℕ → A) (r : A) → h ≡ x → r ≡ k (h .yes) (h .next) → r ≡ asked x k
@@ -78,18 +77,8 @@ module _ (ns : List Name) (s : List ℕ) where
 -- what is noted is what is found
 split : (b : Bool) (q : ℕ) → told (eqb ((q * 2 + bitOf b) % 2) 1) ((q * 2 + bitOf b) / 2) ≡ told b q
 unfolding bitOf
-split true q =
-    let a = div-add-mod' (q * 2 + 1) 2 in
-    let b = mod-lt (q * 2 + 1) {m = 2} (omega arith) in
-    let i : (q * 2 + 1) % 2 ≡ 1 = omega arith in
-    let j : (q * 2 + 1) / 2 ≡ q = omega arith in
-    ap (λ y. told (eqb y 1) ((q * 2 + 1) / 2)) i ∙ ap (told true) j
-split false q =
-    let a = div-add-mod' (q * 2 + 0) 2 in
-    let b = mod-lt (q * 2 + 0) {m = 2} (omega arith) in
-    let i : (q * 2 + 0) % 2 ≡ 0 = omega arith in
-    let j : (q * 2 + 0) / 2 ≡ q = omega arith in
-    ap (λ y. told (eqb y 1) ((q * 2 + 0) / 2)) i ∙ ap (told false) j
+split true q = ap (λ y. told (eqb y 1) ((q * 2 + 1) / 2)) (low-part 2 q 1 (omega arith)) ∙ ap (told true) (high-part 2 q 1 (omega arith))
+split false q = ap (λ y. told (eqb y 1) ((q * 2 + 0) / 2)) (low-part 2 q 0 (omega arith)) ∙ ap (told false) (high-part 2 q 0 (omega arith))
 
 module _ (ns : List Name) (s : List ℕ) (out : ℕ) where
   pub note-found : (owns : List ℕ) (at : ℕ) → OwnsRight ns s out owns → (getD owns at 0 ≡ 0 → ⊥) → told (eqb (getD owns at 0 % 2) 1) (getD owns at 0 / 2) ≡ ownT ns s out at

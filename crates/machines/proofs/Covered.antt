@@ -3,28 +3,27 @@ use Prim.Native.Nat.{ℕ, zero, suc, _-_, _<_}
 use native.Mathlib.Omega.{arith}
 use mathlib.Core.List.{List, [], _∷_}
 use mathlib.Core.Bool.{Bool, true, false, cond, _&&_, _||_, and-true, or-false, and-assoc, or-assoc}
-use mathlib.Core.Option.{Option, none, some}
+use mathlib.Core.Option.{some}
 use mathlib.Core.Path.{_≡_, refl, sym, ap, _∙_}
 use lib.ListN.{length, getD}
 use lib.Dec.{eqb}
 use borrow.Author.Tests.{eq-eqb, ne-eqb}
-use Rattle.wire.specs.Answer.{Answer, bind, counted, many, mapA, u16, value}
+use Rattle.wire.specs.Answer.{counted, many, u16, value}
 use Rattle.wire.proofs.Answers.{bind-value, map-value}
 use Rattle.pack.specs.Limits.{absent, maxLevel}
 use Rattle.pack.specs.Names.{Name, eqName}
-use Rattle.pack.specs.Syntax.{Equation, Regions, States, Transition, rCons, rNil, sCons, sNil}
+use Rattle.pack.specs.Syntax.{Equation, Regions, States, Transition}
 use Rattle.pack.specs.Forms.{nameAt}
 use Rattle.pack.specs.Legal.{Fresh}
 use Rattle.pack.specs.Read.{equationIn, equationsIn, exprIn, nameIn, namesIn, transitionIn}
 use Rattle.machines.specs.declared.cover.Told.{Told}
 use Rattle.machines.specs.Lower.{coversR, coversS, isOnly, isSome, ownValue}
 use Rattle.machines.specs.Stands.{MachineAt, RegionAt, StandsR, StandsS, StateAt, endOf, rInto, rMore, rPlain, sEnd, sMore}
-use Rattle.machines.specs.Sure.{machineFrom, num, numberIn, regionIn, with}
+use Rattle.machines.specs.Sure.{machineFrom, numberIn, regionIn, with}
 use Rattle.machines.specs.Covers.{asked, coverT, givesT, machineT, ownT, refineT, regionT, stateT, tells, told}
 use Rattle.machines.proofs.Reading.{many-cut, many-end, many-more, many-over, name-number}
-use Rattle.machines.proofs.SureLaws.{end-to, number-num, number-to, then-to}
+use Rattle.machines.proofs.SureLaws.{end-to, machine-to, number-num, number-to, region-to, then-to}
 use Rattle.machines.proofs.NamesPlaced.{alone}
-use Rattle.machines.proofs.WalkSame.{machine-to, region-to}
 
 pub ask-to : {A : Type 0} (x : Told) (v : Bool) (q : ℕ) (k : Bool → ℕ → A) → x ≡ told v q → asked x k ≡ k v q
 unfolding asked

@@ -1,19 +1,18 @@
 -- Laws of the record of state heads.
 use Prim.Native.Nat.{ℕ, _+_, _*_, _/_, _%_, _<_, _≤_}
-use native.Mathlib.Nat.{div-add-mod', mod-lt}
-use native.Mathlib.Omega.{arith}
 use mathlib.Core.List.{List}
 use mathlib.Core.Bool.{Bool, true, false, cond}
 use mathlib.Core.Path.{_≡_, refl, sym, ap, subst, _∙_}
 use lib.ListN.{length, getD, set}
 use lib.Seq.{getD-set-same, getD-set-other, set-out}
-use lib.Dec.{eqb, leb, ltb}
+use lib.Dec.{eqb, ltb}
 use borrow.Author.Tests.{eqb-true, eqb-false, le-ltb, lt-ltb, ltb-false, ltb-true}
 use Rattle.pack.specs.Names.{Name}
 use Rattle.machines.specs.declared.sure.Num.{Num}
 use Rattle.machines.specs.Sure.{num}
 use Rattle.machines.specs.Walks.{headT}
 use Rattle.machines.specs.Heads.{HeadsRight, keepOf}
+use Rattle.machines.proofs.SureLaws.{high-part, low-part}
 
 -- the branches of the code
 pub keep-put : (heads : List ℕ) (at : ℕ) (h : Num) → h .next < 65536 → h .value < 256 → set heads at (h .next * 256 + h .value) ≡ keepOf heads at h
@@ -39,12 +38,7 @@ keep-out heads at h a = go (ltb (h .next) 65536) (ltb (h .value) 256)
 
 -- what is put is what is found
 split : (v q : ℕ) → v < 256 → num ((q * 256 + v) % 256) ((q * 256 + v) / 256) ≡ num v q
-split v q h =
-    let a = div-add-mod' (q * 256 + v) 256 in
-    let b = mod-lt (q * 256 + v) {m = 256} (omega arith) in
-    let i : (q * 256 + v) % 256 ≡ v = omega arith in
-    let j : (q * 256 + v) / 256 ≡ q = omega arith in
-    ap (λ y. num y ((q * 256 + v) / 256)) i ∙ ap (num v) j
+split v q h = ap (λ y. num y ((q * 256 + v) / 256)) (low-part 256 q v h) ∙ ap (num v) (high-part 256 q v h)
 
 module _ (ns : List Name) (s spots : List ℕ) where
   pub keep-right : (heads : List ℕ) (at : ℕ) (h : Num) → h ≡ headT ns s spots at → HeadsRight ns s spots heads → HeadsRight ns s spots (keepOf heads at h)

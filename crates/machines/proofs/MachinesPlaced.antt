@@ -1,5 +1,5 @@
 -- The table of machines is right: it finds what `machineOf` finds, the last machine of a name.
-use Prim.Native.Nat.{ℕ, zero, suc, _+_, _-_, _<_, _≤_}
+use Prim.Native.Nat.{ℕ, zero, suc, _-_, _<_, _≤_}
 use native.Mathlib.Omega.{arith}
 use mathlib.Core.List.{List, [], _∷_}
 use mathlib.Core.Bool.{Bool, true, false, cond}
@@ -9,24 +9,21 @@ use lib.ListN.{length, getD, set, length-set}
 use lib.Seq.{getD-set-same, getD-set-other}
 use lib.Dec.{eqb}
 use borrow.Author.Tests.{eqb-true, eqb-false}
-use Rattle.wire.specs.Answer.{Answer, bind, counted, many, u16, value}
+use Rattle.wire.specs.Answer.{Answer, counted, many, u16, value}
 use Rattle.wire.specs.Code.{next, onward, skip, skips}
 use Rattle.wire.specs.declared.answer.Skipped.the-variants as sk
 use Rattle.wire.proofs.Answers.{bind-value}
-use Rattle.pack.specs.Limits.{maxLevel}
 use Rattle.pack.specs.Names.{Name, eqName}
 use Rattle.pack.specs.Syntax.{Drawing}
 use Rattle.pack.specs.Forms.{nameAt}
 use Rattle.pack.specs.Legal.{Fresh}
-use Rattle.pack.specs.Read.{OneState, machineIn, optionalIn, portsIn, stateAt}
+use Rattle.pack.specs.Read.{machineIn, optionalIn, portsIn, stateAt}
 use Rattle.pack.specs.Report.{firstOf}
 use Rattle.pack.specs.Verdict.{offsetOf}
-use Rattle.pack.proofs.Tables.{eqName-true}
 use Rattle.machines.specs.Resolve.{machineOf}
 use Rattle.machines.specs.Stands.{MachineAt}
-use Rattle.machines.specs.Sure.{numberIn, with}
 use Rattle.machines.specs.Tables.{initialIn, machinesPlaced, placedFrom, statesEnd}
-use Rattle.machines.proofs.Reading.{MachineRead, bind-is, machine-value, many-cut, many-end, many-more, many-over, name-number}
+use Rattle.machines.proofs.Reading.{MachineRead, bind-is, machine-value, many-cut, many-more, many-over, name-number}
 use Rattle.machines.proofs.Standing.{Found}
 use Rattle.machines.proofs.SureLaws.{number-to}
 use Rattle.machines.proofs.NamesPlaced.{NamesAre, alone}

@@ -2,23 +2,23 @@
 use Prim.Native.Nat.{ℕ, zero, suc, _+_, _*_, _-_, _<_, _≤_}
 use native.Mathlib.Omega.{arith}
 use mathlib.Core.List.{List, [], _∷_, _++_, append-assoc, append-nil}
-use mathlib.Core.Bool.{Bool, true, false, cond, not}
+use mathlib.Core.Bool.{Bool, true, false, not}
 use mathlib.Core.Path.{_≡_, refl, sym, ap, subst, _∙_}
-use lib.ListN.{length, getD, set, take, drop, length-set, length-take, length-drop, length-append}
+use lib.ListN.{length, getD, set, take, drop, length-set, length-take, length-drop}
 use lib.Seq.{getD-set-same, getD-set-other}
 use lib.Dec.{eqb, ltb}
 use borrow.Author.Tests.{eqb-true, eqb-false, ltb-true}
-use Rattle.wire.specs.Answer.{Answer, bind, byte, guard, u16, value}
+use Rattle.wire.specs.Answer.{byte, guard, u16, value}
 use Rattle.wire.proofs.Answers.{bind-value, byte-value, guard-value, u16-value}
 use Rattle.pack.specs.Names.{Name, eqName, member}
 use Rattle.pack.specs.Forms.{nameAt}
 use Rattle.pack.specs.Legal.{Fresh, place}
-use Rattle.pack.specs.RawNames.{rawName, rawNames}
+use Rattle.pack.specs.RawNames.{rawName}
 use Rattle.pack.specs.Read.{name, nameSection, namesAfter, size}
 use Rattle.pack.proofs.NameLaws.{name-value}
 use Rattle.pack.proofs.Tables.{eqName-ne, eqName-refl, place-at-name}
 use Rattle.machines.specs.Tables.{lenOf, namesPlaced, nextName}
-use Rattle.machines.proofs.TableLaws.{name-next}
+use Rattle.machines.proofs.TableLaws.{name-next, names-step}
 
 -- a name stands at an offset, after its length byte
 pub record SpotAt (s : List ℕ) (at : ℕ) (n : Name) : Type 0 where
@@ -119,21 +119,17 @@ unfolding namesPlaced
 placed-before s zero at k t j h = refl
 placed-before s (suc n) at k t j h = placed-before s n (nextName s at) (k + 1) (set t k at) j (omega arith) ∙ getD-set-other t k j at 0 (λ e. omega arith)
 
-names-step : (s : List ℕ) (n at k : ℕ) (t : List ℕ) → namesPlaced s (suc n) at k t ≡ namesPlaced s n (nextName s at) (k + 1) (set t k at)
-unfolding namesPlaced
-names-step s n at k t = refl
-
 placed-at : (s : List ℕ) (n at k : ℕ) (t : List ℕ) (ns : List Name) → Spots s n at ns → k + n ≤ length t → (i j : ℕ) → i < n → k + i ≡ j → SpotAt s (getD (namesPlaced s n at k t) j 0) (getD ns i [])
 placed-at s zero at k t [] none l i j h g = absurd (omega arith)
 placed-at s (suc n) at k t (x ∷ xs) (more a r) l zero j h g =
     let m : j ≡ k = omega arith in
     let e : getD (namesPlaced s (suc n) at k t) j 0 ≡ at =
-          ap (λ l. getD l j 0) (names-step s n at k t) ∙ ap (λ i. getD (namesPlaced s n (nextName s at) (k + 1) (set t k at)) i 0) m
+          ap (λ l. getD l j 0) (names-step s n k at t) ∙ ap (λ i. getD (namesPlaced s n (nextName s at) (k + 1) (set t k at)) i 0) m
           ∙ placed-before s n (nextName s at) (k + 1) (set t k at) k (omega arith) ∙ getD-set-same t k at 0 (omega arith) in
     subst (λ (p : ℕ). SpotAt s p x) (sym e) a
 placed-at s (suc n) at k t (x ∷ xs) (more a r) l (suc i) j h g =
     let m : k + 1 + n ≤ length (set t k at) = omega (arith, length-set t k at) in
-    subst (λ (l : List ℕ). SpotAt s (getD l j 0) (getD xs i [])) (sym (names-step s n at k t)) (placed-at s n (nextName s at) (k + 1) (set t k at) xs r m i j (omega arith) (omega arith))
+    subst (λ (l : List ℕ). SpotAt s (getD l j 0) (getD xs i [])) (sym (names-step s n k at t)) (placed-at s n (nextName s at) (k + 1) (set t k at) xs r m i j (omega arith) (omega arith))
 
 pub names-placed : (s : List ℕ) (ns : List Name) (t : List ℕ) → NamesAre s ns → length ns ≤ length t → (i : ℕ) → i < length ns → SpotAt s (getD (namesPlaced s (length ns) 2 0 t) i 0) (nameAt ns i)
 unfolding nameAt

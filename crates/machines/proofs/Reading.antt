@@ -3,16 +3,16 @@ use Prim.Native.Nat.{ℕ, _-_, _<_, _≤_, zero, suc}
 use native.Mathlib.Omega.{arith}
 use mathlib.Core.List.{List, [], _∷_}
 use mathlib.Core.Bool.{Bool, true, false, cond, _||_}
-use mathlib.Core.Option.{Option, none, some}
+use mathlib.Core.Option.{none, some}
 use mathlib.Core.Path.{_≡_, refl, sym, ap, subst, _∙_}
 use lib.ListN.{length}
 use lib.Dec.{ltb, eqb}
 use borrow.Author.Tests.{eqb-true, eqb-false, ltb-true}
-use Rattle.wire.specs.Answer.{Answer, below, bind, counted, deep, early, guard, illegal, index, many, mapA, u16, value}
+use Rattle.wire.specs.Answer.{Answer, below, bind, counted, guard, index, many, mapA, u16, value}
 use Rattle.wire.proofs.Answers.{bind-value, guard-value, map-value}
 use Rattle.pack.specs.Limits.{absent, maxLevel}
 use Rattle.pack.specs.Names.{Name}
-use Rattle.pack.specs.Syntax.{Drawing, Equation, Transition}
+use Rattle.pack.specs.Syntax.{Drawing}
 use Rattle.pack.specs.Forms.{nameAt}
 use Rattle.pack.specs.Read.{OneRegion, OneState, drawnOf, equationsIn, machineIn, nameIn, optional, optionalIn, portsIn, regionAt, regionsOf, stateAt, stateWith, transitionIn}
 use Rattle.machines.specs.Stands.{MachineAt, RegionAt, StateAt, endOf, overIn}

@@ -7,9 +7,9 @@ use mathlib.Core.Option.{Option, none, some}
 use mathlib.Core.Path.{_≡_, refl, sym, ap, subst, _∙_}
 use lib.ListN.{length}
 use lib.Dec.{ltb}
-use Rattle.wire.specs.Answer.{Answer, many, u16, value}
+use Rattle.wire.specs.Answer.{many, value}
 use Rattle.pack.specs.Limits.{maxLevel, maxStates}
-use Rattle.pack.specs.Names.{Name, eqName, member}
+use Rattle.pack.specs.Names.{Name, member}
 use Rattle.pack.specs.Syntax.{Drawing, Regions, States, Transition, rCons, rNil, sCons, sNil}
 use Rattle.pack.specs.Forms.{nameAt}
 use Rattle.pack.specs.Read.{OneRegion, OneState, drawnOf, optionalIn, regionAt, regionsOf, stateWith}

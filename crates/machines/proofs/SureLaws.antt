@@ -1,11 +1,11 @@
 -- Laws for code that reads on a checked pack, step by step.
-use Prim.Native.Nat.{ℕ, zero, suc, _+_, _-_, _<_, _≤_}
+use Prim.Native.Nat.{ℕ, zero, suc, _+_, _*_, _/_, _%_, _-_, _<_, _≤_}
+use native.Mathlib.Nat.{div-eq-of-lt, mod-eq-of-lt, mul-add-div-right, mul-add-mod-self-right}
 use native.Mathlib.Omega.{arith}
 use mathlib.Core.List.{List, [], _∷_}
-use mathlib.Core.Bool.{Bool, true, false, cond, _||_, _&&_}
+use mathlib.Core.Bool.{Bool, cond}
 use mathlib.Core.Logic.{⊎-elim}
-use mathlib.Core.Path.{_≡_, refl, sym, ap, _∙_}
-use lib.ListN.{length, getD}
+use mathlib.Core.Path.{_≡_, refl, ap, _∙_}
 use lib.Dec.{eqb}
 use types.Run.{OneOf}
 use denote.Enum.Declared.{tagOf}
@@ -15,11 +15,14 @@ use Rattle.wire.specs.declared.answer.Read.{Read}
 use Rattle.wire.specs.declared.answer.Read.the-variants as rd
 use Rattle.wire.specs.declared.answer.Skipped.{Skipped}
 use Rattle.wire.specs.declared.answer.Skipped.the-variants as sk
-use Rattle.wire.specs.Answer.{Answer, byte, deep, early, illegal, u16, value}
+use Rattle.wire.specs.Answer.{Answer, below, byte, deep, early, illegal, u16, value}
+use Rattle.wire.proofs.Answers.{guard-value}
+use Rattle.pack.specs.Names.{Name}
 use Rattle.wire.specs.Code.{next, onward, readOf, skip, skips}
 use Rattle.pack.specs.Verdict.{offsetOf}
 use Rattle.machines.specs.declared.sure.Num.{Num}
-use Rattle.machines.specs.Stands.{endOf}
+use Rattle.machines.specs.Stands.{MachineAt, RegionAt, endOf}
+use Rattle.machines.proofs.Reading.{name-number}
 use Rattle.machines.specs.Sure.{byteIn, machineFrom, num, numberIn, regionIn, sureOf, turns, with}
 
 pub sure-stops : (r : Read) → OneOf (1 ∷ 2 ∷ 3 ∷ []) (tagOf Read-enum.the-type r) → num 0 0 ≡ sureOf r
@@ -99,3 +102,24 @@ end-to a x q e = rw e
 pub number-num : (s : List ℕ) (at v q : ℕ) → u16 s at ≡ value v q → numberIn s at ≡ num v q
 unfolding numberIn sureOf readOf
 number-num s at v q e = rw e
+
+-- heads that were read
+pub region-to : (ns : List Name) (s : List ℕ) (at : ℕ) (i : Name) (h : Bool) (k b : ℕ) → RegionAt ns s at i h k b → regionIn s at ≡ num k b
+unfolding regionIn below
+region-to ns s at i h k b r =
+    let n = name-number ns s at i (r .to-history) (r .initial) in
+    let g = guard-value _ (r .to-history) (byte s (r .to-history)) (r .byte) (r .to-states) (r .history) in
+    number-to s at (n .i) (r .to-history) _ (n .is) ∙ byte-to s (r .to-history) (r .byte) (r .to-states) _ (g .0) ∙ number-num s (r .to-states) k b (r .states)
+
+pub machine-to : (ns : List Name) (s : List ℕ) (at : ℕ) (i : Name) (k b : ℕ) → MachineAt ns s at i k b → machineFrom s at ≡ num k b
+unfolding machineFrom
+machine-to ns s at i k b r =
+    let n = name-number ns s at i (r .to-states) (r .initial) in
+    number-to s at (n .i) (r .to-states) _ (n .is) ∙ number-num s (r .to-states) k b (r .states)
+
+-- two numbers in one, apart again
+pub low-part : (m q v : ℕ) → v < m → (q * m + v) % m ≡ v
+low-part m q v h = mul-add-mod-self-right q m v ∙ mod-eq-of-lt h
+
+pub high-part : (m q v : ℕ) → v < m → (q * m + v) / m ≡ q
+high-part m q v h = let z : v / m ≡ 0 = div-eq-of-lt h in mul-add-div-right (omega arith) q v ∙ omega arith

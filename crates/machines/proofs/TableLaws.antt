@@ -1,11 +1,9 @@
 -- Laws for the code that makes the tables, step by step.
 use Prim.Native.Nat.{ℕ, zero, suc, _+_, _-_, _<_, _≤_}
 use native.Mathlib.Omega.{arith}
-use mathlib.Core.List.{List, [], _∷_}
-use mathlib.Core.Bool.{Bool, true, false, cond}
+use mathlib.Core.List.{List}
 use mathlib.Core.Path.{_≡_, refl, sym, ap, _∙_}
 use lib.ListN.{length, getD, set, length-set, List·getD-eq-default}
-use lib.Dec.{ltb}
 use borrow.Author.Tests.{lt-ltb, le-ltb}
 use Rattle.wire.specs.Answer.{counted}
 use Rattle.wire.specs.Code.{onward}
@@ -15,7 +13,7 @@ use Rattle.pack.specs.Names.{Name}
 use Rattle.pack.specs.Read.{optionalIn, portsIn, stateAt}
 use Rattle.pack.specs.Verdict.{offsetOf}
 use Rattle.machines.specs.declared.sure.Num.{Num}
-use Rattle.machines.specs.Sure.{numberIn, with}
+use Rattle.machines.specs.Sure.{numberIn}
 use Rattle.machines.specs.Tables.{initialIn, lenOf, machinesPlaced, namesPlaced, nextName, placedFrom, statesEnd}
 use Rattle.machines.proofs.SureLaws.{on}
 
@@ -30,7 +28,7 @@ pub name-stays : (s : List ℕ) (at : ℕ) → length s ≤ at → at ≡ nextNa
 unfolding nextName
 name-stays s at h = rw (le-ltb at (length s) h)
 
-names-step : (s : List ℕ) (m k at : ℕ) (t : List ℕ) → namesPlaced s (suc m) at k t ≡ namesPlaced s m (nextName s at) (k + 1) (set t k at)
+pub names-step : (s : List ℕ) (m k at : ℕ) (t : List ℕ) → namesPlaced s (suc m) at k t ≡ namesPlaced s m (nextName s at) (k + 1) (set t k at)
 unfolding namesPlaced
 names-step s m k at t = refl
 

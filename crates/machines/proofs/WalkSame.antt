@@ -1,15 +1,15 @@
 -- Steps that a walk over bytes and the resolving of a tree make together.
-use Prim.Native.Nat.{ℕ, _+_, _-_, _<_, _≤_, zero, suc}
+use Prim.Native.Nat.{ℕ, _+_, _-_, _<_, zero, suc}
 use native.Mathlib.Omega.{arith}
 use mathlib.Core.List.{List, [], _∷_, _++_}
-use mathlib.Core.Bool.{Bool, true, false, cond, _&&_, _||_, and-true, or-false, and-assoc}
+use mathlib.Core.Bool.{Bool, true, false, cond, _&&_, _||_, and-true, and-assoc}
 use mathlib.Core.Option.{Option, none, some}
-use mathlib.Core.Path.{_≡_, refl, sym, ap, subst, _∙_}
-use lib.ListN.{length, getD, length-append}
+use mathlib.Core.Path.{_≡_, refl, sym, ap, _∙_}
+use lib.ListN.{length, length-append}
 use lib.Dec.{ltb, leb, eqb}
 use borrow.Author.Tests.{ne-eqb}
-use Rattle.wire.specs.Answer.{below, byte, counted, many, u16, value}
-use Rattle.wire.proofs.Answers.{bind-value, guard-value, map-value}
+use Rattle.wire.specs.Answer.{counted, many, u16, value}
+use Rattle.wire.proofs.Answers.{bind-value, map-value}
 use Rattle.pack.specs.Limits.{absent, maxName, maxStates}
 use Rattle.pack.specs.Names.{Name, eqName, member}
 use Rattle.pack.specs.Syntax.{Drawing, Equation, Regions, States, Transition}
@@ -19,19 +19,18 @@ use Rattle.pack.specs.Read.{equationsIn, exprIn, nameIn, transitionIn}
 use Rattle.pack.specs.Report.{Refusal, firstOf}
 use Rattle.pack.proofs.Tables.{eqName-true}
 use Rattle.machines.specs.declared.path.Path.{Path}
-use Rattle.machines.specs.declared.sure.Num.{Num}
 use Rattle.machines.specs.declared.walk.Walked.{Walked}
 use Rattle.machines.specs.declared.walk.Walked.the-variants as wk
-use Rattle.machines.specs.Refusals.{refineCycle, tooLarge, unknownRefine}
+use Rattle.machines.specs.Refusals.{tooLarge}
 use Rattle.machines.specs.Resolve.{Target, Walk, arrive, asTarget, machineOf, prefixS, shortName, shortR, shortS, shortTargets, snoc, stop, walkOn, went, withTarget}
-use Rattle.machines.specs.Stands.{MachineAt, RegionAt, StateAt, endOf}
-use Rattle.machines.specs.Sure.{machineFrom, num, numberIn, regionIn, turns, with}
+use Rattle.machines.specs.Stands.{StateAt}
+use Rattle.machines.specs.Sure.{num, numberIn, turns, with}
 use Rattle.machines.specs.Tables.{lenOf}
 use Rattle.machines.specs.Paths.{onOf, pushedOf, startOf}
 use Rattle.machines.specs.Walks.{goOn, headT, lenAt, maxOf, qualifyOf, targetT}
 use Rattle.machines.specs.Same.{Same, fitR, fitS, goes, stops, whyOf}
 use Rattle.machines.proofs.Reading.{name-number}
-use Rattle.machines.proofs.SureLaws.{byte-to, end-to, number-num, number-to, then-to}
+use Rattle.machines.proofs.SureLaws.{end-to, number-to, then-to}
 use Rattle.machines.proofs.NamesPlaced.{alone}
 use Rattle.machines.proofs.Lengths.{absorb, name-prefix, short-max, short-snoc, states-prefix}
 
@@ -131,20 +130,6 @@ start-known ns n x fresh small e =
     record
       { same = λ i h k. rw (ne-eqb i absent k) (ap (λ y. y || false) (sym (alone ns fresh x i small h) ∙ ap (eqName (nameAt ns i)) (sym e)))
       ; free = fMore refl (fMore refl (fMore refl (fMore refl (fMore refl (fMore refl (fMore refl fNone)))))) }
-
--- what was read is what is found
-pub region-to : (ns : List Name) (s : List ℕ) (at : ℕ) (i : Name) (h : Bool) (k b : ℕ) → RegionAt ns s at i h k b → regionIn s at ≡ num k b
-unfolding regionIn below
-region-to ns s at i h k b r =
-    let n = name-number ns s at i (r .to-history) (r .initial) in
-    let g = guard-value _ (r .to-history) (byte s (r .to-history)) (r .byte) (r .to-states) (r .history) in
-    number-to s at (n .i) (r .to-history) _ (n .is) ∙ byte-to s (r .to-history) (r .byte) (r .to-states) _ (g .0) ∙ number-num s (r .to-states) k b (r .states)
-
-pub machine-to : (ns : List Name) (s : List ℕ) (at : ℕ) (i : Name) (k b : ℕ) → MachineAt ns s at i k b → machineFrom s at ≡ num k b
-unfolding machineFrom
-machine-to ns s at i k b r =
-    let n = name-number ns s at i (r .to-states) (r .initial) in
-    number-to s at (n .i) (r .to-states) _ (n .is) ∙ number-num s (r .to-states) k b (r .states)
 
 pub machine-named : (ms : List Drawing) (n : Name) (d : Drawing) → machineOf ms n ≡ some d → d .name ≡ n
 unfolding machineOf firstOf

@@ -1,10 +1,10 @@
 -- A machine of a pack, walked on its bytes: the outcome of resolving its drawing, and where it went through the resolved tree stands there.
-use Prim.Native.Nat.{ℕ, _+_, _-_, _<_, _≤_, zero, suc}
+use Prim.Native.Nat.{ℕ, _+_, _-_, _<_, _≤_}
 use native.Mathlib.Omega.{arith}
 use mathlib.Core.List.{List, [], _∷_}
-use mathlib.Core.Bool.{Bool, true, false, _&&_}
-use mathlib.Core.Option.{Option, none, some}
-use mathlib.Core.Path.{_≡_, refl, sym, ap, subst, _∙_}
+use mathlib.Core.Bool.{true, _&&_}
+use mathlib.Core.Option.{none, some}
+use mathlib.Core.Path.{_≡_, sym, ap, subst, _∙_}
 use lib.ListN.{length, getD}
 use lib.Dec.{leb}
 use borrow.Author.Tests.{le-leb}
@@ -12,8 +12,7 @@ use Rattle.pack.specs.Limits.{maxLevel, maxName}
 use Rattle.pack.specs.Names.{Name}
 use Rattle.pack.specs.Syntax.{Drawing, Package, States}
 use Rattle.pack.specs.Forms.{nameAt}
-use Rattle.pack.specs.Legal.{Fresh}
-use Rattle.pack.specs.Read.{drawnOf, stateAt}
+use Rattle.pack.specs.Read.{stateAt}
 use Rattle.pack.specs.Report.{Refusal}
 use Rattle.pack.specs.Verdict.{Stands}
 use Rattle.pack.specs.declared.record.Pack.{Pack}
@@ -28,10 +27,10 @@ use Rattle.machines.specs.Walks.{machineW, walk}
 use Rattle.machines.specs.Same.{Same, fitS, goes, stops, whyOf}
 use Rattle.machines.proofs.Reading.{MachineRead}
 use Rattle.machines.proofs.Standing.{prefix-none, standing}
-use Rattle.machines.proofs.SureLaws.{then-to}
+use Rattle.machines.proofs.SureLaws.{machine-to, then-to}
 use Rattle.machines.proofs.NamesPlaced.{NamesAre, SpotAt, names-placed, right-length, section-read}
 use Rattle.machines.proofs.MachinesPlaced.{Places, machines-placed}
-use Rattle.machines.proofs.WalkSame.{machine-to, same-by, start-known}
+use Rattle.machines.proofs.WalkSame.{same-by, start-known}
 use Rattle.machines.proofs.Agreeing.{agreeing}
 
 -- the tables of a pack's names and machines are right

@@ -3,7 +3,7 @@ use Prim.Native.Nat.{ℕ, zero, suc}
 use mathlib.Core.List.{List}
 use Rattle.wire.specs.declared.answer.Read.{Read}
 use Rattle.wire.specs.declared.answer.Read.the-variants as rd
-use Rattle.wire.specs.Answer.{Answer, byte, u16}
+use Rattle.wire.specs.Answer.{byte, u16}
 use Rattle.wire.specs.Code.{readOf}
 use Rattle.machines.specs.declared.sure.Num.{Num}
 

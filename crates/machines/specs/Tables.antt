@@ -6,7 +6,6 @@ use lib.ListN.{length, getD, set}
 use lib.Dec.{ltb}
 use Rattle.wire.specs.Answer.{counted}
 use Rattle.wire.specs.Code.{onward}
-use Rattle.wire.specs.declared.answer.Skipped.{Skipped}
 use Rattle.wire.specs.declared.answer.Skipped.the-variants as sk
 use Rattle.pack.specs.Names.{Name}
 use Rattle.pack.specs.Read.{optionalIn, portsIn, stateAt}

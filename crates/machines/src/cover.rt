@@ -1,4 +1,5 @@
-// Whether a resolved machine's states give an output: a state calls its regions and a region its states, the levels left falling.
+// Whether a resolved machine's states give an output: a state calls its regions and a region its states,
+// with the levels left as the falling number.
 use crate::sure::{after_equation, after_transitions, machine, number, region};
 use crate::table::entry;
 use pack::record::Pack;
@@ -64,7 +65,8 @@ fn bit(b: bool) -> usize
     if b { 1 } else { 0 }
 }
 
-// The same as `own`, noted by the state's offset: a state of a refined machine can be visited hundreds of times for one output.
+// The same as `own`, noted by the state's offset: for one output a state of a refined machine can be visited
+// hundreds of times.
 fn noted(s: &[u8], names: usize, out: usize, owns: &mut [u32], at: usize) -> Told
     requires { ⌜ (length (now s) ≤ 65536) × ((ns : List Name) → length ns ≡ names → OwnsRight ns (now s) out (now owns)) ⌝ }
     ensures { λ r. ⌜ ((ns : List Name) → length ns ≡ names → (r ≡ ownT ns (now (s .entry)) out at) × OwnsRight ns (now (s .entry)) out (now (owns .exit))) ⌝ }
@@ -84,7 +86,15 @@ fn noted(s: &[u8], names: usize, out: usize, owns: &mut [u32], at: usize) -> Tol
 }
 
 // Whether a state gives `out`: by an equation, by a region, or by its refinement.
-fn cover_state(s: &[u8], names: usize, to: &[usize], out: usize, owns: &mut [u32], levels: usize, at: usize) -> Told
+fn cover_state(
+    s: &[u8],
+    names: usize,
+    to: &[usize],
+    out: usize,
+    owns: &mut [u32],
+    levels: usize,
+    at: usize,
+) -> Told
     requires { ⌜ (length (now s) ≤ 65536) × ((ns : List Name) → length ns ≡ names → OwnsRight ns (now s) out (now owns)) ⌝ }
     ensures { λ r. ⌜ ((ns : List Name) → length ns ≡ names → (r ≡ stateT ns (now (s .entry)) (now (to .entry)) out (coverT ns (now (s .entry)) (now (to .entry)) out levels) at) × OwnsRight ns (now (s .entry)) out (now (owns .exit))) ⌝ }
 {
@@ -110,7 +120,16 @@ fn cover_state(s: &[u8], names: usize, to: &[usize], out: usize, owns: &mut [u32
 }
 
 // Whether each of so many states does.
-pub fn cover_region(s: &[u8], names: usize, to: &[usize], out: usize, owns: &mut [u32], levels: usize, count: usize, at: usize) -> Told
+pub fn cover_region(
+    s: &[u8],
+    names: usize,
+    to: &[usize],
+    out: usize,
+    owns: &mut [u32],
+    levels: usize,
+    count: usize,
+    at: usize,
+) -> Told
     requires { ⌜ (length (now s) ≤ 65536) × ((ns : List Name) → length ns ≡ names → OwnsRight ns (now s) out (now owns)) ⌝ }
     ensures { λ r. ⌜ ((ns : List Name) → length ns ≡ names → (r ≡ coverT ns (now (s .entry)) (now (to .entry)) out levels count at) × OwnsRight ns (now (s .entry)) out (now (owns .exit))) ⌝ }
 {
@@ -140,8 +159,8 @@ fn forget(owns: &mut [u32])
     }
 }
 
-// Whether the machine whose initial state stands at `at` gives `out` in all its states. `owns` is scratch, no longer than the pack is enough;
-// what is noted in it stays right for `out`.
+// Whether the machine whose initial state stands at `at` gives `out` in all its states. `owns` is scratch as long as
+// the pack; what is noted in it stays right for `out`.
 pub fn covers(s: &[u8], names: usize, to: &[usize], out: usize, owns: &mut [u32], at: usize) -> bool
     requires { ⌜ length (now s) ≤ 65536 ⌝ }
     ensures { λ r. ⌜ ((ns : List Name) → length ns ≡ names → (r ≡ machineT ns (now (s .entry)) (now (to .entry)) out at) × OwnsRight ns (now (s .entry)) out (now (owns .exit))) ⌝ }

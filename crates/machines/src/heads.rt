@@ -1,10 +1,11 @@
-// What a visit of a state needs of its head, recorded once: a state of a refined machine can be visited hundreds of times.
+// What a visit of a state needs of its head, recorded once: a state of a refined machine can be visited
+// hundreds of times.
 use crate::sure::{after_equations, after_expr, machine, number, region, Num};
 use crate::table::{name_len, to_initial};
 use pack::record::Pack;
 ghost use mathlib.Core.List.{List};
 ghost use mathlib.Core.Path.{_≡_};
-ghost use Prim.Native.Nat.{ℕ, _≤_};
+ghost use Prim.Native.Nat.{_≤_};
 ghost use lib.ListN.{length, getD};
 ghost use Rattle.pack.specs.Names.{Name};
 ghost use Rattle.machines.specs.Walks.{maxOf, targetT, headT};
@@ -95,7 +96,15 @@ fn mark_state(s: &[u8], names: usize, spots: &[usize], heads: &mut [u32], levels
     f.next
 }
 
-fn mark_states(s: &[u8], names: usize, spots: &[usize], heads: &mut [u32], levels: usize, count: usize, at: usize) -> usize
+fn mark_states(
+    s: &[u8],
+    names: usize,
+    spots: &[usize],
+    heads: &mut [u32],
+    levels: usize,
+    count: usize,
+    at: usize,
+) -> usize
     requires { ⌜ length (now s) ≤ 65536 ⌝ }
     ensures { λ r. ⌜ ((ns : List Name) → length ns ≡ names → HeadsRight ns (now (s .entry)) (now (spots .entry)) (now (heads .entry)) → HeadsRight ns (now (s .entry)) (now (spots .entry)) (now (heads .exit))) ⌝ }
 {

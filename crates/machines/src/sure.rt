@@ -6,7 +6,7 @@ use wire::answer::{Read, Skipped};
 use wire::number::{read_byte, read_u16};
 ghost use mathlib.Core.List.{List};
 ghost use mathlib.Core.Path.{_≡_};
-ghost use Prim.Native.Nat.{ℕ, _≤_};
+ghost use Prim.Native.Nat.{_≤_};
 ghost use lib.ListN.{length};
 ghost use Rattle.wire.specs.Answer.{counted};
 ghost use Rattle.pack.specs.Names.{Name};

@@ -5,7 +5,7 @@ use pack::parts::{then_optional, then_ports};
 use wire::answer::Skipped;
 ghost use mathlib.Core.List.{List};
 ghost use mathlib.Core.Path.{_≡_};
-ghost use Prim.Native.Nat.{ℕ, _≤_};
+ghost use Prim.Native.Nat.{_≤_};
 ghost use lib.ListN.{length, getD, set};
 ghost use Rattle.pack.specs.Names.{Name};
 ghost use Rattle.machines.specs.Tables.{initialIn, statesEnd, machinesPlaced, namesPlaced, nextName, lenOf};

@@ -7,10 +7,9 @@ use crate::table::{entry, name_len};
 use pack::record::Pack;
 ghost use mathlib.Core.List.{List};
 ghost use mathlib.Core.Path.{_≡_};
-ghost use Prim.Native.Nat.{ℕ, _≤_};
+ghost use Prim.Native.Nat.{_≤_};
 ghost use lib.ListN.{length};
 ghost use Rattle.pack.specs.Names.{Name};
-ghost use Rattle.machines.specs.Paths.{startOf};
 ghost use Rattle.machines.specs.Heads.{HeadsRight};
 ghost use Rattle.machines.specs.Walks.{lenAt, enterW, qualifyOf, stateW, walk as walkIn, machineW};
 
@@ -59,7 +58,17 @@ fn qualify(i: usize, w: usize, a: usize, next: usize, states: usize) -> Walked
 }
 
 // One state: it is counted, then its regions, then its refinement.
-fn walk_state(s: &[u8], names: usize, spots: &[usize], to: &[usize], heads: &[u32], levels: usize, p: Path, at: usize, count: usize) -> Walked
+fn walk_state(
+    s: &[u8],
+    names: usize,
+    spots: &[usize],
+    to: &[usize],
+    heads: &[u32],
+    levels: usize,
+    p: Path,
+    at: usize,
+    count: usize,
+) -> Walked
     requires { ⌜ (length (now s) ≤ 65536) × ((ns : List Name) → length ns ≡ names → HeadsRight ns (now s) (now spots) (now heads)) ⌝ }
     ensures { λ r. ⌜ ((ns : List Name) → length ns ≡ names → r ≡ stateW ns (now (s .entry)) (now (spots .entry)) (now (to .entry)) (walkIn ns (now (s .entry)) (now (spots .entry)) (now (to .entry)) levels) p at count) ⌝ }
 {
@@ -100,7 +109,18 @@ fn walk_state(s: &[u8], names: usize, spots: &[usize], to: &[usize], heads: &[u3
 }
 
 // So many states, with so many levels left: with none they may not open.
-fn walk_states(s: &[u8], names: usize, spots: &[usize], to: &[usize], heads: &[u32], levels: usize, p: Path, count: usize, at: usize, done: usize) -> Walked
+fn walk_states(
+    s: &[u8],
+    names: usize,
+    spots: &[usize],
+    to: &[usize],
+    heads: &[u32],
+    levels: usize,
+    p: Path,
+    count: usize,
+    at: usize,
+    done: usize,
+) -> Walked
     requires { ⌜ (length (now s) ≤ 65536) × ((ns : List Name) → length ns ≡ names → HeadsRight ns (now s) (now spots) (now heads)) ⌝ }
     ensures { λ r. ⌜ ((ns : List Name) → length ns ≡ names → r ≡ walkIn ns (now (s .entry)) (now (spots .entry)) (now (to .entry)) levels p count at done) ⌝ }
 {
@@ -125,7 +145,15 @@ fn walk_states(s: &[u8], names: usize, spots: &[usize], to: &[usize], heads: &[u
 }
 
 // Resolves the machine of the name m, whose initial state stands at `at`.
-pub fn walk_machine(s: &[u8], names: usize, spots: &[usize], to: &[usize], heads: &[u32], m: usize, at: usize) -> Walked
+pub fn walk_machine(
+    s: &[u8],
+    names: usize,
+    spots: &[usize],
+    to: &[usize],
+    heads: &[u32],
+    m: usize,
+    at: usize,
+) -> Walked
     requires { ⌜ (length (now s) ≤ 65536) × ((ns : List Name) → length ns ≡ names → HeadsRight ns (now s) (now spots) (now heads)) ⌝ }
     ensures { λ r. ⌜ ((ns : List Name) → length ns ≡ names → r ≡ machineW ns (now (s .entry)) (now (spots .entry)) (now (to .entry)) m at) ⌝ }
 {

@@ -1,6 +1,6 @@
 use lib.ListN.{length}
 use Rattle.machines.proofs.TableLaws.{names-start, put-length}
-use Prim.Native.Nat.{_≤_, _+_, _-_}
+use Prim.Native.Nat.{_-_}
 use mathlib.Core.Path.{_≡_, refl}
 use borrow.Author.Needs.{needs}
 use Rattle.machines.specs.Tables.{namesPlaced}
