@@ -12,3 +12,4 @@ pub mod WalkSame
 pub mod Agreeing
 pub mod Walked
 pub mod Covered
+pub mod Instance
