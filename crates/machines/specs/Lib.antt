@@ -2,6 +2,14 @@ pub mod Refusals
 pub mod MadeNames
 pub mod Vars
 pub mod Resolve
+pub mod Stands
+pub mod Sure
+pub mod Tables
+pub mod Paths
+pub mod Walks
+pub mod Same
+pub mod Heads
+pub mod Covers
 pub mod Lower
 pub mod Locals
 pub mod Equations

@@ -1,4 +1,10 @@
 // Machines: resolved, checked and lowered.
+pub mod sure; // total readers on a checked pack
+pub mod table; // names and machines by name index
+pub mod path; // the machines on the way from the top
+pub mod heads; // what a visit of a state needs, recorded once
+pub mod walk; // resolving, which counts states and makes no tree
+pub mod cover; // whether a resolved machine's states give an output
 pub mod made; // the names that lowering makes
 pub mod locals; // the locals made for regions
 pub mod terms; // the fixed expressions of a region's equations

@@ -1,0 +1,101 @@
+-- The theorems on a pack of two machines: the state a of M is refined by N, whose state b gives o.
+use Prim.Native.Nat.{ℕ, zero, suc}
+use native.Mathlib.Omega.{arith}
+use mathlib.Core.List.{List, [], _∷_}
+use mathlib.Core.Bool.{true}
+use mathlib.Core.Option.{none, some}
+use mathlib.Core.Path.{_≡_, refl}
+use lib.ListN.{getD}
+use Rattle.wire.specs.Answer.{below, bind, byte, counted, guard, index, many, mapA, u16, value}
+use Rattle.wire.specs.Code.{next, onward, readOf, skip, skips}
+use Rattle.wire.specs.Preorder.{trees}
+use Rattle.pack.specs.Limits.{absent, maxLevel, maxName, maxStates}
+use Rattle.pack.specs.Names.{Name, eqName, member}
+use Rattle.pack.specs.Syntax.{Drawing, dCons, dNil, eBinary, eConst, lBool, lChar, oAnd, qNil, tBool, States}
+use Rattle.pack.specs.Forms.{binOps, exprArity, exprAt, exprFields, exprHead, exprOf, exprOver, exprRows, exprsOf, firstType, flagOf, literal, literalOf, nameAt, nth, plainTypes, typeArity, typeAt, typeFields, typeHead, typeOf, typeOver}
+use Rattle.pack.specs.Read.{char, drawnOf, equationIn, equationsIn, exprIn, machineIn, name, nameByte, nameIn, nameSection, namesAfter, namesIn, optional, optionalIn, portIn, portsIn, regionAt, regionsOf, size, stateAt, stateWith, transitionIn, typeIn}
+use Rattle.pack.specs.Verdict.{offsetOf}
+use Rattle.machines.specs.declared.walk.Walked.the-variants as wk
+use Rattle.machines.specs.Resolve.{resolvedStates, went}
+use Rattle.machines.specs.Lower.{coversS}
+use Rattle.machines.specs.Stands.{endOf}
+use Rattle.machines.specs.Sure.{byteIn, machineFrom, numberIn, regionIn, sureOf, turns, with}
+use Rattle.machines.specs.Tables.{initialIn, lenOf, machinesPlaced, namesPlaced, nextName, placedFrom, statesEnd}
+use Rattle.machines.specs.Paths.{onOf, pushedOf, startOf}
+use Rattle.machines.specs.Walks.{enterW, goOn, headT, lenAt, machineW, maxOf, qualifyOf, refineW, regionW, rounds, stateW, targetT, walk}
+use Rattle.machines.specs.Covers.{machineT}
+use Rattle.machines.proofs.Reading.{MachineRead}
+use Rattle.machines.proofs.NamesPlaced.{names-placed, section-read}
+use Rattle.machines.proofs.MachinesPlaced.{machines-placed}
+use Rattle.machines.proofs.Walked.{Ready, walked-stands}
+use Rattle.machines.proofs.Covered.{machine-covered}
+
+abbrev ns : List Name
+ns = (77 ∷ []) ∷ (111 ∷ []) ∷ (97 ∷ []) ∷ (78 ∷ []) ∷ (98 ∷ []) ∷ []
+
+abbrev s : List ℕ
+s = 5 ∷ 0 ∷ 1 ∷ 77 ∷ 1 ∷ 111 ∷ 1 ∷ 97 ∷ 1 ∷ 78 ∷ 1 ∷ 98 ∷ 0 ∷ 0 ∷ 0 ∷ 0 ∷ 2 ∷ 0 ∷ 0 ∷ 0 ∷ 255 ∷ 255 ∷ 0 ∷ 0 ∷ 1 ∷ 0 ∷ 1 ∷ 0 ∷ 0 ∷ 0 ∷ 0 ∷ 2 ∷ 0 ∷ 1 ∷ 0 ∷ 2 ∷ 0 ∷ 0 ∷ 0 ∷ 0 ∷ 0 ∷ 0 ∷ 0 ∷ 3 ∷ 0 ∷ 3 ∷ 0 ∷ 255 ∷ 255 ∷ 0 ∷ 0 ∷ 0 ∷ 0 ∷ 0 ∷ 0 ∷ 4 ∷ 0 ∷ 1 ∷ 0 ∷ 4 ∷ 0 ∷ 1 ∷ 0 ∷ 1 ∷ 0 ∷ 1 ∷ 0 ∷ 3 ∷ 0 ∷ 0 ∷ 0 ∷ 1 ∷ 0 ∷ 3 ∷ 65 ∷ 0 ∷ 0 ∷ 0 ∷ 0 ∷ 255 ∷ 255 ∷ 0 ∷ 0 ∷ 0 ∷ 0 ∷ []
+
+abbrev M : Drawing
+M = record { name = 77 ∷ []; owner = none; inputs = []; outputs = record { name = 111 ∷ []; ty = tBool } ∷ []; locals = []; initial = 97 ∷ []; states = dCons (97 ∷ []) [] [] qNil (some (78 ∷ [])) dNil }
+
+abbrev N : Drawing
+N = record { name = 78 ∷ []; owner = none; inputs = []; outputs = []; locals = []; initial = 98 ∷ []; states = dCons (98 ∷ []) (record { lhs = (111 ∷ []) ∷ []; rhs = eBinary oAnd (eConst (lBool true)) (eConst (lChar 65)) } ∷ []) [] qNil none dNil }
+
+abbrev zeros : List ℕ
+zeros = 0 ∷ 0 ∷ 0 ∷ 0 ∷ 0 ∷ []
+
+names-here : nameSection s 0 ≡ value ns 12
+unfolding nameSection namesAfter name size char nameByte guard bind many byte u16 member eqName
+names-here = refl
+
+machines-here : counted (machineIn ns s) s 16 ≡ value (M ∷ N ∷ []) 81
+unfolding machineIn counted many nameIn optionalIn optional portsIn portIn typeIn firstType typeOf typeOver plainTypes typeAt typeHead typeFields typeArity stateAt stateWith regionAt drawnOf regionsOf equationsIn equationIn namesIn exprIn exprAt exprHead exprFields exprRows exprArity exprOf exprsOf exprOver binOps nth literal literalOf flagOf transitionIn nameAt trees index below guard bind mapA byte u16 maxLevel absent
+machines-here = refl
+
+zero-all : (i : ℕ) → getD zeros i 0 ≡ 0
+zero-all zero = refl
+zero-all (suc zero) = refl
+zero-all (suc (suc zero)) = refl
+zero-all (suc (suc (suc zero))) = refl
+zero-all (suc (suc (suc (suc zero)))) = refl
+zero-all (suc (suc (suc (suc (suc i))))) = refl
+
+tables : Ready s ns (M ∷ N ∷ []) (namesPlaced s 5 2 0 zeros) (machinesPlaced ns s 16 zeros)
+tables =
+    let a = section-read s ns 12 names-here in
+    record { names = a; spot = names-placed s ns zeros a (omega arith); places = machines-placed ns s 16 (M ∷ N ∷ []) 81 zeros a (omega arith) zero-all machines-here }
+
+-- the walk on these bytes, computed
+walks : machineW ns s (namesPlaced s 5 2 0 zeros) (machinesPlaced ns s 16 zeros) 0 31 ≡ wk.Went 45 2 3
+unfolding machineW walk stateW refineW regionW rounds goOn qualifyOf enterW lenAt lenOf headT targetT turns maxOf onOf pushedOf startOf machineFrom regionIn numberIn byteIn with sureOf readOf endOf namesPlaced nextName machinesPlaced placedFrom initialIn statesEnd offsetOf onward next skips skip machineIn counted many nameIn optionalIn optional portsIn portIn typeIn firstType typeOf typeOver plainTypes typeAt typeHead typeFields typeArity stateAt stateWith regionAt drawnOf regionsOf equationsIn equationIn namesIn exprIn exprAt exprHead exprFields exprRows exprArity exprOf exprsOf exprOver binOps nth literal literalOf flagOf transitionIn nameAt trees index below guard bind mapA byte u16 maxLevel maxName maxStates absent
+walks = refl
+
+unfoldable read-M : MachineRead ns s 18 M 45
+unfolding machineIn counted many nameIn optionalIn optional portsIn portIn typeIn firstType typeOf typeOver plainTypes typeAt typeHead typeFields typeArity stateAt stateWith regionAt drawnOf regionsOf equationsIn equationIn namesIn exprIn exprAt exprHead exprFields exprRows exprArity exprOf exprsOf exprOver binOps nth literal literalOf flagOf transitionIn nameAt trees index below guard bind mapA byte u16 maxLevel absent
+read-M =
+    record {
+      to-owner = 20;
+      to-inputs = 22;
+      to-outputs = 24;
+      to-locals = 29;
+      to-initial = 31;
+      k = 1;
+      b = 35;
+      xs = record { name = 97 ∷ []; equations = []; transitions = []; regions = qNil; refines = some (78 ∷ []) } ∷ [];
+      name = refl;
+      owner = refl;
+      inputs = refl;
+      outputs = refl;
+      locals = refl;
+      head = record { to-states = 33; initial = refl; states = refl };
+      inside = refl;
+      same = refl;
+    }
+
+-- M resolves to two states that stand there, and the code's answer on the output o is whether they give it
+instance : (t : States) × (resolvedStates (M ∷ N ∷ []) M ≡ went t 2) × (machineT ns s (machinesPlaced ns s 16 zeros) 1 31 ≡ coversS (111 ∷ []) t)
+unfolding nameAt read-M
+instance =
+    let r = walked-stands s ns (M ∷ N ∷ []) (namesPlaced s 5 2 0 zeros) (machinesPlaced ns s 16 zeros) tables 18 M 45 read-M 0 (omega arith) refl 45 2 3 walks in
+    (r .0, r .1, machine-covered ns s (tables .names .fresh) 1 (omega arith) (machinesPlaced ns s 16 zeros) 31 (97 ∷ []) 1 35 (r .0) 45 (read-M .head) (r .2))

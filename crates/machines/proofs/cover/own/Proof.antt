@@ -1,0 +1,63 @@
+use mathlib.Core.List.{List}
+use mathlib.Core.Bool.{_||_}
+use mathlib.Core.Path.{_≡_, refl}
+use lib.ListN.{length}
+use borrow.Author.Needs.{needs}
+use Rattle.pack.specs.Names.{Name}
+use Rattle.machines.specs.Covers.{givesT, tells}
+use Rattle.machines.proofs.CoverLaws.{own-is, tells-went, tells-done}
+use Rattle.machines.proofs.cover.own.Statement.{statement}
+use Rattle.machines.proofs.cover.own.Tie as tie
+
+abbrev Inv-loop : tie.InvT-loop
+Inv-loop s names out at n₀ p₀ a₀ n p a = (ns : List Name) → length ns ≡ names → tells (givesT ns s out) _||_ n p a ≡ tells (givesT ns s out) _||_ n₀ p₀ a₀
+
+abbrev μ-loop : tie.MeasureT-loop
+μ-loop s names out at n₀ p₀ a₀ n p a = n
+
+number-requires : tie.Need-number-requires Inv-loop μ-loop
+number-requires c κs = search needs
+
+number-requires-2 : tie.Need-number-requires-2 Inv-loop μ-loop
+number-requires-2 c κs = search needs
+
+loop-holds : tie.Need-loop-holds Inv-loop μ-loop
+loop-holds c = λ ns e. refl
+
+gives-requires : tie.Need-gives-requires Inv-loop μ-loop
+gives-requires c κs = search needs
+
+either-requires : tie.Need-either-requires Inv-loop μ-loop
+either-requires c κs = search needs
+
+sub-n : tie.Need-sub-n Inv-loop μ-loop
+sub-n c = search needs
+
+loop-less : tie.Need-loop-less Inv-loop μ-loop
+loop-less c = search needs
+
+loop-again : tie.Need-loop-again Inv-loop μ-loop
+loop-again c = λ ns e. tells-went (givesT ns _ _) _||_ _ _ _ _ _ _ (c .before .before .loop-test .taken) (c .before .gives .ensures ns e) (c .either .ensures) (c .before .before .before .loop .inv ns e)
+
+after-transitions-requires : tie.Need-after-transitions-requires Inv-loop μ-loop
+after-transitions-requires c κs = search needs
+
+returns : tie.Need-returns Inv-loop μ-loop
+returns c = λ ns e. own-is ns _ _ _ _ _ _ _ (c .before .before .before .before .number .ensures) (c .before .before .before .number2 .ensures) (tells-done (givesT ns _ _) _||_ _ _ _ _ (c .before .loop-test .left) (c .before .before .loop .inv ns e)) (c .after-transitions .ensures ns e)
+
+pub own-spec : {M : Type 1} → statement M
+own-spec =
+    tie.close
+    (tie.spec
+    Inv-loop
+    μ-loop
+    number-requires
+    number-requires-2
+    loop-holds
+    gives-requires
+    either-requires
+    sub-n
+    loop-less
+    loop-again
+    after-transitions-requires
+    returns)

@@ -1,0 +1,20 @@
+use native.Mathlib.Omega.{arith}
+use Rattle.machines.proofs.TableLaws.{past-end}
+use borrow.Author.Needs.{needs}
+use Rattle.machines.proofs.table.byte.Statement.{statement}
+use Rattle.machines.proofs.table.byte.Tie as tie
+
+shared-slice-read-result : tie.Need-shared-slice-read-result
+shared-slice-read-result c = search needs
+
+cast-result : tie.Need-cast-result
+cast-result c = omega (arith, c .shared-slice-known .given (c .before .before .args .at))
+
+returns : tie.Need-returns
+returns c = search needs
+
+returns-2 : tie.Need-returns-2
+returns-2 c = past-end (c .before .args .s .now) _ (c .if1 .left)
+
+pub byte-spec : {M : Type 1} → statement M
+byte-spec = tie.close (tie.spec shared-slice-read-result cast-result returns returns-2)

@@ -1,0 +1,104 @@
+// Tables by name index, made once: where a name stands, and where the machine of that name is.
+use crate::sure::number;
+use crate::sure::reached;
+use pack::charts::then_states;
+use pack::parts::then_optional;
+use pack::parts::then_ports;
+use wire::answer::Skipped;
+ghost use mathlib.Core.List.{List};
+ghost use mathlib.Core.Path.{_≡_};
+ghost use Prim.Native.Nat.{_≤_};
+ghost use lib.ListN.{length, getD, set};
+ghost use Rattle.pack.specs.Names.{Name};
+ghost use Rattle.machines.specs.Tables.{initialIn, statesEnd, machinesPlaced, namesPlaced, nextName, lenOf};
+
+pub fn entry(t: &[usize], i: usize) -> usize
+    ensures { λ r. ⌜ r ≡ getD (now (t .entry)) i 0 ⌝ }
+{
+    if i < t.len() { t[i] } else { 0 }
+}
+
+fn put(t: &mut [usize], i: usize, v: usize)
+    ensures { λ r. ⌜ now (t .exit) ≡ set (now (t .entry)) i v ⌝ }
+{
+    if i < t.len() {
+        t[i] = v;
+    }
+}
+
+// The byte at an offset, which for a name is its length.
+fn byte(s: &[u8], at: usize) -> usize
+    ensures { λ r. ⌜ r ≡ getD (now (s .entry)) at 0 ⌝ }
+{
+    if at < s.len() { s[at] as usize } else { 0 }
+}
+
+// Where the name after the one at `at` stands.
+fn next_name(s: &[u8], at: usize) -> usize
+    ensures { λ r. ⌜ r ≡ nextName (now (s .entry)) at ⌝ }
+{
+    if at < s.len() {
+        at + 1 + s[at] as usize
+    } else {
+        at
+    }
+}
+
+// Where each name's length byte stands.
+pub fn place_names(s: &[u8], names: usize, spots: &mut [usize])
+    ensures { λ r. ⌜ now (spots .exit) ≡ namesPlaced (now (s .entry)) names 2 0 (now (spots .entry)) ⌝ }
+{
+    let mut k = 0;
+    let mut p = 2;
+    while k < names {
+        put(spots, k, p);
+        p = next_name(s, p);
+        k += 1;
+    }
+}
+
+// How long a name is.
+pub fn name_len(s: &[u8], spots: &[usize], i: usize) -> usize
+    ensures { λ r. ⌜ r ≡ lenOf (now (s .entry)) (now (spots .entry)) i ⌝ }
+{
+    let at = entry(spots, i);
+    byte(s, at)
+}
+
+// From a machine's owner, past its ports: where its initial state is.
+pub fn to_initial(s: &[u8], names: usize, at: usize) -> usize
+    requires { ⌜ length (now s) ≤ 65536 ⌝ }
+    ensures { λ r. ⌜ ((ns : List Name) → length ns ≡ names → r ≡ initialIn ns (now (s .entry)) at) ⌝ }
+{
+    let o = then_optional(s, names, Skipped::To(at));
+    let a = then_ports(s, names, o);
+    let b = then_ports(s, names, a);
+    let c = then_ports(s, names, b);
+    reached(c)
+}
+
+// From a machine's initial state, past its states.
+fn after_states(s: &[u8], names: usize, at: usize) -> usize
+    requires { ⌜ length (now s) ≤ 65536 ⌝ }
+    ensures { λ r. ⌜ ((ns : List Name) → length ns ≡ names → r ≡ statesEnd ns (now (s .entry)) at) ⌝ }
+{
+    let i = number(s, at);
+    reached(then_states(s, names, Skipped::To(i.next)))
+}
+
+// Where the initial state of the last machine of each name is. In a table of zeros, 0 stays where there is none.
+pub fn place_machines(s: &[u8], names: usize, at: usize, to: &mut [usize])
+    requires { ⌜ length (now s) ≤ 65536 ⌝ }
+    ensures { λ r. ⌜ ((ns : List Name) → length ns ≡ names → now (to .exit) ≡ machinesPlaced ns (now (s .entry)) at (now (to .entry))) ⌝ }
+{
+    let c = number(s, at);
+    let mut n = c.value;
+    let mut p = c.next;
+    while 0 < n {
+        let i = number(s, p);
+        let w = to_initial(s, names, i.next);
+        put(to, i.value, w);
+        p = after_states(s, names, w);
+        n = n - 1;
+    }
+}
