@@ -20,18 +20,11 @@ ghost use Rattle.pack.specs.Names.{Name};
 ghost use Rattle.machines.specs.Heads.{HeadsRight};
 ghost use Rattle.machines.specs.Walks.{lenAt, enterW, qualifyOf, stateW, walk as walkIn, machineW};
 
-// What walking came to: up to `next`, with so many states so far and the longest name's length; or why it stopped.
+// What walking came to: the offset after, how many states so far, the longest name's length; or why it stopped.
 pub enum Walked {
-    Went {
-        next: usize,
-        states: usize,
-        longest: usize,
-    },
+    Went(usize, usize, usize),
     Cycle(usize),
-    Unknown {
-        state: usize,
-        name: usize,
-    },
+    Unknown { state: usize, name: usize },
     Large,
 }
 
@@ -55,11 +48,7 @@ fn enter(s: &[u8], spots: &[usize], to: &[usize], p: Path, i: usize, m: usize) -
         return Walked::Unknown { state: i, name: m };
     }
     let k = machine(s, w);
-    Walked::Went {
-        next: k.next,
-        states: k.value,
-        longest: len_at(s, spots, w),
-    }
+    Walked::Went(k.next, k.value, len_at(s, spots, w))
 }
 
 // The names of a sub-machine, the longest of w bytes, get a prefix of i bytes and `_`.
@@ -72,11 +61,7 @@ fn qualify(i: usize, w: usize, a: usize, next: usize, states: usize) -> Walked
     if Pack::NAME - 1 - i < w {
         return Walked::Large;
     }
-    Walked::Went {
-        next,
-        states,
-        longest: most(a, i + 1 + w),
-    }
+    Walked::Went(next, states, most(a, i + 1 + w))
 }
 
 // One state: it is counted, then its regions, then its refinement.
@@ -106,12 +91,7 @@ fn walk_state(
     while 0 < n {
         let g = region(s, o);
         let e = walk_states(s, names, spots, to, heads, levels, p, g.value, g.next, c);
-        let Walked::Went {
-            next,
-            states,
-            longest,
-        } = e
-        else {
+        let Walked::Went(next, states, longest) = e else {
             return e;
         };
         a = most(a, most(len_at(s, spots, o), longest));
@@ -121,40 +101,16 @@ fn walk_state(
     }
     let f = number(s, o);
     if f.value == 65535 {
-        return Walked::Went {
-            next: f.next,
-            states: c,
-            longest: a,
-        };
+        return Walked::Went(f.next, c, a);
     }
     let i = number(s, at);
     let d = enter(s, spots, to, p, i.value, f.value);
-    let Walked::Went {
-        next: b,
-        states: k,
-        longest: v,
-    } = d
-    else {
+    let Walked::Went(b, k, v) = d else {
         return d;
     };
-    let y = walk_states(
-        s,
-        names,
-        spots,
-        to,
-        heads,
-        levels,
-        pushed(p, f.value),
-        k,
-        b,
-        c,
-    );
-    let Walked::Went {
-        next: _,
-        states: j,
-        longest: w,
-    } = y
-    else {
+    let q = pushed(p, f.value);
+    let y = walk_states(s, names, spots, to, heads, levels, q, k, b, c);
+    let Walked::Went(_, j, w) = y else {
         return y;
     };
     qualify(name_len(s, spots, i.value), most(v, w), a, f.next, j)
@@ -185,12 +141,7 @@ fn walk_states(
     let mut a: usize = 0;
     while 0 < n {
         let e = walk_state(s, names, spots, to, heads, levels - 1, p, o, c);
-        let Walked::Went {
-            next,
-            states,
-            longest,
-        } = e
-        else {
+        let Walked::Went(next, states, longest) = e else {
             return e;
         };
         a = most(a, longest);
@@ -198,11 +149,7 @@ fn walk_states(
         o = next;
         c = states;
     }
-    Walked::Went {
-        next: o,
-        states: c,
-        longest: a,
-    }
+    Walked::Went(o, c, a)
 }
 
 // Resolves the machine of the name m, whose initial state stands at `at`.
