@@ -1,5 +1,5 @@
 -- The code's verdict on bytes, and where a pack's sections stand.
-use mathlib.Core.List.{List}
+use mathlib.Core.List.{List, []}
 use mathlib.Core.Bool.{cond}
 use mathlib.Core.Path.{_≡_}
 use Prim.Native.Nat.{ℕ, _+_, _*_, _≤_}
@@ -54,6 +54,10 @@ offsetOf (sk.To q) = q
 offsetOf sk.Early = 0
 offsetOf (sk.Illegal o) = 0
 offsetOf (sk.Deep o) = 0
+
+-- the package that holds nothing
+unfoldable pub emptyPackage : Package
+emptyPackage = record { names = []; enums = []; nodes = []; machines = []; activations = []; origins = [] }
 
 -- each section of the package stands where the pack record says
 pub record Stands (s : List ℕ) (k : Pack) (p : Package) : Type 0 where

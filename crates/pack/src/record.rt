@@ -1,4 +1,7 @@
 // The pack record: where a pack's sections stand, and the limits of a pack.
+ghost use lib.ListN.{replicate};
+ghost use Rattle.pack.specs.Verdict.{Stands, emptyPackage};
+
 pub struct Pack {
     pub names: usize,
     pub enums: usize,
@@ -19,16 +22,18 @@ impl Pack {
     // States of a resolved machine.
     pub const STATES: usize = 512;
 
-    // The record of a pack with no names, of which nothing was read yet.
-    pub fn empty() -> Pack {
+    // The record of the pack that holds nothing: twelve zero bytes.
+    pub fn empty() -> Pack
+        ensures { λ r. ⌜ Stands (replicate 12 0) r emptyPackage ⌝ }
+    {
         Pack {
             names: 0,
             enums: 2,
-            nodes: 2,
-            machines: 2,
-            activations: 2,
-            origins: 2,
-            end: 2,
+            nodes: 4,
+            machines: 6,
+            activations: 8,
+            origins: 10,
+            end: 12,
         }
     }
 }
