@@ -4,7 +4,6 @@ use crate::answer::Outcome;
 use crate::convert::{from_project, to_project};
 use crate::decode::decode;
 use crate::deep;
-use crate::encode::encode;
 use crate::package::*;
 use crate::report::{report, Refused};
 use crate::scopes;
@@ -67,10 +66,7 @@ pub fn at_once(p: &Package) -> Outcome {
 fn finish(p: &Package, project: &Project) -> Outcome {
     let mut made = from_project(p, project);
     made.activations.clear();
-    match encode(&made) {
-        Ok(pack) => Outcome::Lowered(pack),
-        Err(_) => Outcome::TooLong,
-    }
+    Outcome::written(&made)
 }
 
 /// Activation by activation, where one has an equation without left names or may be too long to

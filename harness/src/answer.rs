@@ -1,6 +1,8 @@
 //! What a call gives for a pack, first without buffer lengths, then with them.
 
 use crate::decode::{decode, Refusal};
+use crate::encode::encode;
+use crate::package::Package;
 
 /// What a call comes to, whatever the buffers.
 #[derive(Debug, Clone, PartialEq)]
@@ -38,6 +40,14 @@ impl Answer {
 }
 
 impl Outcome {
+    /// What writing a package comes to.
+    pub fn written(made: &Package) -> Outcome {
+        match encode(made) {
+            Ok(pack) => Outcome::Lowered(pack),
+            Err(_) => Outcome::TooLong,
+        }
+    }
+
     pub fn answer(self, output_len: usize, report_len: usize) -> Answer {
         match self {
             Outcome::Unreadable(r) => Answer::plain(r.number, r.value as usize),

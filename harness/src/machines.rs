@@ -4,7 +4,6 @@ use crate::answer::Outcome;
 use crate::convert::{children, from_project, to_project, Expressions, To};
 use crate::decode::decode;
 use crate::deep;
-use crate::encode::encode;
 use crate::package::*;
 use crate::report::{report, Refused};
 use crate::walk::{by_name, walk, Walk};
@@ -56,10 +55,7 @@ pub fn at_once(p: &Package) -> Outcome {
 fn finish(p: &Package, project: &Project) -> Outcome {
     let mut made = from_project(p, project);
     made.machines.clear();
-    match encode(&made) {
-        Ok(pack) => Outcome::Lowered(pack),
-        Err(_) => Outcome::TooLong,
-    }
+    Outcome::written(&made)
 }
 
 /// Machine by machine, where one is too large or the result may be: each is first lowered with
