@@ -10,6 +10,7 @@ pub mod Walks
 pub mod Same
 pub mod Heads
 pub mod Covers
+pub mod Laid
 pub mod Lower
 pub mod Locals
 pub mod Equations
