@@ -123,43 +123,43 @@ module _ (names : ℕ) (s : List ℕ) where
   w-expr p h = within-trees s exprArity (exprHead names) w-head (suc (length s)) 1 p h
 
 module _ (ns : List Name) (s : List ℕ) where
-  w-nameIn : Within (length s) (nameIn ns s)
+  pub w-nameIn : Within (length s) (nameIn ns s)
   unfolding nameIn
   w-nameIn p h = within-map (length s) _ _ (within-index s (length ns) p h)
 
-  w-optionalIn : Within (length s) (optionalIn ns s)
+  pub w-optionalIn : Within (length s) (optionalIn ns s)
   unfolding optionalIn
   w-optionalIn p h = within-map (length s) _ _ (within-guard (length s) (λ i. ltb i (length ns) || eqb i absent) p _ h (within-u16 s p))
 
-  w-namesIn : Within (length s) (namesIn ns s)
+  pub w-namesIn : Within (length s) (namesIn ns s)
   unfolding namesIn
   w-namesIn p h = within-counted s (nameIn ns s) w-nameIn p h
 
-  w-typeIn : Within (length s) (typeIn ns s)
+  pub w-typeIn : Within (length s) (typeIn ns s)
   unfolding typeIn
   w-typeIn p h = within-map (length s) _ _ (w-type (length ns) s p h)
 
-  w-exprIn : Within (length s) (exprIn ns s)
+  pub w-exprIn : Within (length s) (exprIn ns s)
   unfolding exprIn
   w-exprIn p h = within-map (length s) _ _ (w-expr (length ns) s p h)
 
-  w-portsIn : Within (length s) (portsIn ns s)
+  pub w-portsIn : Within (length s) (portsIn ns s)
   unfolding portsIn portIn
   w-portsIn p h = within-counted s (portIn ns s) (λ q l. within-bind (length s) _ _ (w-nameIn q l) (λ x r m. within-map (length s) _ _ (w-typeIn r m))) p h
 
-  w-equationsIn : Within (length s) (equationsIn ns s)
+  pub w-equationsIn : Within (length s) (equationsIn ns s)
   unfolding equationsIn equationIn
   w-equationsIn p h = within-counted s (equationIn ns s) (λ q l. within-bind (length s) _ _ (w-namesIn q l) (λ x r m. within-map (length s) _ _ (w-exprIn r m))) p h
 
-  w-transitionIn : Within (length s) (transitionIn ns s)
+  pub w-transitionIn : Within (length s) (transitionIn ns s)
   unfolding transitionIn
   w-transitionIn p h = within-bind (length s) _ _ (w-exprIn p h) (λ x q l. within-map (length s) _ _ (w-nameIn q l))
 
-  w-enumIn : Within (length s) (enumIn ns s)
+  pub w-enumIn : Within (length s) (enumIn ns s)
   unfolding enumIn
   w-enumIn p h = within-bind (length s) _ _ (w-nameIn p h) (λ x q l. within-map (length s) _ _ (w-namesIn q l))
 
-  w-nodeIn : Within (length s) (nodeIn ns s)
+  pub w-nodeIn : Within (length s) (nodeIn ns s)
   unfolding nodeIn
   w-nodeIn p h =
       let n = length s in
@@ -189,7 +189,7 @@ module _ (ns : List Name) (s : List ℕ) where
       within-bind n _ _ (within-below s 2 q l) (λ k r m.
       within-map n _ _ (within-counted s (stateWith (regionAt levels ns s) ns s) (w-state (regionAt levels ns s) (w-region levels)) r m)))
 
-  w-machineIn : Within (length s) (machineIn ns s)
+  pub w-machineIn : Within (length s) (machineIn ns s)
   unfolding machineIn stateAt
   w-machineIn p h =
       let n = length s in
@@ -205,7 +205,7 @@ module _ (ns : List Name) (s : List ℕ) where
   unfolding branchIn
   w-branchIn p h = within-bind (length s) _ _ (w-nameIn p h) (λ x q l. within-bind (length s) _ _ (w-exprIn q l) (λ c r m. within-map (length s) _ _ (w-equationsIn r m)))
 
-  w-activationIn : Within (length s) (activationIn ns s)
+  pub w-activationIn : Within (length s) (activationIn ns s)
   unfolding activationIn
   w-activationIn p h =
       let n = length s in
@@ -215,7 +215,7 @@ module _ (ns : List Name) (s : List ℕ) where
       within-bind n _ _ (within-counted s (branchIn ns s) w-branchIn t o) (λ u v e.
       within-map n _ _ (w-equationsIn v e)))))
 
-  w-originIn : Within (length s) (originIn ns s)
+  pub w-originIn : Within (length s) (originIn ns s)
   unfolding originIn
   w-originIn p h =
       let n = length s in
