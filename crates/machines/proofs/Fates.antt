@@ -34,7 +34,7 @@ unfolding nodeNames
 names-append [] b = refl
 names-append (n ∷ a) b = ap (λ l. n .name ∷ l) (names-append a b)
 
-names-extend : (o : Name) (ls : List Port) (es : List Equation) (ns : List Node) → nodeNames (extendIn o ls es ns) ≡ nodeNames ns
+pub names-extend : (o : Name) (ls : List Port) (es : List Equation) (ns : List Node) → nodeNames (extendIn o ls es ns) ≡ nodeNames ns
 unfolding extendIn extend nodeNames
 names-extend o ls es [] = refl
 names-extend o ls es (x ∷ xs) = go (eqName (x .name) o) (names-extend o ls es xs)

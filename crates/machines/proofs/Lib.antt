@@ -20,4 +20,5 @@ pub mod Fates
 pub mod RegionCounts
 pub mod Shares
 pub mod SectionLaws
+pub mod Refused
 pub mod SectionExample

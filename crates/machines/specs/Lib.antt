@@ -17,4 +17,5 @@ pub mod Equations
 pub mod Checks
 pub mod Machines
 pub mod Sections
+pub mod Judges
 pub mod Call
