@@ -1,4 +1,4 @@
-use Rattle.pack.proofs.OrderLaws.{rising-none}
+use Rattle.pack.proofs.OrderLaws.{kept-rising, rising-is, rising-none}
 use borrow.Author.Needs.{needs}
 use Rattle.pack.proofs.distinct.order.Statement.{statement}
 use Rattle.pack.proofs.distinct.order.Tie as tie
@@ -34,7 +34,7 @@ same-length-4 : tie.Need-same-length-4
 same-length-4 c = search needs
 
 returns-2 : tie.Need-returns-2
-returns-2 c = search needs
+returns-2 c = rising-is _ _ _ _ _ (kept-rising _ _ _ _) (c .before .before .before .before .before .before .before .keep-rising .ensures .0) (c .before .before .before .before .before .before .before .keep-rising .ensures .1)
 
 pub order-spec : {M : Type 1} → statement M
 order-spec =
