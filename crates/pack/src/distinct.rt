@@ -488,23 +488,22 @@ pub fn listed(ord: &[u16], n: usize, rank: &[u16], p: usize) -> bool
     if k < n { offset_at(ord, k) == p } else { false }
 }
 
-// Sorts the names from q on into `ord` and says how many of them rise.
-pub fn order(
-    s: &[u8],
-    q: usize,
-    count: usize,
-    ord: &mut [u16],
-    other: &mut [u16],
-    rank: &mut [u16],
-) -> usize
-    ensures { λ r. ⌜ Rising (now (s .entry)) (now (ord .exit)) r ⌝ }
-{
+// Sorts the offsets of the names from q on in `other`, and says how many. Nothing is promised of their order.
+pub fn sorted(s: &[u8], q: usize, count: usize, other: &mut [u16], ord: &mut [u16]) -> usize {
     let n = offsets(s, q, count, other);
     if 65535 < n {
         return 0;
     }
     sort(s, other, n as u16, ord);
-    let known = keep_rising(s, other, n, ord);
+    n
+}
+
+// What rises of the first n offsets of `from`, with the ranks of the names, and how many that are.
+pub fn rising(s: &[u8], from: &[u16], n: usize, ord: &mut [u16], rank: &mut [u16]) -> usize
+    ensures { λ r. ⌜ r ≡ length (keptRising (now (s .entry)) (length (now (ord .entry))) (take n (now (from .entry)))) ⌝ }
+    ensures { λ r. ⌜ now (ord .exit) ≡ begins (keptRising (now (s .entry)) (length (now (ord .entry))) (take n (now (from .entry)))) (now (ord .entry)) ⌝ }
+{
+    let known = keep_rising(s, from, n, ord);
     ranks(ord, known, rank);
     known
 }
