@@ -1,16 +1,16 @@
--- Laws of names by number: searching and counting in a table, and the steps that write a name.
+-- Laws of names by number: comparing, searching and counting in a table, and the steps that write a name.
 use Prim.Native.Nat.{ℕ, zero, suc, _+_, _-_, _<_, _≤_, min, zero-le}
 use native.Mathlib.Nat.{zero-add}
 use native.Mathlib.Numerals.{add-one}
 use native.Mathlib.Omega.{arith}
 use mathlib.Core.Logic.{⊎-elim}
-use mathlib.Core.Bool.{Bool, true, false, cond}
+use mathlib.Core.Bool.{Bool, true, false, cond, _&&_}
 use mathlib.Core.Path.{_≡_, refl, ap, _∙_}
 use mathlib.Core.List.{List, [], _∷_, _++_}
 use lib.ListN.{length, take, drop, getD, drop-of-length-le}
 use lib.Seq.{drop-cons}
-use lib.Dec.{ltb, leb}
-use borrow.Author.Tests.{lt-ltb, le-ltb, le-leb, lt-leb}
+use lib.Dec.{ltb, leb, eqb}
+use borrow.Author.Tests.{lt-ltb, le-ltb, le-leb, lt-leb, eq-eqb, ne-eqb}
 use Rattle.wire.specs.declared.writer.Writer.{Writer}
 use Rattle.wire.specs.Bytes.{two}
 use Rattle.wire.specs.Writer.{State, full, st, stateOf, put, puts, swapped}
@@ -19,6 +19,33 @@ use Rattle.pack.specs.Limits.{maxName}
 use Rattle.pack.specs.Names.{Name, eqName}
 use Rattle.pack.specs.Write.{Item, Found, At, Missing, lookup}
 use Rattle.pack.specs.Intern.{tableF, table, putEntry, putAdded, putNew, putFound, putName, putBuilt, putItem, render}
+
+and-false : (t : Bool) {u : Bool} → u ≡ false → t && u ≡ false
+and-false true e = e
+and-false false e = refl
+
+-- names of other lengths differ
+pub eqName-length : (a b : Name) → (length a ≡ length b → ⊥) → eqName a b ≡ false
+unfolding eqName
+eqName-length [] [] h = absurd (h refl)
+eqName-length [] (y ∷ ys) h = refl
+eqName-length (x ∷ xs) [] h = refl
+eqName-length (x ∷ xs) (y ∷ ys) h = and-false (eqb x y) (eqName-length xs ys (λ e. h (ap suc e)))
+
+pub eqName-nil : (a b : Name) (i : ℕ) → length a ≤ i → length a ≡ length b → eqName (drop i a) (drop i b) ≡ true
+unfolding eqName
+eqName-nil a b i h e = rw (drop-of-length-le a h, drop-of-length-le b {i = i} (omega arith))
+
+-- one place further: the bytes there are the same
+pub eqName-more : (a b : Name) (i : ℕ) → i < length a → i < length b → getD a i 0 ≡ getD b i 0
+    → eqName (drop i a) (drop i b) ≡ eqName (drop (i + 1) a) (drop (i + 1) b)
+unfolding eqName
+eqName-more a b i h g e = rw (add-one, drop-cons a i 0 h, drop-cons b i 0 g, eq-eqb _ _ e)
+
+pub eqName-other : (a b : Name) (i : ℕ) → i < length a → i < length b → (getD a i 0 ≡ getD b i 0 → ⊥)
+    → eqName (drop i a) (drop i b) ≡ false
+unfolding eqName
+eqName-other a b i h g e = rw (drop-cons a i 0 h, drop-cons b i 0 g, ne-eqb _ _ e)
 
 -- a search, by whether the first name is the one
 pub lookup-here : (m : Name) (ms : List Name) (n : Name) (k : ℕ) → eqName m n ≡ true → lookup (m ∷ ms) n k ≡ At k

@@ -5,7 +5,7 @@ use native.Mathlib.Numerals.{add-one}
 use mathlib.Core.List.{List, [], _∷_, _++_}
 use mathlib.Core.Bool.{Bool, true, false, not, cond, _&&_, _||_}
 use mathlib.Core.Path.{_≡_, refl, sym, ap, _∙_}
-use lib.ListN.{length, getD, take, drop, drop-of-length-le, length-take, length-drop}
+use lib.ListN.{length, getD, take, drop, length-take, length-drop}
 use lib.Seq.{drop-cons}
 use lib.Dec.{ltb, eqb}
 use borrow.Author.Tests.{eq-eqb, ne-eqb}
@@ -16,8 +16,8 @@ use Rattle.pack.specs.Read.{char, name, nameByte, nameSection, namesAfte
 use Rattle.wire.specs.Code.{next, nextR, nextS, readOf, rep, skip}
 use Rattle.wire.proofs.Answers.{bind-value, byte-value, guard-value}
 use Rattle.wire.proofs.Codes.{guard-read, guard-skip, skip-bindS, skip-many}
-use Rattle.pack.specs.Names.{Name, eqName, member}
-use Rattle.pack.specs.RawNames.{Inside, oneOf, rawEnd, rawName, rawNames}
+use Rattle.pack.specs.Names.{eqName, member}
+use Rattle.pack.specs.RawNames.{Inside, agree, oneOf, rawEnd, rawName, rawNames}
 
 or-true : (b x : Bool) → b ≡ true → true ≡ b || x
 or-true b x e = rw e
@@ -25,32 +25,20 @@ or-true b x e = rw e
 or-false : (b x : Bool) → b ≡ false → x ≡ b || x
 or-false b x e = rw e
 
-and-false : (t : Bool) {u : Bool} → u ≡ false → t && u ≡ false
-and-false true e = e
-and-false false e = refl
+and-false : (b : Bool) → _&&_ b false ≡ false
+and-false true = refl
+and-false false = refl
 
--- names of other lengths differ
-pub eqName-length : (a b : Name) → (length a ≡ length b → ⊥) → eqName a b ≡ false
-unfolding eqName
-eqName-length [] [] h = absurd (h refl)
-eqName-length [] (y ∷ ys) h = refl
-eqName-length (x ∷ xs) [] h = refl
-eqName-length (x ∷ xs) (y ∷ ys) h = and-false (eqb x y) (eqName-length xs ys (λ e. h (ap suc e)))
+pub agree-step : (s : List ℕ) (a b n : ℕ) → 0 < n → agree s a b n ≡ _&&_ (eqb (getD s a 0) (getD s b 0)) (agree s (a + 1) (b + 1) (n - 1))
+unfolding agree
+agree-step s a b zero h = absurd (omega arith)
+agree-step s a b (suc n) h = let e : suc n - 1 ≡ n = omega arith in rw e
 
-pub eqName-nil : (a b : Name) (i : ℕ) → length a ≤ i → length a ≡ length b → eqName (drop i a) (drop i b) ≡ true
-unfolding eqName
-eqName-nil a b i h e = rw (drop-of-length-le a h, drop-of-length-le b {i = i} (omega arith))
-
--- one place further: the bytes there are the same
-pub eqName-more : (a b : Name) (i : ℕ) → i < length a → i < length b → getD a i 0 ≡ getD b i 0
-    → eqName (drop i a) (drop i b) ≡ eqName (drop (i + 1) a) (drop (i + 1) b)
-unfolding eqName
-eqName-more a b i h g e = rw (add-one, drop-cons a i 0 h, drop-cons b i 0 g, eq-eqb _ _ e)
-
-pub eqName-other : (a b : Name) (i : ℕ) → i < length a → i < length b → (getD a i 0 ≡ getD b i 0 → ⊥)
-    → eqName (drop i a) (drop i b) ≡ false
-unfolding eqName
-eqName-other a b i h g e = rw (drop-cons a i 0 h, drop-cons b i 0 g, ne-eqb _ _ e)
+-- that is what `same` says of the two parts
+pub agree-same : (s : List ℕ) (n a b : ℕ) → a + n ≤ length s → b + n ≤ length s → agree s a b n ≡ eqName (take n (drop a s)) (take n (drop b s))
+unfolding agree eqName
+agree-same s zero a b h k = refl
+agree-same s (suc n) a b h k = rw (drop-cons s a 0 (omega arith), drop-cons s b 0 (omega arith), add-one a, add-one b) (ap (_&&_ (eqb (getD s a 0) (getD s b 0))) (agree-same s n (suc a) (suc b) (omega arith) (omega arith)))
 
 pub name-skip : (s : List ℕ) (at : ℕ) → skip (name s at) ≡ nextS (readOf (size s at)) (λ n p. rep (λ q. skip (char s q)) n p)
 unfolding name
@@ -64,6 +52,17 @@ pub size-read : (s : List ℕ) (at : ℕ) → readOf (size s at) ≡ nextR (read
 unfolding size
 size-read s at = guard-read (λ n. ltb 0 n) at (byte s at)
 
+pub agree-went : (s : List ℕ) (a b n : ℕ) (z : Bool) → 0 < n → getD s a 0 ≡ getD s b 0 → agree s a b n ≡ z → agree s (a + 1) (b + 1) (n - 1) ≡ z
+agree-went s a b n z h e f = rw (eq-eqb (getD s a 0) (getD s b 0) e) at (sym (agree-step s a b n h)) ∙ f
+
+pub agree-stopped : (s : List ℕ) (a b n : ℕ) (z : Bool) → 0 < n → (getD s a 0 ≡ getD s b 0 → ⊥) → agree s a b n ≡ z → false ≡ z
+agree-stopped s a b n z h e f = rw (ne-eqb (getD s a 0) (getD s b 0) e) at (sym (agree-step s a b n h)) ∙ f
+
+pub agree-done : (s : List ℕ) (a b n : ℕ) (z : Bool) → n ≤ 0 → agree s a b n ≡ z → true ≡ z
+unfolding agree
+agree-done s a b zero z h f = f
+agree-done s a b (suc n) z h f = absurd (omega arith)
+
 pub inside-step : (s : List ℕ) (n at : ℕ) → 0 < n → Inside s n at → (at + 1 + getD s at 0 ≤ length s) × Inside s (n - 1) (at + 1 + getD s at 0)
 unfolding Inside
 inside-step s zero at l h = absurd (omega arith)
@@ -73,13 +72,19 @@ pub raw-length : (s : List ℕ) (x : ℕ) → x + 1 + getD s x 0 ≤ length s �
 unfolding rawName
 raw-length s x h = simp (length-take, length-drop) (omega arith)
 
--- a name's bytes, as the part of the bytes from its first to its last
-part-name : (s : List ℕ) (a : ℕ) → take (a + 1 + getD s a 0 - (a + 1)) (drop (a + 1) s) ≡ rawName s a
-unfolding rawName
-part-name s a = let f : a + 1 + getD s a 0 - (a + 1) ≡ getD s a 0 = omega arith in rw f
+same-lengths : (l m : List ℕ) → (length l ≡ length m → ⊥) → eqName l m ≡ false
+unfolding eqName
+same-lengths [] [] d = absurd (d refl)
+same-lengths [] (b ∷ m) d = refl
+same-lengths (a ∷ l) [] d = refl
+same-lengths (a ∷ l) (b ∷ m) d = rw (same-lengths l m (λ e. d (ap suc e))) (and-false (eqb a b))
 
-pub same-parts : (s : List ℕ) (a b : ℕ) (r : Bool) → r ≡ eqName (take (a + 1 + getD s a 0 - (a + 1)) (drop (a + 1) s)) (take (b + 1 + getD s b 0 - (b + 1)) (drop (b + 1) s)) → r ≡ eqName (rawName s a) (rawName s b)
-same-parts s a b r e = rw (part-name s a, part-name s b) at e
+pub same-sizes : (s : List ℕ) (x at : ℕ) → x + 1 + getD s x 0 ≤ length s → at + 1 + getD s at 0 ≤ length s → (getD s x 0 ≡ getD s at 0 → ⊥) → false ≡ eqName (rawName s x) (rawName s at)
+same-sizes s x at h k d = sym (same-lengths (rawName s x) (rawName s at) (λ e. d (sym (raw-length s x h) ∙ e ∙ raw-length s at k)))
+
+pub same-agree : (s : List ℕ) (x at : ℕ) → x + 1 + getD s x 0 ≤ length s → at + 1 + getD s at 0 ≤ length s → getD s x 0 ≡ getD s at 0 → agree s (x + 1) (at + 1) (getD s x 0) ≡ eqName (rawName s x) (rawName s at)
+unfolding rawName
+same-agree s x at h k e = agree-same s (getD s x 0) (x + 1) (at + 1) h (omega arith) ∙ ap (λ (n : ℕ). eqName (take (getD s x 0) (drop (x + 1) s)) (take n (drop (at + 1) s))) e
 
 pub oneOf-found : (s : List ℕ) (x n at : ℕ) (z r : Bool) → 0 < n → r ≡ true → r ≡ eqName (rawName s x) (rawName s at) → oneOf s x n at ≡ z → true ≡ z
 unfolding oneOf rawNames member

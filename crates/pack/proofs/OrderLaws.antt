@@ -6,13 +6,13 @@ use native.Mathlib.Numerals.{add-one}
 use mathlib.Core.List.{List, [], _∷_, _++_, append-nil}
 use mathlib.Core.Bool.{Bool, true, false, cond, _&&_}
 use mathlib.Core.Path.{_≡_, refl, sym, ap, subst, _∙_}
-use lib.ListN.{length, getD, set, take, drop, drop-of-length-le, length-append, length-set, length-take, List·getD-append, take-append-drop}
+use lib.ListN.{length, getD, set, take, drop, drop-of-length-le, length-append, length-replicate, length-set, length-take, List·getD-append, replicate, take-append-drop}
 use lib.Seq.{append-snoc, drop-cons, drop-drop, drop-set-lt, getD-take, length-take-le, take-nil, take-suc-set}
 use lib.Dec.{ltb, leb, eqb}
 use borrow.Author.Tests.{eq-eqb, eqb-true, ltb-true, ltb-false, le-leb, lt-leb, leb-true, lt-ltb, le-ltb, ne-eqb}
 use Rattle.pack.specs.Names.{Name, eqName, member}
 use Rattle.pack.specs.RawNames.{oneOf, rawEnd, rawName, rawNames}
-use Rattle.pack.specs.Distinct.{Lower, Rising, ahead, follower, here, keptRising, lessName, listedAt, lower, reachOf, risingAfter, sized, standing, there}
+use Rattle.pack.specs.Distinct.{Lower, Rising, ahead, firsts, follower, here, keptRising, lessName, listedAt, lower, reachOf, risingAfter, sized, standing, there}
 use Rattle.pack.specs.Outcome.{begins}
 use Rattle.pack.proofs.NameLaws.{raw-length}
 
@@ -268,6 +268,25 @@ pub reach-done : (s : List ℕ) (n p z : ℕ) → n ≤ 0 → reachOf s n p ≡ 
 unfolding reachOf
 reach-done s zero p z h f = f
 reach-done s (suc n) p z h f = absurd (omega arith)
+
+-- the first n of a list
+pub firsts-length : (n : ℕ) (xs : List ℕ) → length (firsts n xs) ≡ n
+unfolding firsts
+firsts-length n xs = simp (length-take, length-append, length-replicate) (omega arith)
+
+zeros : (n k : ℕ) → _≡_ {A = ℕ} (getD (replicate n 0) k 0) 0
+zeros zero k = refl
+zeros (suc n) zero = refl
+zeros (suc n) (suc k) = zeros n k
+
+followed : (xs : List ℕ) (n k : ℕ) → getD (xs ++ replicate n 0) k 0 ≡ getD xs k 0
+followed [] n k = zeros n k
+followed (x ∷ xs) n zero = refl
+followed (x ∷ xs) n (suc k) = followed xs n k
+
+pub firsts-at : (n : ℕ) (xs : List ℕ) (k : ℕ) → k < n → getD (firsts n xs) k 0 ≡ getD xs k 0
+unfolding firsts
+firsts-at n xs k h = getD-take n (xs ++ replicate n 0) k 0 h ∙ followed xs n k
 
 -- what `keep_rising` has done with the first k of the offsets xs in a slice that held d: j of them are copied, the last is `last`
 pub record Kept (s xs d ord : List ℕ) (j last k : ℕ) : Type 0 where

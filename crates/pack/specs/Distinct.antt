@@ -1,8 +1,8 @@
 -- Names in a strict order: the shorter first, and of one length by their bytes.
 use Prim.Native.Nat.{ℕ, _+_, _/_, _≤_, _<_, zero, suc}
-use mathlib.Core.List.{List, [], _∷_}
+use mathlib.Core.List.{List, [], _∷_, _++_}
 use mathlib.Core.Bool.{Bool, true, false, cond, _&&_}
-use lib.ListN.{length, getD, take}
+use lib.ListN.{length, getD, replicate, take}
 use lib.Dec.{eqb, leb, ltb}
 use Rattle.pack.specs.Names.{Name}
 use Rattle.pack.specs.RawNames.{rawName}
@@ -37,6 +37,10 @@ risingAfter s j last (x ∷ xs) = cond (follower s j last x) (x ∷ risingAfter 
 -- what is kept of offsets where there is room for so many
 unfoldable pub keptRising : List ℕ → ℕ → List ℕ → List ℕ
 keptRising s room xs = take room (risingAfter s 0 0 xs)
+
+-- the first n of a list, 0 past its end
+unfoldable pub firsts : ℕ → List ℕ → List ℕ
+firsts n xs = take n (xs ++ replicate n 0)
 
 -- where n names from q on end; past the end of the bytes no name is passed over
 unfoldable pub reachOf : List ℕ → ℕ → ℕ → ℕ

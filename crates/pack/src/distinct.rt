@@ -3,9 +3,9 @@ use std::num::wrapping_add_u16;
 ghost use mathlib.Core.Path.{_≡_};
 ghost use mathlib.Core.Bool.{true, cond};
 ghost use Prim.Native.Nat.{_+_, _<_, _≤_, min};
-ghost use lib.ListN.{length, getD, set, take};
+ghost use lib.ListN.{length, getD, set};
 ghost use Rattle.pack.specs.RawNames.{rawName};
-ghost use Rattle.pack.specs.Distinct.{ahead, lessName, standing, follower, keptRising, reachOf, Rising, listedAt};
+ghost use Rattle.pack.specs.Distinct.{ahead, lessName, standing, firsts, follower, keptRising, reachOf, Rising, listedAt};
 ghost use Rattle.pack.specs.Outcome.{begins};
 
 // The sort. Nothing is believed of what it leaves in its slices: it is proved to be safe and to end, and `keep_rising` takes
@@ -458,14 +458,13 @@ fn follows(s: &[u8], j: usize, last: usize, x: usize) -> bool
 
 // Copies the first n offsets of `from`, leaving out each whose name does not stand above the last one copied.
 fn keep_rising(s: &[u8], from: &[u16], n: usize, ord: &mut [u16]) -> usize
-    ensures { λ r. ⌜ r ≡ length (keptRising (now (s .entry)) (length (now (ord .entry))) (take n (now (from .entry)))) ⌝ }
-    ensures { λ r. ⌜ now (ord .exit) ≡ begins (keptRising (now (s .entry)) (length (now (ord .entry))) (take n (now (from .entry)))) (now (ord .entry)) ⌝ }
+    ensures { λ r. ⌜ r ≡ length (keptRising (now (s .entry)) (length (now (ord .entry))) (firsts n (now (from .entry)))) ⌝ }
+    ensures { λ r. ⌜ now (ord .exit) ≡ begins (keptRising (now (s .entry)) (length (now (ord .entry))) (firsts n (now (from .entry)))) (now (ord .entry)) ⌝ }
 {
-    let end = least_of(n, from.len(), from.len());
     let mut j = 0;
     let mut last = 0;
     let mut k = 0;
-    while k < end {
+    while k < n {
         if ord.len() <= j {
             return j;
         }

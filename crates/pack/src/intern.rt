@@ -1,5 +1,4 @@
 // Names by number: the old names of a pack, then new ones in order of first use. A table is names, each after its length byte.
-use crate::names::same;
 use crate::record::Pack;
 use wire::writer::Writer;
 use wire::writer::capped;
@@ -13,6 +12,7 @@ ghost use mathlib.Core.List.{List, []};
 ghost use Prim.Native.Nat.{ℕ, _+_, _≤_, _<_, _^_, min};
 ghost use lib.ListN.{length, getD};
 ghost use Rattle.wire.specs.Writer.{stateOf};
+ghost use Rattle.pack.specs.Names.{eqName};
 ghost use Rattle.pack.specs.Write.{lookup};
 ghost use Rattle.pack.specs.Intern.{foundOf, table, putEntry, putNew, putName, putBuilt};
 
@@ -20,6 +20,23 @@ ghost use Rattle.pack.specs.Intern.{foundOf, table, putEntry, putNew, pu
 pub enum Found {
     At(usize),
     Missing(usize),
+}
+
+// Whether a and b hold the same bytes.
+pub fn same(a: &[u8], b: &[u8]) -> bool
+    ensures { λ r. ⌜ r ≡ eqName (now (a .entry)) (now (b .entry)) ⌝ }
+{
+    if a.len() != b.len() {
+        return false;
+    }
+    let mut i = 0;
+    while i < a.len() {
+        if a[i] != b[i] {
+            return false;
+        }
+        i += 1;
+    }
+    true
 }
 
 // Where the name ends whose length byte stands at `at`.

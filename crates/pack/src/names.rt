@@ -16,7 +16,7 @@ ghost use lib.ListN.{length, getD};
 ghost use Rattle.wire.specs.Code.{readOf, skip};
 ghost use Rattle.pack.specs.Names.{eqName};
 ghost use Rattle.pack.specs.Read.{nameByte, char, size, name, namesAfter, nameSection};
-ghost use Rattle.pack.specs.RawNames.{rawName, Inside, oneOf};
+ghost use Rattle.pack.specs.RawNames.{agree, rawName, Inside, oneOf};
 ghost use Rattle.pack.specs.Distinct.{Rising, listedAt};
 
 // A byte of a name: a letter, a digit or an underscore.
@@ -92,19 +92,21 @@ pub fn skip_name(s: &[u8], at: usize) -> Skipped
     Skipped::To(p)
 }
 
-// Whether a and b hold the same bytes.
-pub fn same(a: &[u8], b: &[u8]) -> bool
-    ensures { λ r. ⌜ r ≡ eqName (now (a .entry)) (now (b .entry)) ⌝ }
+// Whether the n bytes from a on are those from b on.
+pub fn same_bytes(s: &[u8], a: usize, b: usize, n: usize) -> bool
+    requires { ⌜ (a + n ≤ length (now s)) × (b + n ≤ length (now s)) ⌝ }
+    ensures { λ r. ⌜ r ≡ agree (now (s .entry)) a b n ⌝ }
 {
-    if a.len() != b.len() {
-        return false;
-    }
-    let mut i = 0;
-    while i < a.len() {
-        if a[i] != b[i] {
+    let mut i = a;
+    let mut j = b;
+    let mut left = n;
+    while 0 < left {
+        if s[i] != s[j] {
             return false;
         }
         i += 1;
+        j += 1;
+        left -= 1;
     }
     true
 }
@@ -116,11 +118,10 @@ pub fn same_name(s: &[u8], a: usize, b: usize) -> bool
 {
     let n = s[a] as usize;
     let m = s[b] as usize;
-    let x = a + 1;
-    let y = b + 1;
-    let e = x + n;
-    let f = y + m;
-    same(&s[x..e], &s[y..f])
+    if n != m {
+        return false;
+    }
+    same_bytes(s, a + 1, b + 1, n)
 }
 
 // Whether the name at x is one of the count names from `at` on.

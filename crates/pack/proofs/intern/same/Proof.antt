@@ -4,9 +4,9 @@ use mathlib.Core.Path.{_≡_, _∙_, sym, refl}
 use lib.ListN.{length, drop}
 use borrow.Author.Needs.{needs}
 use Rattle.pack.specs.Names.{eqName}
-use Rattle.pack.proofs.NameLaws.{eqName-length, eqName-nil, eqName-more, eqName-other}
-use Rattle.pack.proofs.names.same.Statement.{statement}
-use Rattle.pack.proofs.names.same.Tie as tie
+use Rattle.pack.proofs.Interns.{eqName-length, eqName-nil, eqName-more, eqName-other}
+use Rattle.pack.proofs.intern.same.Statement.{statement}
+use Rattle.pack.proofs.intern.same.Tie as tie
 
 abbrev Inv-loop : tie.InvT-loop
 Inv-loop a b i₀ i = (i ≤ length a) × (length a ≡ length b) × (eqName (drop i a) (drop i b) ≡ eqName a b)
