@@ -499,8 +499,8 @@ pub fn sorted(s: &[u8], q: usize, count: usize, other: &mut [u16], ord: &mut [u1
 
 // What rises of the first n offsets of `from`, with the ranks of the names, and how many that are.
 pub fn rising(s: &[u8], from: &[u16], n: usize, ord: &mut [u16], rank: &mut [u16]) -> usize
-    ensures { λ r. ⌜ r ≡ length (keptRising (now (s .entry)) (length (now (ord .entry))) (take n (now (from .entry)))) ⌝ }
-    ensures { λ r. ⌜ now (ord .exit) ≡ begins (keptRising (now (s .entry)) (length (now (ord .entry))) (take n (now (from .entry)))) (now (ord .entry)) ⌝ }
+    ensures { λ r. ⌜ r ≡ length (keptRising (now (s .entry)) (length (now (ord .entry))) (firsts n (now (from .entry)))) ⌝ }
+    ensures { λ r. ⌜ now (ord .exit) ≡ begins (keptRising (now (s .entry)) (length (now (ord .entry))) (firsts n (now (from .entry)))) (now (ord .entry)) ⌝ }
 {
     let known = keep_rising(s, from, n, ord);
     ranks(ord, known, rank);
