@@ -21,3 +21,5 @@ pub mod RegionCounts
 pub mod Shares
 pub mod SectionLaws
 pub mod SectionExample
+pub mod RowLaws
+pub mod EmitLaws

@@ -9,3 +9,5 @@ pub mod made; // the names that lowering makes
 pub mod locals; // the locals made for regions
 pub mod terms; // the fixed expressions of a region's equations
 pub mod equations; // the equations that need no look at a region's states
+pub mod rows; // the layout as it is read
+pub mod enums; // the enums of regions
