@@ -1,21 +1,21 @@
 -- Laws of the layout as the code reads it: words, and parts that are cut at the end.
 use Prim.Native.Nat.{ℕ, zero, suc, _+_, _-_, _<_, _≤_, min}
 use native.Mathlib.Omega.{arith}
-use mathlib.Core.List.{List}
+use mathlib.Core.List.{List, [], _∷_}
 use mathlib.Core.Bool.{Bool, true, false, cond}
 use mathlib.Core.Logic.{⊎-elim}
 use mathlib.Core.Path.{_≡_, refl, sym, ap, _∙_}
 use lib.ListN.{length, getD, take, drop, drop-of-length-le}
 use Rattle.wire.specs.declared.writer.Writer.{Writer}
-use Rattle.wire.specs.Writer.{State, full, stateOf}
-use Rattle.wire.proofs.Writers.{lt-or-le, take-capped}
+use Rattle.wire.specs.Writer.{State, full, put, puts, stateOf}
+use Rattle.wire.proofs.Writers.{lt-or-le, puts-append, take-capped}
 use Rattle.pack.specs.Names.{Name}
 use Rattle.pack.specs.RawNames.{rawName}
 use Rattle.pack.specs.Write.{Item}
 use Rattle.pack.specs.Intern.{putName, render}
 use Rattle.pack.proofs.Written.{render-full}
-use Rattle.machines.specs.Laid.{sliceOf}
-use Rattle.machines.specs.Emits.{lettersAt, packName}
+use Rattle.machines.specs.Laid.{prefixOf, sliceOf}
+use Rattle.machines.specs.Emits.{inRegion, lettersAt, packName}
 use Rattle.machines.proofs.TableLaws.{past-end}
 
 -- no such row; a row that is cut
@@ -68,3 +68,25 @@ left-same old F o m w n k e = go (w .full) refl e
     go : (b : Bool) → w .full ≡ b → k ≡ cond b 0 n → render old (F k) (stateOf o m w) ≡ render old (F n) (stateOf o m w)
     go true f g = ap (render old (F k)) (full-is o m w f) ∙ render-full old (F k) ∙ sym (ap (render old (F n)) (full-is o m w f) ∙ render-full old (F n))
     go false f g = ap (λ (j : ℕ). render old (F j) (stateOf o m w)) g
+
+-- the prefix of a name, by whether there is one
+no-prefix : (n : Name) (s : State) → length n ≡ 0 → s ≡ puts (prefixOf n) s
+unfolding prefixOf puts
+no-prefix [] s h = refl
+no-prefix (x ∷ xs) s h = absurd (omega arith)
+
+pub prefix-none : (n k : Name) (s : State) → n ≡ k → length n ≡ 0 → s ≡ puts (prefixOf k) s
+prefix-none n k s e h = no-prefix n s h ∙ ap (λ (p : Name). puts (prefixOf p) s) e
+
+a-prefix : (n : Name) (s : State) → (length n ≡ 0 → ⊥) → put 95 (puts n s) ≡ puts (prefixOf n) s
+unfolding prefixOf puts
+a-prefix [] s h = absurd (h refl)
+a-prefix (x ∷ xs) s h = sym (puts-append (x ∷ xs) (95 ∷ []) s)
+
+pub prefix-some : (n k : Name) (s : State) → n ≡ k → (length n ≡ 0 → ⊥) → put 95 (puts n s) ≡ puts (prefixOf k) s
+prefix-some n k s e h = a-prefix n s h ∙ ap (λ (p : Name). puts (prefixOf p) s) e
+
+pub qualified-is : (sb spots t lets n : List ℕ) (q x : ℕ) (s : State) → n ≡ packName sb spots x → puts n (puts (prefixOf (lettersAt t lets q)) s) ≡ puts (inRegion sb spots t lets q x) s
+unfolding inRegion
+qualified-is sb spots t lets n q x s e =
+    ap (λ (k : List ℕ). puts k (puts (prefixOf (lettersAt t lets q)) s)) e ∙ sym (puts-append (prefixOf (lettersAt t lets q)) (packName sb spots x) s)

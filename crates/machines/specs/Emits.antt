@@ -26,13 +26,17 @@ packName s spots x = rawName s (getD spots x 0)
 -- a part of a conditional chain with n parts after it: the last has no test
 unfoldable pub lastOr : ℕ → List Item → List Item → List Item → List Item
 lastOr zero test value chain = value
-lastOr (suc n) test value chain = raw (4 ∷ []) ∷ (test ++ (value ++ chain))
+lastOr (suc n) test value chain = test ++ (value ++ chain)
 
 -- words, letters
 module _ (t lets : List ℕ) where
   -- the letters of a row: a state's name; the name of the refined state whose region this is
   unfoldable pub lettersAt : ℕ → Name
   lettersAt p = sliceOf lets (getD t (p + 2) 0) (getD t (p + 3) 0)
+
+  -- whether the region at the word q is in the state at the word p, as the test of a conditional
+  unfoldable pub testT : ℕ → ℕ → List Item
+  testT q p = raw (4 ∷ []) ∷ exprItems (isName (stateVar (getD t (q + 5) 0)) (lettersAt p))
 
   -- the names of n states from the word p on
   unfoldable pub variantsT : ℕ → ℕ → List Item
@@ -78,7 +82,7 @@ module _ (s spots t lets : List ℕ) where
     unfoldable pub chainT : ℕ → ℕ → ℕ → List Item
     chainT q zero p = exprItems (eVar (stateVar (getD t (q + 5) 0)))
     chainT q (suc n) p =
-        lastOr n (exprItems (isName (stateVar (getD t (q + 5) 0)) (lettersAt t lets p))) (transitionsT q p) (chainT q n (getD t (p + 4) 0))
+        lastOr n (testT t lets q p) (transitionsT q p) (chainT q n (getD t (p + 4) 0))
 
     -- a region's next state: an inner region that is not active stays
     unfoldable pub nextRhsT : ℕ → List Item
