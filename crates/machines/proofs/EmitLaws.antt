@@ -152,3 +152,6 @@ left-less w n k l e = go (w .full) e
     go : (b : Bool) → k ≡ cond b 0 (n - 1) → k < n
     go true f = omega arith
     go false f = omega arith
+
+pub below : (k n : ℕ) → suc k < n → 0 < n
+below k n h = omega arith

@@ -23,3 +23,4 @@ pub mod SectionLaws
 pub mod SectionExample
 pub mod RowLaws
 pub mod EmitLaws
+pub mod RegionLaws

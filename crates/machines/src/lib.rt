@@ -13,3 +13,4 @@ pub mod rows; // the layout as it is read
 pub mod enums; // the enums of regions
 pub mod qualified; // names as they are called in a region
 pub mod chains; // the next state of a region
+pub mod regions; // the equations of regions
