@@ -80,7 +80,7 @@ module _ (buf n : List ℕ) (v : Writer) (e : stateOf buf [] v ≡ puts n (st 25
       absurd (let z : _≡_ {A = ℕ} 0 1 = cc in omega arith))
       (lt-or-le 255 (length n))
 
-  built-at : v .full ≡ false → take (v .at) buf ≡ n
+  built-at : v .full ≡ false → (take (v .at) buf ≡ n) × (length buf ≡ 255)
   unfolding stateOf
   built-at f = ⊎-elim
       (λ (o : 255 < length n).
@@ -88,11 +88,11 @@ module _ (buf n : List ℕ) (v : Writer) (e : stateOf buf [] v ≡ puts n (st 25
       absurd (let z : _≡_ {A = ℕ} 0 1 = cc in omega arith))
       (λ (o : length n ≤ 255).
       let g : st (length buf) 0 (take (v .at) buf) (take (v .made) []) ≡ st 255 0 n [] = rw (f, le-leb _ _ o) at text-fit in
-      cc)
+      (cc, cc))
       (lt-or-le 255 (length n))
 
-  pub built-text : (k : ℕ) → v .full ≡ false → k ≡ min (0 + v .at) (length buf) → take k buf ≡ n
-  built-text k f h = take-part buf (v .at) k h ∙ built-at f
+  pub built-text : (k : ℕ) → v .full ≡ false → k ≡ min (0 + v .at) 255 → take k buf ≡ n
+  built-text k f h = take-part buf (v .at) k (h ∙ ap (min (0 + v .at)) (sym (built-at f .1))) ∙ built-at f .0
 
 -- a region's state, by whether its initial state's name is too long
 module _ (old sb spots t lets : List ℕ) where
