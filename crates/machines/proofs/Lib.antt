@@ -24,3 +24,4 @@ pub mod SectionExample
 pub mod RowLaws
 pub mod EmitLaws
 pub mod RegionLaws
+pub mod EnumsEmitted
