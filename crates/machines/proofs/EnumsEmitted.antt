@@ -31,7 +31,7 @@ module _ (ns : List Name) (s t reg lets : List ℕ) where
 
     pub idS : {pre : Name} {up l n p i q j : ℕ} (ss : States) → HeldS ns s t reg lets pre up l n p i ss q j → j ≡ i + sizeS ss
     idS sNil (hEnd a b) = omega (arith, b)
-    idS (sCons nn es ts rs rest) (hMore row d to f sl tt rg st) = ids-add _ (sizeR rs) (sizeS rest) _ _ (idR rs rg) (idS rest st)
+    idS (sCons nn es ts rs rest) (hMore row d to f sl ms rg st) = ids-add _ (sizeR rs) (sizeS rest) _ _ (idR rs rg) (idS rest st)
 
     pub idR : {up st l k p i q j : ℕ} (rs : Regions) → HeldR ns s t reg lets up st l k p i rs q j → j ≡ i + sizeR rs
     idR rNil (gEnd a b) = omega (arith, b)
@@ -50,12 +50,12 @@ module _ (ns : List Name) (s t reg lets : List ℕ) where
   variants-held : {pre : Name} {up l n p i q j : ℕ} (ss : States) → HeldS ns s t reg lets pre up l n p i ss q j → variantsT t lets n p ≡ each nameItems (namesOf ss)
   unfolding namesOf each nameItems
   variants-held sNil (hEnd a b) = variants-end _
-  variants-held (sCons nn es ts rs rest) (hMore row d to f sl tt rg st) = variants-step _ _ nn _ row sl (variants-held rest st)
+  variants-held (sCons nn es ts rs rest) (hMore row d to f sl ms rg st) = variants-step _ _ nn _ row sl (variants-held rest st)
 
   pub count-held : {pre : Name} {up l n p i q j : ℕ} (ss : States) → HeldS ns s t reg lets pre up l n p i ss q j → n ≡ length (namesOf ss)
   unfolding namesOf
   count-held sNil (hEnd a b) = refl
-  count-held (sCons nn es ts rs rest) (hMore row d to f sl tt rg st) = ap suc (count-held rest st)
+  count-held (sCons nn es ts rs rest) (hMore row d to f sl ms rg st) = ap suc (count-held rest st)
 
   unfoldable enumFor : Name → ℕ → States → Enum
   enumFor m i ss = record { name = enumName m i; variants = namesOf ss }
@@ -96,7 +96,7 @@ module _ (ns : List Name) (s t reg lets : List ℕ) where
 
     pub enums-states : {pre : Name} {up l n p i q j : ℕ} (m : Name) (ss : States) → HeldS ns s t reg lets pre up l n p i ss q j → enumsT t lets reg m i (sizeS ss) ≡ each enumItems (enumsS m i ss)
     enums-states m sNil (hEnd a b) = enums-none m _
-    enums-states m (sCons nn es ts rs rest) (hMore row d to f sl tt rg st) =
+    enums-states m (sCons nn es ts rs rest) (hMore row d to f sl ms rg st) =
         enums-join m _ (sizeR rs) (sizeS rest) _ _ (λ k. enumsS m k rest) (idR rs rg) (enums-regions m rs rg) (enums-states m rest st)
 
     pub enums-regions : {up st l k p i q j : ℕ} (m : Name) (rs : Regions) → HeldR ns s t reg lets up st l k p i rs q j → enumsT t lets reg m i (sizeR rs) ≡ each enumItems (enumsR m i rs)

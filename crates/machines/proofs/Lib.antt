@@ -25,3 +25,4 @@ pub mod RowLaws
 pub mod EmitLaws
 pub mod RegionLaws
 pub mod EnumsEmitted
+pub mod ChainsEmitted
