@@ -26,3 +26,4 @@ pub mod EmitLaws
 pub mod RegionLaws
 pub mod EnumsEmitted
 pub mod ChainsEmitted
+pub mod EquationsEmitted
