@@ -1,6 +1,5 @@
 -- The next state that is written from the layout is that of the definition: equal in what every writer comes to.
 use Prim.Native.Nat.{ℕ, zero, suc, _+_, _-_, _<_}
-use native.Mathlib.Omega.{arith}
 use mathlib.Core.List.{List, [], _∷_, _++_}
 use mathlib.Core.Path.{_≡_, refl, sym, ap, _∙_}
 use lib.ListN.{length, getD}
@@ -8,21 +7,21 @@ use Rattle.wire.specs.Answer.{counted, many, u16, value}
 use Rattle.wire.specs.Writer.{State, puts}
 use Rattle.wire.proofs.Answers.{bind-value, map-value}
 use Rattle.pack.specs.Names.{Name}
-use Rattle.pack.specs.Syntax.{Equation, Expr, Regions, States, Transition, eIf, eVar, sCons, sNil}
+use Rattle.pack.specs.Syntax.{Equation, Expr, Regions, States, Transition, eVar, sCons, sNil}
 use Rattle.pack.specs.Forms.{nameAt}
 use Rattle.pack.specs.Read.{exprIn, nameIn, transitionIn}
-use Rattle.pack.specs.Write.{Item, exprItems, nm, raw}
+use Rattle.pack.specs.Write.{Item, exprItems, raw}
 use Rattle.pack.specs.Intern.{putItem, putName, render}
 use Rattle.pack.proofs.Interns.{render-append}
 use Rattle.machines.specs.MadeNames.{stateVar}
 use Rattle.machines.specs.Resolve.{prefixTransitions}
 use Rattle.machines.specs.Stands.{StateAt, endOf}
-use Rattle.machines.specs.Sure.{num, numberIn, with}
+use Rattle.machines.specs.Sure.{numberIn, with}
 use Rattle.machines.specs.Laid.{HeldS, StateRow, hEnd, hMore, prefixOf, sliceOf}
 use Rattle.machines.specs.Lower.{isName, nextChain, orElse, transitionsOf}
 use Rattle.machines.specs.Emits.{chainT, inRegion, lastOr, lettersAt, moveT, movesT, packName, testT, transitionsT}
 use Rattle.machines.proofs.Reading.{many-cut, many-more, many-over, name-number}
-use Rattle.machines.proofs.SureLaws.{end-to, number-num, number-to, then-to}
+use Rattle.machines.proofs.SureLaws.{end-to, number-to}
 use Rattle.machines.proofs.EnumsEmitted.{state-letters}
 
 -- two lists of items that every writer takes alike
@@ -63,7 +62,6 @@ move-value ns s at x q e =
 module _ (ns : List Name) (s spots t reg lets old : List ℕ)
     (named : (x : ℕ) → x < length ns → packName s spots x ≡ nameAt ns x)
     (copied : (a b : ℕ) (e : Expr) → exprIn ns s a ≡ value e b → (z : State) → render old (raw (sliceOf s a (b - a)) ∷ []) z ≡ render old (exprItems e) z) where
-
   -- a name in a region with the prefix pre
   pub in-region : (q x : ℕ) (pre n : Name) → prefixOf (lettersAt t lets q) ≡ pre → x < length ns → nameAt ns x ≡ n → inRegion s spots t lets q x ≡ pre ++ n
   unfolding inRegion

@@ -58,7 +58,6 @@ top-parts full ss = refl
 module _ (ns : List Name) (s spots t reg lets old : List ℕ)
     (named : (x : ℕ) → x < length ns → packName s spots x ≡ nameAt ns x)
     (copied : (a b : ℕ) (e : Expr) → exprIn ns s a ≡ value e b → (z : State) → render old (raw (sliceOf s a (b - a)) ∷ []) z ≡ render old (exprItems e) z) where
-
   region-prefix : {x y a m e i n st up : ℕ} (p : ℕ) (pre : Name) → RegionRow t p x y a m e i n st up → prefixOf (sliceOf lets a m) ≡ pre → prefixOf (lettersAt t lets p) ≡ pre
   region-prefix p pre row f = ap prefixOf (region-letters t lets p row) ∙ f
 

@@ -22,7 +22,8 @@ pub mod Shares
 pub mod SectionLaws
 pub mod SectionExample
 pub mod RowLaws
-pub mod EmitLaws
+pub mod EnumLaws
+pub mod ChainLaws
 pub mod RegionLaws
 pub mod EnumsEmitted
 pub mod ChainsEmitted

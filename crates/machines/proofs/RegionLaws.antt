@@ -27,7 +27,7 @@ use Rattle.machines.specs.Lower.{held, stateRhs}
 use Rattle.machines.specs.Equations.{activeEquation, stateEquation}
 use Rattle.machines.specs.Emits.{activeT, chainT, inRegion, lettersAt, nextRhsT, nextT, regionT, regionsT, stateT}
 use Rattle.machines.proofs.TermLaws.{held-term, state-equation, state-history, state-restart, var-term}
-use Rattle.machines.proofs.RowLaws.{full-is, left-same}
+use Rattle.machines.proofs.RowLaws.{left-same}
 
 -- the top region, an inner one
 pub active-none : (old t lets : List ℕ) (q id : ℕ) (s : State) → id ≡ getD t (q + 5) 0 → id ≡ 0 → s ≡ render old (activeT t lets q) s

@@ -1,5 +1,5 @@
 -- Laws of the layout as the code reads it: words, and parts that are cut at the end.
-use Prim.Native.Nat.{ℕ, zero, suc, _+_, _-_, _<_, _≤_, min}
+use Prim.Native.Nat.{ℕ, _+_, _-_, _<_, _≤_, min}
 use native.Mathlib.Omega.{arith}
 use mathlib.Core.List.{List, [], _∷_}
 use mathlib.Core.Bool.{Bool, true, false, cond}
@@ -54,7 +54,7 @@ pub name-out : (s spots x : List ℕ) (i at : ℕ) → at ≡ getD spots i 0 →
 unfolding packName rawName sliceOf
 name-out s spots x i at e h f = f ∙ ap (λ (n : ℕ). take n (drop (at + 1) s)) (past-end s at h) ∙ ap (rawName s) e
 
-pub full-is : (o m : List ℕ) (w : Writer) → w .full ≡ true → stateOf o m w ≡ full
+full-is : (o m : List ℕ) (w : Writer) → w .full ≡ true → stateOf o m w ≡ full
 unfolding stateOf
 full-is o m w e = rw e
 
@@ -68,6 +68,14 @@ left-same old F o m w n k e = go (w .full) refl e
     go : (b : Bool) → w .full ≡ b → k ≡ cond b 0 n → render old (F k) (stateOf o m w) ≡ render old (F n) (stateOf o m w)
     go true f g = ap (render old (F k)) (full-is o m w f) ∙ render-full old (F k) ∙ sym (ap (render old (F n)) (full-is o m w f) ∙ render-full old (F n))
     go false f g = ap (λ (j : ℕ). render old (F j) (stateOf o m w)) g
+
+-- what is left to do is no more than one less
+pub left-less : (w : Writer) (n k : ℕ) → 0 < n → k ≡ cond (w .full) 0 (n - 1) → k < n
+left-less w n k l e = go (w .full) e
+  where
+    go : (b : Bool) → k ≡ cond b 0 (n - 1) → k < n
+    go true f = omega arith
+    go false f = omega arith
 
 -- the prefix of a name, by whether there is one
 no-prefix : (n : Name) (s : State) → length n ≡ 0 → s ≡ puts (prefixOf n) s

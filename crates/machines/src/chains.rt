@@ -97,7 +97,20 @@ pub fn put_transitions(
 {
     let at = word(t, p, 1);
     let c = number(s, at);
-    put_moves(old, s, names, spots, t, lets, q, c.value, c.next, out, made, w)
+    put_moves(
+        old,
+        s,
+        names,
+        spots,
+        t,
+        lets,
+        q,
+        c.value,
+        c.next,
+        out,
+        made,
+        w,
+    )
 }
 
 // Whether the region at the word q is in the state at the word p, as the test of a conditional.

@@ -1,4 +1,4 @@
-use Rattle.machines.proofs.EmitLaws.{move-term}
+use Rattle.machines.proofs.ChainLaws.{move-term}
 use Rattle.pack.specs.Intern.{putName}
 use Rattle.wire.specs.Writer.{put, puts}
 use mathlib.Core.Path.{ap, _∙_}

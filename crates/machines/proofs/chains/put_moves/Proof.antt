@@ -1,4 +1,5 @@
-use Rattle.machines.proofs.EmitLaws.{left-less, moves-more, moves-none}
+use Rattle.machines.proofs.RowLaws.{left-less}
+use Rattle.machines.proofs.ChainLaws.{moves-more, moves-none}
 use Rattle.machines.specs.Emits.{movesT}
 use Rattle.pack.specs.Intern.{render}
 use Rattle.pack.specs.Names.{Name}

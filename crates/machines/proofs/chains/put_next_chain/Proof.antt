@@ -1,4 +1,5 @@
-use Rattle.machines.proofs.EmitLaws.{chain-from, chain-last, chain-more, chain-none, below, left-less}
+use Rattle.machines.proofs.RowLaws.{left-less}
+use Rattle.machines.proofs.ChainLaws.{below, chain-from, chain-last, chain-more, chain-none}
 use Rattle.machines.specs.Emits.{chainT}
 use Rattle.pack.specs.Intern.{render}
 use Rattle.pack.specs.Names.{Name}

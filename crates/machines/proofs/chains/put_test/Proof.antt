@@ -1,4 +1,4 @@
-use Rattle.machines.proofs.EmitLaws.{test-term}
+use Rattle.machines.proofs.ChainLaws.{test-term}
 use Rattle.pack.specs.Intern.{render}
 use mathlib.Core.Path.{ap, _∙_}
 use borrow.Author.Needs.{needs}

@@ -1,4 +1,4 @@
-use Rattle.machines.proofs.EmitLaws.{transitions-is}
+use Rattle.machines.proofs.ChainLaws.{transitions-is}
 use borrow.Author.Needs.{needs}
 use Rattle.machines.proofs.chains.put_transitions.Statement.{statement}
 use Rattle.machines.proofs.chains.put_transitions.Tie as tie

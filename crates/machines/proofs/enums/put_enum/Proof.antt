@@ -1,4 +1,4 @@
-use Rattle.machines.proofs.EmitLaws.{enum-term}
+use Rattle.machines.proofs.EnumLaws.{enum-term}
 use Rattle.pack.specs.Intern.{render}
 use Rattle.wire.specs.Writer.{puts}
 use mathlib.Core.Path.{ap, _∙_}

@@ -1,4 +1,5 @@
-use Rattle.machines.proofs.EmitLaws.{left-less, enums-more, enums-none}
+use Rattle.machines.proofs.RowLaws.{left-less}
+use Rattle.machines.proofs.EnumLaws.{enums-more, enums-none}
 use Rattle.machines.specs.Emits.{enumsT}
 use Rattle.pack.specs.Intern.{render}
 use Rattle.wire.specs.Writer.{stateOf}

@@ -5,7 +5,8 @@ use borrow.Author.Needs.{needs}
 use Rattle.wire.specs.Writer.{stateOf}
 use Rattle.pack.specs.Intern.{render}
 use Rattle.machines.specs.Emits.{variantsT}
-use Rattle.machines.proofs.EmitLaws.{left-less, variants-more, variants-none}
+use Rattle.machines.proofs.RowLaws.{left-less}
+use Rattle.machines.proofs.EnumLaws.{variants-more, variants-none}
 use Rattle.machines.proofs.enums.put_variants.Statement.{statement}
 use Rattle.machines.proofs.enums.put_variants.Tie as tie
 

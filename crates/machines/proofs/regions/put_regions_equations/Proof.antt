@@ -1,5 +1,5 @@
 use Rattle.machines.proofs.RegionLaws.{regions-more, regions-none}
-use Rattle.machines.proofs.EmitLaws.{left-less}
+use Rattle.machines.proofs.RowLaws.{left-less}
 use Rattle.machines.specs.Emits.{regionsT}
 use Rattle.pack.specs.Intern.{render}
 use Rattle.pack.specs.Names.{Name}
