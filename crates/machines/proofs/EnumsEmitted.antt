@@ -106,6 +106,11 @@ module _ (ns : List Name) (s t reg lets : List ℕ) where
         ∙ enums-first m _ _ (sizeS ss + sizeR rest) _ _ rg (enum-held m _ _ ss row st)
         (enums-join m _ (sizeS ss) (sizeR rest) _ _ (λ k. enumsR m k rest) (idS ss st) (enums-states m ss st) (enums-regions m rest more))
 
+-- a machine has as many regions as the layout counted
+pub regions-held : (ns : List Name) (s t reg lets : List ℕ) (x : Machine) (q j : ℕ) → HeldR ns s t reg lets 0 0 8 1 0 0 (rCons (x .initial) true (x .states) rNil) q j → j ≡ suc (sizeS (x .states))
+unfolding sizeR
+regions-held ns s t reg lets x q j h = omega (arith, idR ns s t reg lets (rCons (x .initial) true (x .states) rNil) h)
+
 -- the enums of a machine whose top region is held at the word 0
 pub enums-machine : (ns : List Name) (s t reg lets : List ℕ) (x : Machine) (q j : ℕ) → HeldR ns s t reg lets 0 0 8 1 0 0 (rCons (x .initial) true (x .states) rNil) q j → enumsT t lets reg (x .name) 0 (suc (sizeS (x .states))) ≡ each enumItems (enumsOf x)
 unfolding enumsOf enumsR sizeR

@@ -28,3 +28,4 @@ pub mod RegionLaws
 pub mod EnumsEmitted
 pub mod ChainsEmitted
 pub mod EquationsEmitted
+pub mod EmitExample
