@@ -90,6 +90,7 @@ module _ (s spots t lets : List ℕ) where
         cond (eqb (getD t (q + 5) 0) 0) (chainT q (getD t (q + 6) 0) (q + 9))
         (raw (4 ∷ []) ∷ (exprItems (eVar (activeVar (getD t (q + 5) 0))) ++ (chainT q (getD t (q + 6) 0) (q + 9) ++ exprItems (eVar (stateVar (getD t (q + 5) 0))))))
 
+    -- and the equation of it
     unfoldable pub nextT : ℕ → List Item
     nextT q = list nameItems (nextVar (getD t (q + 5) 0) ∷ []) ++ nextRhsT q
 

@@ -29,6 +29,7 @@ pub fn first(t: &[usize], q: usize) -> usize
     if q < t.len() { q + 9 } else { 0 }
 }
 
+// Whether two numbers are one.
 pub fn is(a: usize, b: usize) -> bool
     ensures { λ r. ⌜ r ≡ eqb a b ⌝ }
 {

@@ -1,8 +1,8 @@
-use Rattle.machines.proofs.ChainLaws.{move-term}
-use Rattle.pack.specs.Intern.{putName}
-use Rattle.wire.specs.Writer.{put, puts}
 use mathlib.Core.Path.{ap, _∙_}
 use borrow.Author.Needs.{needs}
+use Rattle.wire.specs.Writer.{put, puts}
+use Rattle.pack.specs.Intern.{putName}
+use Rattle.machines.proofs.ChainLaws.{move-term}
 use Rattle.machines.proofs.chains.put_move.Statement.{statement}
 use Rattle.machines.proofs.chains.put_move.Tie as tie
 

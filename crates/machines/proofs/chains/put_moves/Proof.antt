@@ -1,14 +1,14 @@
-use Rattle.machines.proofs.RowLaws.{left-less}
-use Rattle.machines.proofs.ChainLaws.{moves-more, moves-none}
-use Rattle.machines.specs.Emits.{movesT}
-use Rattle.pack.specs.Intern.{render}
-use Rattle.pack.specs.Names.{Name}
-use Rattle.wire.specs.Writer.{stateOf}
-use borrow.Author.Needs.{needs}
-use lib.ListN.{length}
+use Prim.Native.Nat.{ℕ}
 use mathlib.Core.Path.{_≡_, refl, _∙_}
 use mathlib.Core.List.{List}
-use Prim.Native.Nat.{ℕ}
+use lib.ListN.{length}
+use borrow.Author.Needs.{needs}
+use Rattle.wire.specs.Writer.{stateOf}
+use Rattle.pack.specs.Intern.{render}
+use Rattle.pack.specs.Names.{Name}
+use Rattle.machines.specs.Emits.{movesT}
+use Rattle.machines.proofs.RowLaws.{left-less}
+use Rattle.machines.proofs.ChainLaws.{moves-more, moves-none}
 use Rattle.machines.proofs.chains.put_moves.Statement.{statement}
 use Rattle.machines.proofs.chains.put_moves.Tie as tie
 

@@ -1,14 +1,14 @@
-use Rattle.machines.proofs.RowLaws.{left-less}
-use Rattle.machines.proofs.ChainLaws.{below, chain-from, chain-last, chain-more, chain-none}
-use Rattle.machines.specs.Emits.{chainT}
-use Rattle.pack.specs.Intern.{render}
-use Rattle.pack.specs.Names.{Name}
-use Rattle.wire.specs.Writer.{stateOf}
-use borrow.Author.Needs.{needs}
-use lib.ListN.{length}
+use Prim.Native.Nat.{ℕ}
 use mathlib.Core.Path.{_≡_, refl, _∙_}
 use mathlib.Core.List.{List}
-use Prim.Native.Nat.{ℕ}
+use lib.ListN.{length}
+use borrow.Author.Needs.{needs}
+use Rattle.wire.specs.Writer.{stateOf}
+use Rattle.pack.specs.Intern.{render}
+use Rattle.pack.specs.Names.{Name}
+use Rattle.machines.specs.Emits.{chainT}
+use Rattle.machines.proofs.RowLaws.{left-less}
+use Rattle.machines.proofs.ChainLaws.{below, chain-from, chain-last, chain-more, chain-none}
 use Rattle.machines.proofs.chains.put_next_chain.Statement.{statement}
 use Rattle.machines.proofs.chains.put_next_chain.Tie as tie
 

@@ -1,7 +1,7 @@
-use Rattle.machines.proofs.ChainLaws.{test-term}
-use Rattle.pack.specs.Intern.{render}
 use mathlib.Core.Path.{ap, _∙_}
 use borrow.Author.Needs.{needs}
+use Rattle.pack.specs.Intern.{render}
+use Rattle.machines.proofs.ChainLaws.{test-term}
 use Rattle.machines.proofs.chains.put_test.Statement.{statement}
 use Rattle.machines.proofs.chains.put_test.Tie as tie
 

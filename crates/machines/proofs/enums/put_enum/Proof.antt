@@ -1,8 +1,8 @@
-use Rattle.machines.proofs.EnumLaws.{enum-term}
-use Rattle.pack.specs.Intern.{render}
-use Rattle.wire.specs.Writer.{puts}
 use mathlib.Core.Path.{ap, _∙_}
 use borrow.Author.Needs.{needs}
+use Rattle.wire.specs.Writer.{puts}
+use Rattle.pack.specs.Intern.{render}
+use Rattle.machines.proofs.EnumLaws.{enum-term}
 use Rattle.machines.proofs.enums.put_enum.Statement.{statement}
 use Rattle.machines.proofs.enums.put_enum.Tie as tie
 

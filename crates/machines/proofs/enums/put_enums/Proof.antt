@@ -1,13 +1,13 @@
+use Prim.Native.Nat.{ℕ, _+_, _≤_}
+use native.Mathlib.Omega.{arith}
+use mathlib.Core.Path.{_≡_, refl, _∙_}
+use lib.ListN.{length}
+use borrow.Author.Needs.{needs}
+use Rattle.wire.specs.Writer.{stateOf}
+use Rattle.pack.specs.Intern.{render}
+use Rattle.machines.specs.Emits.{enumsT}
 use Rattle.machines.proofs.RowLaws.{left-less}
 use Rattle.machines.proofs.EnumLaws.{enums-more, enums-none}
-use Rattle.machines.specs.Emits.{enumsT}
-use Rattle.pack.specs.Intern.{render}
-use Rattle.wire.specs.Writer.{stateOf}
-use borrow.Author.Needs.{needs}
-use lib.ListN.{length}
-use mathlib.Core.Path.{_≡_, refl, _∙_}
-use native.Mathlib.Omega.{arith}
-use Prim.Native.Nat.{ℕ, _+_, _≤_}
 use Rattle.machines.proofs.enums.put_enums.Statement.{statement}
 use Rattle.machines.proofs.enums.put_enums.Tie as tie
 

@@ -1,5 +1,5 @@
-use Rattle.machines.proofs.RowLaws.{name-as}
 use borrow.Author.Needs.{needs}
+use Rattle.machines.proofs.RowLaws.{name-as}
 use Rattle.machines.proofs.enums.put_state_name.Statement.{statement}
 use Rattle.machines.proofs.enums.put_state_name.Tie as tie
 

@@ -1,8 +1,8 @@
-use Rattle.pack.proofs.Interns.{built-of}
-use Rattle.wire.specs.Writer.{puts}
 use mathlib.Core.List.{[]}
 use mathlib.Core.Path.{ap, _∙_}
 use borrow.Author.Needs.{needs}
+use Rattle.wire.specs.Writer.{puts}
+use Rattle.pack.proofs.Interns.{built-of}
 use Rattle.machines.proofs.qualified.put_in_region.Statement.{statement}
 use Rattle.machines.proofs.qualified.put_in_region.Tie as tie
 

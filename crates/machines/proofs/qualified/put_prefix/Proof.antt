@@ -1,7 +1,7 @@
-use Rattle.machines.proofs.RowLaws.{prefix-none, prefix-some}
-use Rattle.wire.specs.Writer.{put}
 use mathlib.Core.Path.{ap, _∙_}
 use borrow.Author.Needs.{needs}
+use Rattle.wire.specs.Writer.{put}
+use Rattle.machines.proofs.RowLaws.{prefix-none, prefix-some}
 use Rattle.machines.proofs.qualified.put_prefix.Statement.{statement}
 use Rattle.machines.proofs.qualified.put_prefix.Tie as tie
 

@@ -1,7 +1,7 @@
-use Rattle.machines.proofs.RowLaws.{qualified-is}
-use Rattle.wire.specs.Writer.{puts}
 use mathlib.Core.Path.{ap, _∙_}
 use borrow.Author.Needs.{needs}
+use Rattle.wire.specs.Writer.{puts}
+use Rattle.machines.proofs.RowLaws.{qualified-is}
 use Rattle.machines.proofs.qualified.put_qualified.Statement.{statement}
 use Rattle.machines.proofs.qualified.put_qualified.Tie as tie
 

@@ -1,6 +1,6 @@
-use Rattle.machines.proofs.RegionLaws.{active-none, active-some}
 use mathlib.Core.Path.{_∙_}
 use borrow.Author.Needs.{needs}
+use Rattle.machines.proofs.RegionLaws.{active-none, active-some}
 use Rattle.machines.proofs.regions.put_active.Statement.{statement}
 use Rattle.machines.proofs.regions.put_active.Tie as tie
 

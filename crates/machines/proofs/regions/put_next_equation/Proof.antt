@@ -1,7 +1,7 @@
-use Rattle.machines.proofs.RegionLaws.{next-equation}
-use Rattle.pack.specs.Intern.{render}
 use mathlib.Core.Path.{ap, _∙_}
 use borrow.Author.Needs.{needs}
+use Rattle.pack.specs.Intern.{render}
+use Rattle.machines.proofs.RegionLaws.{next-equation}
 use Rattle.machines.proofs.regions.put_next_equation.Statement.{statement}
 use Rattle.machines.proofs.regions.put_next_equation.Tie as tie
 

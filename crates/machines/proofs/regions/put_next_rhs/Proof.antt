@@ -1,7 +1,7 @@
-use Rattle.machines.proofs.RegionLaws.{next-inner, next-top}
-use Rattle.pack.specs.Intern.{render}
 use mathlib.Core.Path.{ap, _∙_}
 use borrow.Author.Needs.{needs}
+use Rattle.pack.specs.Intern.{render}
+use Rattle.machines.proofs.RegionLaws.{next-inner, next-top}
 use Rattle.machines.proofs.regions.put_next_rhs.Statement.{statement}
 use Rattle.machines.proofs.regions.put_next_rhs.Tie as tie
 

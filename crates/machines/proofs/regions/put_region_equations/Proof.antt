@@ -1,7 +1,7 @@
-use Rattle.machines.proofs.RegionLaws.{region-term}
-use Rattle.pack.specs.Intern.{render}
 use mathlib.Core.Path.{ap, _∙_}
 use borrow.Author.Needs.{needs}
+use Rattle.pack.specs.Intern.{render}
+use Rattle.machines.proofs.RegionLaws.{region-term}
 use Rattle.machines.proofs.regions.put_region_equations.Statement.{statement}
 use Rattle.machines.proofs.regions.put_region_equations.Tie as tie
 

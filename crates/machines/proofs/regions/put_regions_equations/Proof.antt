@@ -1,15 +1,15 @@
-use Rattle.machines.proofs.RegionLaws.{regions-more, regions-none}
-use Rattle.machines.proofs.RowLaws.{left-less}
-use Rattle.machines.specs.Emits.{regionsT}
-use Rattle.pack.specs.Intern.{render}
-use Rattle.pack.specs.Names.{Name}
-use Rattle.wire.specs.Writer.{stateOf}
-use borrow.Author.Needs.{needs}
-use lib.ListN.{length}
+use Prim.Native.Nat.{ℕ, _+_, _≤_}
+use native.Mathlib.Omega.{arith}
 use mathlib.Core.Path.{_≡_, refl, _∙_}
 use mathlib.Core.List.{List}
-use native.Mathlib.Omega.{arith}
-use Prim.Native.Nat.{ℕ, _+_, _≤_}
+use lib.ListN.{length}
+use borrow.Author.Needs.{needs}
+use Rattle.wire.specs.Writer.{stateOf}
+use Rattle.pack.specs.Intern.{render}
+use Rattle.pack.specs.Names.{Name}
+use Rattle.machines.specs.Emits.{regionsT}
+use Rattle.machines.proofs.RegionLaws.{regions-more, regions-none}
+use Rattle.machines.proofs.RowLaws.{left-less}
 use Rattle.machines.proofs.regions.put_regions_equations.Statement.{statement}
 use Rattle.machines.proofs.regions.put_regions_equations.Tie as tie
 

@@ -1,10 +1,10 @@
-use Rattle.machines.proofs.RegionLaws.{built-over, built-text, state-over, state-some}
-use Rattle.wire.specs.Writer.{puts}
-use lib.ListN.{length-take}
-use mathlib.Core.List.{[]}
 use native.Mathlib.Omega.{arith}
+use mathlib.Core.List.{[]}
 use mathlib.Core.Path.{ap, _∙_}
+use lib.ListN.{length-take}
 use borrow.Author.Needs.{needs}
+use Rattle.wire.specs.Writer.{puts}
+use Rattle.machines.proofs.RegionLaws.{built-over, built-text, state-over, state-some}
 use Rattle.machines.proofs.regions.put_state.Statement.{statement}
 use Rattle.machines.proofs.regions.put_state.Tie as tie
 

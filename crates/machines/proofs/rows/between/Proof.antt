@@ -1,5 +1,5 @@
-use Rattle.machines.proofs.RowLaws.{between-none}
 use borrow.Author.Needs.{needs}
+use Rattle.machines.proofs.RowLaws.{between-none}
 use Rattle.machines.proofs.rows.between.Statement.{statement}
 use Rattle.machines.proofs.rows.between.Tie as tie
 

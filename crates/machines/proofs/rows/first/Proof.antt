@@ -1,5 +1,5 @@
-use Rattle.machines.proofs.RowLaws.{first-none}
 use borrow.Author.Needs.{needs}
+use Rattle.machines.proofs.RowLaws.{first-none}
 use Rattle.machines.proofs.rows.first.Statement.{statement}
 use Rattle.machines.proofs.rows.first.Tie as tie
 

@@ -1,5 +1,5 @@
-use Rattle.machines.proofs.RowLaws.{letters-is}
 use borrow.Author.Needs.{needs}
+use Rattle.machines.proofs.RowLaws.{letters-is}
 use Rattle.machines.proofs.rows.letters.Statement.{statement}
 use Rattle.machines.proofs.rows.letters.Tie as tie
 

@@ -1,6 +1,6 @@
 use native.Mathlib.Omega.{arith}
-use Rattle.machines.proofs.RowLaws.{name-in, name-out}
 use borrow.Author.Needs.{needs}
+use Rattle.machines.proofs.RowLaws.{name-in, name-out}
 use Rattle.machines.proofs.rows.pack_name.Statement.{statement}
 use Rattle.machines.proofs.rows.pack_name.Tie as tie
 

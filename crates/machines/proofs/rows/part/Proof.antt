@@ -1,5 +1,5 @@
-use Rattle.machines.proofs.RowLaws.{part-is}
 use borrow.Author.Needs.{needs}
+use Rattle.machines.proofs.RowLaws.{part-is}
 use Rattle.machines.proofs.rows.part.Statement.{statement}
 use Rattle.machines.proofs.rows.part.Tie as tie
 

@@ -1,5 +1,5 @@
-use Rattle.machines.proofs.RowLaws.{word-cut, word-past}
 use borrow.Author.Needs.{needs}
+use Rattle.machines.proofs.RowLaws.{word-cut, word-past}
 use Rattle.machines.proofs.rows.word.Statement.{statement}
 use Rattle.machines.proofs.rows.word.Tie as tie
 
