@@ -14,6 +14,7 @@ pub mod Laid
 pub mod Lower
 pub mod Locals
 pub mod Equations
+pub mod Emits
 pub mod Checks
 pub mod Machines
 pub mod Sections
