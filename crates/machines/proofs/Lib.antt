@@ -5,6 +5,8 @@ pub mod TableLaws
 pub mod WalkLaws
 pub mod HeadLaws
 pub mod CoverLaws
+pub mod SpellLaws
+pub mod LayLaws
 pub mod NamesPlaced
 pub mod MachinesPlaced
 pub mod Lengths

@@ -53,7 +53,7 @@ fn fits(len: usize, a: usize, m: usize, at: usize, n: usize) -> bool
 
 // The prefix: m letters from a on, and `_`.
 fn put_prefix(lets: &mut [u8], a: usize, m: usize, at: usize)
-    requires { ⌜ (a + m ≤ at) × (at + m < length (now lets)) ⌝ }
+    requires { ⌜ (a + m ≤ at) × (at + leadOf m ≤ length (now lets)) ⌝ }
     ensures { λ r. ⌜ now (lets .exit) ≡ sets (now (lets .entry)) at (under (now (lets .entry)) a m) ⌝ }
 {
     if m == 0 {
@@ -101,9 +101,10 @@ pub fn spell(
     if !fits(lets.len(), a, m, at, n) {
         return 0;
     }
-    let w = lead(m) + n;
+    let f = lead(m);
+    let w = f + n;
     put_letter(lets, at, (w % 256) as u8);
     put_prefix(lets, a, m, at + 1);
-    put_name(s, spots, i, lets, at + 1 + lead(m));
+    put_name(s, spots, i, lets, at + 1 + f);
     w
 }
