@@ -9,6 +9,7 @@ use lib.Seq.{sets, getD-set-other, length-sets}
 use lib.Dec.{leb, ltb}
 use borrow.Author.Tests.{le-leb, lt-leb, le-ltb, lt-ltb, leb-true, ltb-false, ltb-true}
 use Rattle.machines.specs.Tables.{lenOf}
+use Rattle.machines.proofs.TableLaws.{past-end}
 use Rattle.machines.specs.Lays.{fitsAt, leadOf, spellLen, spelling, spelt, under, values}
 
 -- a run of stores: it leaves what is before it, and one more store at its end
@@ -168,3 +169,16 @@ module _ (s spots lets : List ℕ) (i a m at n : ℕ) (r : Bool) (told : r ≡ f
           letters
           ∙ ap (λ (j : ℕ). sets u j (spelling s spots i lets a m)) one
           ∙ ap (λ (q : List ℕ). sets q (suc at) (spelling s spots i lets a m)) (x ∙ ap (λ (j : ℕ). set lets at (j % 256)) size)
+
+-- a copy's start, and a name's end
+pub copied-none : (l src : List ℕ) (at a : ℕ) → l ≡ sets l at (values src a 0)
+unfolding values
+copied-none l src at a = refl
+
+pub name-none : (l s spots : List ℕ) (i at p : ℕ) → p ≡ getD spots i 0 → length s ≤ p → l ≡ sets l at (values s (suc (getD spots i 0)) (lenOf s spots i))
+unfolding lenOf
+name-none l s spots i at p e h = rw (← e, ← past-end s p h) (copied-none l s at (suc p))
+
+pub name-some : (l lets s spots : List ℕ) (i at p n k : ℕ) → p ≡ getD spots i 0 → n ≡ getD s p 0 → k ≤ n → n ≤ k → lets ≡ sets l at (values s (suc p) k) → lets ≡ sets l at (values s (suc (getD spots i 0)) (lenOf s spots i))
+unfolding lenOf
+name-some l lets s spots i at p n k e f x y g = let z : k ≡ n = omega arith in g ∙ ap (λ (j : ℕ). sets l at (values s (suc p) j)) (z ∙ f) ∙ ap (λ (j : ℕ). sets l at (values s (suc j) (getD s j 0))) e

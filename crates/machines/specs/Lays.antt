@@ -87,6 +87,10 @@ regionWords t p h a m id st up =
 abbrev pub lay : ℕ → ℕ → ℕ → ℕ → Bool → Lay
 lay q w r l g = record { next = q; words = w; regions = r; letters = l; hole = g }
 
+-- a state before its regions: offset, words, letters, how many regions follow, its name's first letter and length
+abbrev pub entered : ℕ → ℕ → ℕ → ℕ → ℕ → ℕ → Entered
+entered q w l n a m = record { next = q; words = w; letters = l; regions = n; letter = a; length = m }
+
 unfoldable pub movedTo : ℕ → Lay → Lay
 movedTo q c = lay q (c .words) (c .regions) (c .letters) (c .hole)
 
@@ -166,14 +170,13 @@ module _ (ns : List Name) (s : List ℕ) where
     -- what the code keeps of it
     unfoldable pub enteredOf : ℕ → ℕ → Board → Entered
     enteredOf a m b =
-        record {
-          next = regionsAt (b .c .next) .next;
-          words = sum (b .c .words) 6;
-          letters = sum (sum (b .c .letters) 1) (lettersOf a m b);
-          regions = regionsAt (b .c .next) .value;
-          letter = sum (b .c .letters) 1;
-          length = lettersOf a m b;
-        }
+        entered
+        (regionsAt (b .c .next) .next)
+        (sum (b .c .words) 6)
+        (sum (sum (b .c .letters) 1) (lettersOf a m b))
+        (regionsAt (b .c .next) .value)
+        (sum (b .c .letters) 1)
+        (lettersOf a m b)
 
     -- and where the initial state of the machine of a name is
     module _ (to : List ℕ) where

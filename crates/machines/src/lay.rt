@@ -1,5 +1,6 @@
 // Laying a resolved machine out in three tables: words of states and regions in preorder, the word of each region by its id,
 // the full names of states. What comes after looks at the tables alone, and meets no refinement and no prefix.
+use crate::cover::both;
 use crate::spell::spell;
 use crate::sure::after_equations;
 use crate::sure::after_transitions;
@@ -326,10 +327,8 @@ fn lay_region(
     if levels == 0 {
         return moved(c, 0);
     }
-    if h.states == 0 {
-        if c.hole {
-            return moved(c, h.next);
-        }
+    if both(h.states == 0, c.hole) {
+        return moved(c, h.next);
     }
     let mut e = open_region(t, reg, st, up, a, m, h, c);
     let mut n = h.states;

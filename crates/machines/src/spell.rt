@@ -98,13 +98,13 @@ pub fn spell(
     ensures { λ r. ⌜ (r ≡ spellLen (now (s .entry)) (now (spots .entry)) i (now (lets .entry)) a m at) × (now (lets .exit) ≡ spelt (now (s .entry)) (now (spots .entry)) i (now (lets .entry)) a m at) ⌝ }
 {
     let n = name_len(s, spots, i);
-    if !fits(lets.len(), a, m, at, n) {
-        return 0;
+    if fits(lets.len(), a, m, at, n) {
+        let f = lead(m);
+        let w = f + n;
+        put_letter(lets, at, (w % 256) as u8);
+        put_prefix(lets, a, m, at + 1);
+        put_name(s, spots, i, lets, at + 1 + f);
+        return w;
     }
-    let f = lead(m);
-    let w = f + n;
-    put_letter(lets, at, (w % 256) as u8);
-    put_prefix(lets, a, m, at + 1);
-    put_name(s, spots, i, lets, at + 1 + f);
-    w
+    0
 }

@@ -1,73 +1,62 @@
+use Rattle.machines.proofs.TableLaws.{len-is}
+use Rattle.machines.proofs.SpellLaws.{copied-more, copied-none, name-none, name-some}
+use Rattle.machines.specs.Lays.{values}
+use lib.Seq.{sets}
+use lib.ListN.{length}
+use mathlib.Core.Path.{_≡_, refl, _∙_}
+use Prim.Native.Nat.{_≤_, _-_, _+_, suc}
+use native.Mathlib.Omega.{arith}
+use borrow.Author.Needs.{needs}
 use Rattle.machines.proofs.spell.put_name.Statement.{statement}
 use Rattle.machines.proofs.spell.put_name.Tie as tie
-use Rattle.machines.proofs.spell.put_name.Reads as reads
-use Rattle.machines.proofs.spell.put_name.Lts as lts
-use Rattle.machines.proofs.spell.letter.Reads as letter-reads
-use Rattle.machines.proofs.spell.put_letter.Reads as put-letter-reads
-use Rattle.machines.proofs.table.byte.Reads as byte-reads
-use Rattle.machines.proofs.table.entry.Reads as entry-reads
 
 abbrev Inv-loop : tie.InvT-loop
-Inv-loop s spots i lets₀ at p n k₀ lets k = ?
+Inv-loop s spots i lets₀ at p n k₀ lets k = (k ≤ n) × (length lets ≡ length lets₀) × (lets ≡ sets lets₀ at (values s (suc p) k))
 
 abbrev μ-loop : tie.MeasureT-loop
-μ-loop s spots i lets₀ at p n k₀ lets k = ?
+μ-loop s spots i lets₀ at p n k₀ lets k = n - k
 
--- src/spell.rt:76:9
 entry-requires : tie.Need-entry-requires Inv-loop μ-loop
-entry-requires c κs = ?
+entry-requires c κs = search needs
 
--- src/spell.rt:78:9
 returns : tie.Need-returns Inv-loop μ-loop
-returns c = ?
+returns c = name-none (c .before .before .before .before .before .args .lets .now) (c .before .before .before .before .before .args .s .now) (c .before .before .before .before .before .args .spots .now) _ _ _ (c .before .entry .ensures) (c .if1 .taken)
 
--- src/spell.rt:80:9
 byte-requires : tie.Need-byte-requires Inv-loop μ-loop
-byte-requires c κs = ?
+byte-requires c κs = search needs
 
--- src/spell.rt:82:5
 loop-holds : tie.Need-loop-holds Inv-loop μ-loop
-loop-holds c = ?
+loop-holds c = (omega arith, refl, copied-none (c .before .before .before .before .before .before .args .lets .now) _ _ _)
 
--- src/spell.rt:83:26
 add-put-letter : tie.Need-add-put-letter Inv-loop μ-loop
-add-put-letter c = ?
+add-put-letter c = omega (arith, c .before .before .before .before .before .before .before .before .before .pre, len-is (c .before .before .before .before .before .before .before .before .before .args .s .now) (c .before .before .before .before .before .before .before .before .before .args .spots .now) _ _ _ (c .before .before .before .before .before .entry .ensures) (c .before .before .before .byte .ensures))
 
--- src/spell.rt:83:44
 add-letter : tie.Need-add-letter Inv-loop μ-loop
-add-letter c = ?
+add-letter c = search needs
 
--- src/spell.rt:83:44
 add-letter-2 : tie.Need-add-letter-2 Inv-loop μ-loop
-add-letter-2 c = ?
+add-letter-2 c = omega (arith, c .before .before .before .before .before .before .before .before .shared-slice-known .given (c .before .before .before .before .before .entry .result), c .before .before .before .byte .ensures)
 
--- src/spell.rt:83:34
 letter-requires : tie.Need-letter-requires Inv-loop μ-loop
-letter-requires c κs = ?
+letter-requires c κs = search needs
 
--- src/spell.rt:83:9
 put-letter-requires : tie.Need-put-letter-requires Inv-loop μ-loop
-put-letter-requires c κs = ?
+put-letter-requires c κs = search needs
 
--- src/spell.rt:84:9
 add-k : tie.Need-add-k Inv-loop μ-loop
-add-k c = ?
+add-k c = omega (arith, c .before .before .before .before .before .loop-test .taken)
 
--- src/spell.rt:82:5
 loop-less : tie.Need-loop-less Inv-loop μ-loop
-loop-less c = ?
+loop-less c = omega (arith, c .before .before .before .before .before .loop-test .taken)
 
--- src/spell.rt:82:5
 loop-again : tie.Need-loop-again Inv-loop μ-loop
-loop-again c = ?
+loop-again c = (omega (arith, c .before .before .before .before .before .loop-test .taken), c .before .before .put-letter .kept .0 ∙ c .before .before .before .before .before .before .loop .inv .1, copied-more (c .before .before .before .before .before .before .before .before .before .before .before .before .before .args .lets .now) (c .before .before .before .before .before .before .loop .lets) _ (c .before .before .before .before .before .before .before .before .before .before .before .before .before .args .s .now) _ (suc (c .before .before .before .before .before .before .before .before .before .entry .result)) (c .before .before .before .before .before .before .loop .k) _ _ (c .before .before .before .before .before .before .loop .inv .2) (omega arith) (c .before .before .before .letter .ensures) (c .before .before .put-letter .ensures))
 
--- src/spell.rt:72:1
 same-length : tie.Need-same-length Inv-loop μ-loop
-same-length c = ?
+same-length c = c .before .loop .inv .1
 
--- src/spell.rt:72:1
 returns-2 : tie.Need-returns-2 Inv-loop μ-loop
-returns-2 c = ?
+returns-2 c = name-some (c .before .before .before .before .before .before .before .before .args .lets .now) (c .before .loop .lets) (c .before .before .before .before .before .before .before .before .args .s .now) (c .before .before .before .before .before .before .before .before .args .spots .now) _ _ _ _ (c .before .loop .k) (c .before .before .before .before .entry .ensures) (c .before .before .byte .ensures) (c .before .loop .inv .0) (c .loop-test .left) (c .before .loop .inv .2)
 
 pub put-name-spec : {M : Type 1} → statement M
 put-name-spec =
