@@ -123,10 +123,10 @@ length-spelling s spots i l a m =
     ∙ ap (λ (j : ℕ). j + length (values s (suc (getD spots i 0)) (lenOf s spots i))) (length-under l a m)
     ∙ ap (λ (j : ℕ). leadOf m + j) (length-values s (suc (getD spots i 0)) (lenOf s spots i))
 
-chosen : {A : Type 0} (b : Bool) (x y : A) → b ≡ true → cond b x y ≡ x
+pub chosen : {A : Type 0} (b : Bool) (x y : A) → b ≡ true → cond b x y ≡ x
 chosen b x y e = rw e
 
-left-out : {A : Type 0} (b : Bool) (x y : A) → b ≡ false → cond b x y ≡ y
+pub left-out : {A : Type 0} (b : Bool) (x y : A) → b ≡ false → cond b x y ≡ y
 left-out b x y e = rw e
 
 module _ (s spots lets : List ℕ) (i a m at n : ℕ) (r : Bool) (told : r ≡ fitsAt (length lets) a m at (leadOf m + n)) (len : n ≡ lenOf s spots i) where
