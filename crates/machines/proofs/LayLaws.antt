@@ -3,7 +3,7 @@ use Prim.Native.Nat.{ℕ, zero, suc, _+_, _-_, _<_, _≤_}
 use native.Mathlib.Nat.{min-eq-left, min-eq-right}
 use native.Mathlib.Omega.{arith}
 use mathlib.Core.List.{List}
-use mathlib.Core.Bool.{Bool, true, false, cond, _&&_}
+use mathlib.Core.Bool.{Bool, true, false, _&&_}
 use mathlib.Core.Path.{_≡_, refl, sym, ap, _∙_}
 use lib.ListN.{length, getD, set}
 use lib.Dec.{eqb}
@@ -14,7 +14,7 @@ use Rattle.pack.specs.Names.{Name}
 use Rattle.pack.specs.Read.{equationsIn, transitionIn}
 use Rattle.machines.specs.declared.lay.Entered.{Entered}
 use Rattle.machines.specs.declared.lay.Lay.{Lay}
-use Rattle.machines.specs.declared.lay.Opening.{Opening}
+use Rattle.machines.specs.declared.opening.Opening.{Opening}
 use Rattle.machines.specs.declared.sure.Num.{Num}
 use Rattle.machines.specs.Laid.{holed}
 use Rattle.machines.specs.Stands.{endOf}

@@ -1,7 +1,7 @@
 -- Laying a resolved machine out: what the code does to its three tables, structural on the levels left.
 use Prim.Native.Nat.{ℕ, zero, suc, _+_, _%_, min}
 use mathlib.Core.List.{List, [], _∷_, _++_}
-use mathlib.Core.Bool.{Bool, true, false, cond, _&&_}
+use mathlib.Core.Bool.{Bool, false, cond, _&&_}
 use lib.ListN.{length, getD, set}
 use lib.Seq.{sets}
 use lib.Dec.{eqb, leb, ltb}
@@ -11,7 +11,7 @@ use Rattle.pack.specs.Names.{Name}
 use Rattle.pack.specs.Read.{equationsIn, transitionIn}
 use Rattle.machines.specs.declared.lay.Entered.{Entered}
 use Rattle.machines.specs.declared.lay.Lay.{Lay}
-use Rattle.machines.specs.declared.lay.Opening.{Opening}
+use Rattle.machines.specs.declared.opening.Opening.{Opening}
 use Rattle.machines.specs.declared.sure.Num.{Num}
 use Rattle.machines.specs.Laid.{holed}
 use Rattle.machines.specs.Stands.{endOf}

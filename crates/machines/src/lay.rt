@@ -1,22 +1,27 @@
 // Laying a resolved machine out in three tables: words of states and regions in preorder, the word of each region by its id,
 // the full names of states. What comes after looks at the tables alone, and meets no refinement and no prefix.
 use crate::cover::both;
+use crate::opening::Opening;
+use crate::opening::machine_as;
+use crate::opening::region_from;
+use crate::rows::put_region_words;
+use crate::rows::put_state_ends;
+use crate::rows::put_state_words;
+use crate::rows::put_word;
 use crate::spell::spell;
 use crate::sure::after_equations;
 use crate::sure::after_transitions;
 use crate::sure::number;
-use crate::sure::sure;
 use crate::table::entry;
 use crate::table::put;
 use pack::record::Pack;
-use wire::number::read_byte;
 ghost use mathlib.Core.List.{List};
 ghost use mathlib.Core.Path.{_≡_};
-ghost use Prim.Native.Nat.{ℕ, _+_, _≤_};
-ghost use lib.ListN.{length, set};
+ghost use Prim.Native.Nat.{ℕ, _≤_};
+ghost use lib.ListN.{length};
 ghost use Rattle.pack.specs.Names.{Name};
 ghost use Rattle.machines.specs.Laid.{holed};
-ghost use Rattle.machines.specs.Lays.{sum as sumOf, tally as tallyOf, board, closeState, enteredOf, layMachine, layRegion, layState, lay as laid, machineAs, movedTo, openRegion, openState, regionFrom, regionWords, stateWords, stateEnds};
+ghost use Rattle.machines.specs.Lays.{sum as sumOf, tally as tallyOf, board, closeState, enteredOf, lay as laid, layMachine, layRegion, layState, movedTo, openRegion, openState};
 
 // What laying out came to: the pack's offset after, how many words, regions and letters there are,
 // whether a region without states was met.
@@ -26,14 +31,6 @@ pub struct Lay {
     pub regions: usize,
     pub letters: usize,
     pub hole: bool,
-}
-
-// A region before its states.
-struct Opening {
-    initial: usize,
-    history: usize,
-    states: usize,
-    next: usize,
 }
 
 // A state before its regions: how far the pack was read and the tables are filled, how many regions follow,
@@ -58,85 +55,6 @@ fn sum(a: usize, b: usize) -> usize
         return 4294967296;
     }
     a + b
-}
-
-// The word k words after p.
-fn put_word(t: &mut [usize], p: usize, k: usize, v: usize)
-    ensures { λ r. ⌜ now (t .exit) ≡ set (now (t .entry)) (p + k) v ⌝ }
-{
-    if t.len() <= p {
-        return;
-    }
-    if k < t.len() - p {
-        t[p + k] = v;
-    }
-}
-
-fn put_state_words(t: &mut [usize], p: usize, at: usize, tr: usize, a: usize, n: usize)
-    ensures { λ r. ⌜ now (t .exit) ≡ stateWords (now (t .entry)) p at tr a n ⌝ }
-{
-    put(t, p, at);
-    put_word(t, p, 1, tr);
-    put_word(t, p, 2, a);
-    put_word(t, p, 3, n);
-}
-
-fn put_state_ends(t: &mut [usize], p: usize, q: usize, k: usize)
-    ensures { λ r. ⌜ now (t .exit) ≡ stateEnds (now (t .entry)) p q k ⌝ }
-{
-    put_word(t, p, 4, q);
-    put_word(t, p, 5, k);
-}
-
-fn put_region_words(
-    t: &mut [usize],
-    p: usize,
-    h: Opening,
-    a: usize,
-    m: usize,
-    id: usize,
-    st: usize,
-    up: usize,
-)
-    ensures { λ r. ⌜ now (t .exit) ≡ regionWords (now (t .entry)) p h a m id st up ⌝ }
-{
-    put(t, p, h.initial);
-    put_word(t, p, 1, h.history);
-    put_word(t, p, 2, a);
-    put_word(t, p, 3, m);
-    put_word(t, p, 5, id);
-    put_word(t, p, 6, h.states);
-    put_word(t, p, 7, st);
-    put_word(t, p, 8, up);
-}
-
-// A region that is drawn in a state.
-fn region_from(s: &[u8], at: usize) -> Opening
-    ensures { λ r. ⌜ r ≡ regionFrom (now (s .entry)) at ⌝ }
-{
-    let x = number(s, at);
-    let y = sure(read_byte(s, x.next));
-    let n = number(s, y.next);
-    Opening {
-        initial: x.value,
-        history: y.value,
-        states: n.value,
-        next: n.next,
-    }
-}
-
-// A machine's states as a region.
-fn machine_as(s: &[u8], history: usize, at: usize) -> Opening
-    ensures { λ r. ⌜ r ≡ machineAs (now (s .entry)) history at ⌝ }
-{
-    let x = number(s, at);
-    let n = number(s, x.next);
-    Opening {
-        initial: x.value,
-        history,
-        states: n.value,
-        next: n.next,
-    }
 }
 
 fn moved(c: Lay, next: usize) -> Lay

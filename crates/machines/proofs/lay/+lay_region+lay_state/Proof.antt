@@ -18,12 +18,12 @@ use Rattle.machines.proofs.lay.lay_state.Kinds as lay-state-kinds
 use Rattle.machines.proofs.lay.+lay_region+lay_state.Lts-lay_state as lay-state-lts
 use Rattle.machines.proofs.cover.both.Reads as both-reads
 use Rattle.machines.proofs.lay.close_state.Reads as close-state-reads
-use Rattle.machines.proofs.lay.machine_as.Reads as machine-as-reads
+use Rattle.machines.proofs.opening.machine_as.Reads as machine-as-reads
 use Rattle.machines.proofs.lay.moved.Reads as moved-reads
 use Rattle.machines.proofs.lay.open_region.Reads as open-region-reads
 use Rattle.machines.proofs.lay.open_state.Reads as open-state-reads
-use Rattle.machines.proofs.lay.put_word.Reads as put-word-reads
-use Rattle.machines.proofs.lay.region_from.Reads as region-from-reads
+use Rattle.machines.proofs.rows.put_word.Reads as put-word-reads
+use Rattle.machines.proofs.opening.region_from.Reads as region-from-reads
 use Rattle.machines.proofs.lay.tally.Reads as tally-reads
 use Rattle.machines.proofs.sure.number.Reads as number-reads
 use Rattle.machines.proofs.table.entry.Reads as entry-reads

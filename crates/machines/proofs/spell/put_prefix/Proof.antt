@@ -3,7 +3,7 @@ use Rattle.machines.specs.Lays.{values}
 use lib.Seq.{sets}
 use lib.ListN.{length}
 use mathlib.Core.Path.{_≡_, refl, _∙_}
-use Prim.Native.Nat.{_≤_, _-_, _+_, suc}
+use Prim.Native.Nat.{_≤_, _-_, _+_}
 use native.Mathlib.Omega.{arith}
 use borrow.Author.Needs.{needs}
 use Rattle.machines.proofs.spell.put_prefix.Statement.{statement}

@@ -1,8 +1,8 @@
 use Rattle.machines.proofs.SureLaws.{byte-is}
 use Rattle.machines.proofs.LayLaws.{region-from}
 use borrow.Author.Needs.{needs}
-use Rattle.machines.proofs.lay.region_from.Statement.{statement}
-use Rattle.machines.proofs.lay.region_from.Tie as tie
+use Rattle.machines.proofs.opening.region_from.Statement.{statement}
+use Rattle.machines.proofs.opening.region_from.Tie as tie
 
 number-requires : tie.Need-number-requires
 number-requires c κs = search needs

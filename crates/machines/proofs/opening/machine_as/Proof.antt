@@ -1,7 +1,7 @@
 use Rattle.machines.proofs.LayLaws.{machine-as}
 use borrow.Author.Needs.{needs}
-use Rattle.machines.proofs.lay.machine_as.Statement.{statement}
-use Rattle.machines.proofs.lay.machine_as.Tie as tie
+use Rattle.machines.proofs.opening.machine_as.Statement.{statement}
+use Rattle.machines.proofs.opening.machine_as.Tie as tie
 
 number-requires : tie.Need-number-requires
 number-requires c κs = search needs
