@@ -7,6 +7,7 @@ pub mod HeadLaws
 pub mod CoverLaws
 pub mod SpellLaws
 pub mod LayLaws
+pub mod Spelled
 pub mod NamesPlaced
 pub mod MachinesPlaced
 pub mod Lengths
