@@ -8,6 +8,7 @@ pub mod CoverLaws
 pub mod SpellLaws
 pub mod LayLaws
 pub mod Spelled
+pub mod Grown
 pub mod NamesPlaced
 pub mod MachinesPlaced
 pub mod Lengths
