@@ -1,20 +1,19 @@
 -- Laying out adds to the tables: what they held before stays, and no count falls.
 use Prim.Native.Nat.{ℕ, zero, suc, _+_, _%_, _<_, _≤_}
 use native.Mathlib.Omega.{arith}
-use native.Mathlib.Nat.{le-refl, le-trans, min-eq-left, min-eq-right}
+use native.Mathlib.Nat.{le-refl, le-trans}
 use mathlib.Core.List.{List, _∷_}
 use mathlib.Core.Bool.{Bool, true, false, cond, _&&_}
-use mathlib.Core.Path.{_≡_, refl, sym, ap, subst, _∙_}
+use mathlib.Core.Path.{_≡_, refl, _∙_}
 use lib.ListN.{length, getD, set, length-set}
 use lib.Seq.{getD-set-other, length-sets, sets}
 use lib.Dec.{eqb, leb}
 use borrow.Author.Tests.{leb-false, leb-true}
 use Rattle.pack.specs.Limits.{absent}
 use Rattle.pack.specs.Names.{Name}
-use Rattle.machines.specs.declared.lay.Lay.{Lay}
 use Rattle.machines.specs.declared.opening.Opening.{Opening}
 use Rattle.machines.specs.Sure.{numberIn, with}
-use Rattle.machines.specs.Lays.{Board, board, closeRegion, closeState, fed, fitsAt, inner, lay, layRegion, layState, lettersOf, machineAs, movedTo, nameNumber, openRegion, openState, passed, refineB, regionB, regionFrom, regionWords, spelling, spelt, stateEnds, stateWords, sum, tally, times}
+use Rattle.machines.specs.Lays.{Board, board, closeRegion, closeState, fed, fitsAt, inner, layRegion, layState, lettersOf, machineAs, movedTo, nameNumber, openRegion, openState, passed, refineB, regionB, regionFrom, regionWords, spelling, spelt, stateEnds, stateWords, sum, tally, times}
 use Rattle.machines.proofs.LayLaws.{sum-full, sum-small}
 use Rattle.machines.proofs.SpellLaws.{sets-before}
 
@@ -52,7 +51,7 @@ grown-same b = record {
   lets-kept = λ j h. refl;
   t-size = refl;
   reg-size = refl;
-  lets-size = refl
+  lets-size = refl;
 }
 
 pub grown-on : (b d e : Board) → Grown b d → Grown d e → Grown b e
@@ -65,7 +64,7 @@ grown-on b d e g h = record {
   lets-kept = λ j l. h .lets-kept j (le-trans l (g .letters)) ∙ g .lets-kept j l;
   t-size = h .t-size ∙ g .t-size;
   reg-size = h .reg-size ∙ g .reg-size;
-  lets-size = h .lets-size ∙ g .lets-size
+  lets-size = h .lets-size ∙ g .lets-size;
 }
 
 reaches-on : (b d e : Board) → Grown b d → Reaches d e → Reaches b e
@@ -164,7 +163,7 @@ passed-grows q b s = (
     lets-kept = λ j h. refl;
     t-size = refl;
     reg-size = refl;
-    lets-size = refl
+    lets-size = refl;
   },
 )
 
@@ -181,7 +180,7 @@ close-state-grows b d k q (s, g) = (
     lets-kept = g .lets-kept;
     t-size = state-ends-size (d .t) (b .c .words) (d .c .words) k ∙ g .t-size;
     reg-size = g .reg-size;
-    lets-size = g .lets-size
+    lets-size = g .lets-size;
   },
 )
 
@@ -198,7 +197,7 @@ close-region-grows b d (s, g) = (
     lets-kept = g .lets-kept;
     t-size = length-set (d .t) (b .c .words + 4) (d .c .words) ∙ g .t-size;
     reg-size = g .reg-size;
-    lets-size = g .lets-size
+    lets-size = g .lets-size;
   },
 )
 
@@ -217,7 +216,7 @@ open-region-grows st up a m h b s =
         lets-kept = λ j l. refl;
         t-size = region-words-size (b .t) (b .c .words) h a m (b .c .regions) st up;
         reg-size = length-set (b .reg) (b .c .regions) (b .c .words);
-        lets-size = refl
+        lets-size = refl;
       },
     )
 
@@ -238,7 +237,7 @@ module _ (ns : List Name) (s spots : List ℕ) where
           lets-kept = λ j h. spelt-kept s spots (nameNumber ns s (b .c .next)) (b .lets) a m (b .c .letters) j h;
           t-size = state-words-size (b .t) (b .c .words) (b .c .next) _ (sum (b .c .letters) 1) (lettersOf ns s spots a m b);
           reg-size = refl;
-          lets-size = spelt-sized s spots (nameNumber ns s (b .c .next)) (b .lets) a m (b .c .letters)
+          lets-size = spelt-sized s spots (nameNumber ns s (b .c .next)) (b .lets) a m (b .c .letters);
         },
       )
 
@@ -254,9 +253,9 @@ module _ (ns : List Name) (s spots : List ℕ) where
     unfolding layState regionB
     state-grows rec g up a m b z =
         inner-grows b (regionB ns s spots to rec (b .c .words) up a m) (refineB ns s spots to rec (b .c .words) up (sum (b .c .letters) 1) (lettersOf ns s spots a m b))
-            (λ d y. g (b .c .words) up a m (regionFrom s (d .c .next)) d y)
-            (λ k d y. refine-grows rec g b up (sum (b .c .letters) 1) (lettersOf ns s spots a m b) k d y)
-            _ 0 (openState ns s spots a m b) (open-state-grows a m b z)
+        (λ d y. g (b .c .words) up a m (regionFrom s (d .c .next)) d y)
+        (λ k d y. refine-grows rec g b up (sum (b .c .letters) 1) (lettersOf ns s spots a m b) k d y)
+        _ 0 (openState ns s spots a m b) (open-state-grows a m b z)
 
     pub region-grows : (l st up a m : ℕ) (h : Opening) → Growing (layRegion ns s spots to l st up a m h)
     unfolding layRegion
