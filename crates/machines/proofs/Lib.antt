@@ -9,7 +9,7 @@ pub mod SpellLaws
 pub mod LayLaws
 pub mod Spelled
 pub mod Grown
-pub mod RowLaws
+pub mod WordLaws
 pub mod NamesPlaced
 pub mod MachinesPlaced
 pub mod Lengths

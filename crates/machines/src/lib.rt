@@ -7,7 +7,7 @@ pub mod walk; // resolving, which counts states and makes no tree
 pub mod cover; // whether a resolved machine's states give an output
 pub mod spell; // full names of states, as letters
 pub mod opening; // a region before its states
-pub mod rows; // the words of a state and of a region
+pub mod words; // the words of a state and of a region
 pub mod lay; // a resolved machine in three tables
 pub mod made; // the names that lowering makes
 pub mod locals; // the locals made for regions

@@ -22,7 +22,7 @@ use Rattle.machines.proofs.opening.machine_as.Reads as machine-as-reads
 use Rattle.machines.proofs.lay.moved.Reads as moved-reads
 use Rattle.machines.proofs.lay.open_region.Reads as open-region-reads
 use Rattle.machines.proofs.lay.open_state.Reads as open-state-reads
-use Rattle.machines.proofs.rows.put_word.Reads as put-word-reads
+use Rattle.machines.proofs.words.put_word.Reads as put-word-reads
 use Rattle.machines.proofs.opening.region_from.Reads as region-from-reads
 use Rattle.machines.proofs.lay.tally.Reads as tally-reads
 use Rattle.machines.proofs.sure.number.Reads as number-reads

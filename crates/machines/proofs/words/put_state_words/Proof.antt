@@ -1,7 +1,7 @@
 use Rattle.machines.proofs.LayLaws.{state-words}
 use borrow.Author.Needs.{needs}
-use Rattle.machines.proofs.rows.put_state_words.Statement.{statement}
-use Rattle.machines.proofs.rows.put_state_words.Tie as tie
+use Rattle.machines.proofs.words.put_state_words.Statement.{statement}
+use Rattle.machines.proofs.words.put_state_words.Tie as tie
 
 put-requires : tie.Need-put-requires
 put-requires c κs = search needs

@@ -1,7 +1,7 @@
 use Rattle.machines.proofs.LayLaws.{region-words}
 use borrow.Author.Needs.{needs}
-use Rattle.machines.proofs.rows.put_region_words.Statement.{statement}
-use Rattle.machines.proofs.rows.put_region_words.Tie as tie
+use Rattle.machines.proofs.words.put_region_words.Statement.{statement}
+use Rattle.machines.proofs.words.put_region_words.Tie as tie
 
 put-requires : tie.Need-put-requires
 put-requires c κs = search needs

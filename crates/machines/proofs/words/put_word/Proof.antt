@@ -2,8 +2,8 @@ use native.Mathlib.Omega.{arith}
 use lib.Seq.{set-out}
 use mathlib.Core.Path.{sym}
 use borrow.Author.Needs.{needs}
-use Rattle.machines.proofs.rows.put_word.Statement.{statement}
-use Rattle.machines.proofs.rows.put_word.Tie as tie
+use Rattle.machines.proofs.words.put_word.Statement.{statement}
+use Rattle.machines.proofs.words.put_word.Tie as tie
 
 returns : tie.Need-returns
 returns c = sym (set-out (c .before .args .t .now) _ _ (omega (arith, c .if1 .taken)))

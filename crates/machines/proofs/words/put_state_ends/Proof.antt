@@ -1,7 +1,7 @@
 use Rattle.machines.proofs.LayLaws.{state-ends}
 use borrow.Author.Needs.{needs}
-use Rattle.machines.proofs.rows.put_state_ends.Statement.{statement}
-use Rattle.machines.proofs.rows.put_state_ends.Tie as tie
+use Rattle.machines.proofs.words.put_state_ends.Statement.{statement}
+use Rattle.machines.proofs.words.put_state_ends.Tie as tie
 
 put-word-requires : tie.Need-put-word-requires
 put-word-requires c κs = search needs
