@@ -5,6 +5,11 @@ pub mod TableLaws
 pub mod WalkLaws
 pub mod HeadLaws
 pub mod CoverLaws
+pub mod SpellLaws
+pub mod LayLaws
+pub mod Spelled
+pub mod Grown
+pub mod WordLaws
 pub mod NamesPlaced
 pub mod MachinesPlaced
 pub mod Lengths

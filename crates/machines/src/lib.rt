@@ -5,6 +5,10 @@ pub mod path; // the machines on the way from the top
 pub mod heads; // what a visit of a state needs, recorded once
 pub mod walk; // resolving, which counts states and makes no tree
 pub mod cover; // whether a resolved machine's states give an output
+pub mod spell; // full names of states, as letters
+pub mod opening; // a region before its states
+pub mod words; // the words of a state and of a region
+pub mod lay; // a resolved machine in three tables
 pub mod made; // the names that lowering makes
 pub mod locals; // the locals made for regions
 pub mod terms; // the fixed expressions of a region's equations

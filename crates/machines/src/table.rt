@@ -18,7 +18,7 @@ pub fn entry(t: &[usize], i: usize) -> usize
     if i < t.len() { t[i] } else { 0 }
 }
 
-fn put(t: &mut [usize], i: usize, v: usize)
+pub fn put(t: &mut [usize], i: usize, v: usize)
     ensures { λ r. ⌜ now (t .exit) ≡ set (now (t .entry)) i v ⌝ }
 {
     if i < t.len() {
@@ -27,7 +27,7 @@ fn put(t: &mut [usize], i: usize, v: usize)
 }
 
 // The byte at an offset, which for a name is its length.
-fn byte(s: &[u8], at: usize) -> usize
+pub fn byte(s: &[u8], at: usize) -> usize
     ensures { λ r. ⌜ r ≡ getD (now (s .entry)) at 0 ⌝ }
 {
     if at < s.len() { s[at] as usize } else { 0 }
