@@ -11,6 +11,7 @@ pub mod Same
 pub mod Heads
 pub mod Covers
 pub mod Laid
+pub mod Lays
 pub mod Lower
 pub mod Locals
 pub mod Equations

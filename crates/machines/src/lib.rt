@@ -9,3 +9,4 @@ pub mod made; // the names that lowering makes
 pub mod locals; // the locals made for regions
 pub mod terms; // the fixed expressions of a region's equations
 pub mod equations; // the equations that need no look at a region's states
+pub mod lay; // the resolved machine laid out
