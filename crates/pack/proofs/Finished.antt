@@ -3,8 +3,8 @@ use Prim.Native.Nat.{ℕ, _+_, _<_, _≤_, min}
 use native.Mathlib.Numerals.{add-one}
 use native.Mathlib.Omega.{arith}
 use mathlib.Core.Bool.{true, false}
-use mathlib.Core.Path.{_≡_, refl, _∙_}
-use mathlib.Core.List.{List, [], _++_}
+use mathlib.Core.Path.{_≡_, refl, sym, _∙_}
+use mathlib.Core.List.{List, [], _++_, append-assoc}
 use lib.ListN.{length, take, drop, set, getD, length-append}
 use lib.Seq.{paste, paste-suc, take-length, drop-drop, take-append-seam, drop-append-add}
 use borrow.Author.Tests.{lt-ltb, le-ltb}
@@ -14,20 +14,22 @@ use Rattle.wire.specs.Writer.{stateOf}
 use Rattle.wire.proofs.Writers.{take-part}
 use Rattle.pack.specs.Limits.{maxBytes}
 use Rattle.pack.specs.Intern.{table}
-use Rattle.pack.specs.Outcome.{Outcome, answers, writes, numberOf, valueOf, outputOf, Gives, begins, sized, packOf, answered}
+use Rattle.pack.specs.Outcome.{Outcome, answers, writes, numberOf, valueOf, outputOf, Gives, begins, overwritten, sized, packOf, answered}
 
 -- one byte more of a copy
 pub paste-turn : (d s e : List ℕ) (at j o : ℕ) → o ≡ at + j → e ≡ paste d at s j → at + j < length d → j < length s
     → set e o (getD s j 0) ≡ paste d at s (j + 1)
 paste-turn d s e at j o p q h g = rw (p, q, add-one) (paste-suc d at s j 0 h g)
 
-paste-seam : (p s x : List ℕ) → paste (p ++ drop (length p) x) (length p) s (length s) ≡ p ++ s ++ drop (length (p ++ s)) x
-paste-seam p s x = rw (take-append-seam, take-length, drop-append-add, drop-drop, length-append)
+-- a whole copy
+pub paste-whole : (d s e : List ℕ) (at j : ℕ) → j ≡ length s → e ≡ paste d at s j → e ≡ overwritten at s d
+unfolding overwritten
+paste-whole d s e at j p q = q ∙ rw (p, take-length) (append-assoc (take at d) s (drop (at + length s) d))
 
--- a whole copy after what stands there
-pub paste-begins : (d s e p x : List ℕ) (at j : ℕ) → j ≡ length s → e ≡ paste d at s j → length p ≡ at → d ≡ begins p x → e ≡ begins (p ++ s) x
-unfolding begins
-paste-begins d s e p x at j e₁ e₂ e₃ e₄ = e₂ ∙ rw (e₁, e₄, ← e₃) (paste-seam p s x)
+-- a copy after what the buffer begins with
+pub begins-more : (d e p s x : List ℕ) (at : ℕ) → length p ≡ at → d ≡ begins p x → e ≡ overwritten at s d → e ≡ begins (p ++ s) x
+unfolding begins overwritten
+begins-more d e p s x at g h q = q ∙ rw (h, ← g, take-append-seam, drop-append-add, drop-drop, length-append) (sym (append-assoc p s _))
 
 pub begins-none : (d : List ℕ) → d ≡ begins [] d
 unfolding begins

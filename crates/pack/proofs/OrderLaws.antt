@@ -1,20 +1,19 @@
 -- Laws of the order of names: names that rise are distinct, so one that is listed among them is new.
 use Prim.Native.Nat.{ℕ, _+_, _-_, _/_, _≤_, _<_, zero, suc}
 use native.Mathlib.Omega.{arith}
-use native.Mathlib.Nat.{eq-or-lt-of-le}
+use native.Mathlib.Nat.{sub-zero}
 use native.Mathlib.Numerals.{add-one}
-use mathlib.Core.List.{List, [], _∷_}
+use mathlib.Core.List.{List, [], _∷_, _++_, append-nil}
 use mathlib.Core.Bool.{Bool, true, false, cond, _&&_}
-use mathlib.Core.Logic.{⊎-elim}
 use mathlib.Core.Path.{_≡_, refl, sym, ap, subst, _∙_}
-use lib.ListN.{length, getD, set, take, drop, length-set}
-use lib.Seq.{drop-cons, getD-set-same, getD-set-other}
+use lib.ListN.{length, getD, set, take, drop, drop-of-length-le, length-append, length-replicate, length-set, length-take, List·getD-append, replicate, take-append-drop}
+use lib.Seq.{append-snoc, drop-cons, drop-drop, drop-set-lt, getD-take, length-take-le, take-nil, take-suc-set}
 use lib.Dec.{ltb, leb, eqb}
-use borrow.Author.Count.{below-more}
 use borrow.Author.Tests.{eq-eqb, eqb-true, ltb-true, ltb-false, le-leb, lt-leb, leb-true, lt-ltb, le-ltb, ne-eqb}
 use Rattle.pack.specs.Names.{Name, eqName, member}
 use Rattle.pack.specs.RawNames.{oneOf, rawEnd, rawName, rawNames}
-use Rattle.pack.specs.Distinct.{Lower, Rising, ahead, follower, here, lessName, listedAt, lower, sized, standing, there}
+use Rattle.pack.specs.Distinct.{Lower, Rising, ahead, firsts, follower, here, keptRising, lessName, listedAt, lower, reachOf, risingAfter, sized, standing, there}
+use Rattle.pack.specs.Outcome.{begins}
 use Rattle.pack.proofs.NameLaws.{raw-length}
 
 ahead-step : (s : List ℕ) (a b n : ℕ) → 0 < n → ahead s a b n ≡ cond (eqb (getD s a 0) (getD s b 0)) (ahead s (a + 1) (b + 1) (n - 1)) (ltb (getD s a 0) (getD s b 0))
@@ -98,35 +97,63 @@ lower-sized s a b e = lower-is _ _ e
 pub rising-none : (s ord : List ℕ) → Rising s ord 0
 rising-none s ord = record { few = omega arith; rises = λ k h. absurd (omega arith) }
 
-pub record Last (ord : List ℕ) (s : List ℕ) (j last : ℕ) : Type 0 where
-  pub is : 0 < j → last ≡ getD ord (j - 1) 0
-  pub stands : 0 < j → standing s last ≡ true
-
-pub last-none : (ord s : List ℕ) (last : ℕ) → Last ord s 0 last
-last-none ord s last = record { is = λ h. absurd (omega arith); stands = λ h. absurd (omega arith) }
-
-pub last-more : (ord s : List ℕ) (j last x : ℕ) → j < length ord → follower s j last x ≡ true → Last (set ord j x) s (j + 1) x
+-- a name that may follow is above the last one, where there is one
+follower-above : (s : List ℕ) (j last x : ℕ) → 0 < j → follower s j last x ≡ true → Lower (sized s last) (sized s x)
 unfolding follower
-last-more ord s j last x h e =
-    let f : j + 1 - 1 ≡ j = omega arith in
-    record { is = λ _. rw f (sym (getD-set-same ord j x 0 h)); stands = λ _. both _ _ e .0 }
-
-above : (s ord : List ℕ) (j last x : ℕ) → Rising s ord j → Last ord s j last → follower s j last x ≡ true → (i : ℕ) → i < j → Lower (sized s (getD ord i 0)) (sized s x)
-unfolding follower
-above s ord j last x r l e i h =
-    let p : 0 < j = omega arith in
+follower-above s j last x h e =
     let n : eqb j 0 ≡ false = ne-eqb j 0 (omega arith) in
     let m : lessName (rawName s last) (rawName s x) ≡ true = rw n at (both (standing s x) (cond (eqb j 0) true (lessName (rawName s last) (rawName s x))) e .1) in
-    let t : Lower (sized s (getD ord (j - 1) 0)) (sized s x) = subst (λ (o : ℕ). Lower (sized s o) (sized s x)) (l .is p) (lower-sized s last x m) in
-    ⊎-elim (λ (q : i ≡ j - 1). subst (λ (o : ℕ). Lower (sized s (getD ord o 0)) (sized s x)) (sym q) t) (λ q. lower-trans (r .rises (j - 1) (omega arith) i q) t) (eq-or-lt-of-le {n = i} {m = j - 1} (omega arith))
+    lower-sized s last x m
 
-pub rising-more : (s ord : List ℕ) (j last x : ℕ) → Rising s ord j → Last ord s j last → j < length ord → follower s j last x ≡ true → Rising s (set ord j x) (j + 1)
-rising-more s ord j last x r l h e =
-    let same : (i : ℕ) → i < j → getD (set ord j x) i 0 ≡ getD ord i 0 = λ i k. getD-set-other ord j i x 0 (λ q. omega arith) in
+follower-stands : (s : List ℕ) (j last x : ℕ) → follower s j last x ≡ true → standing s x ≡ true
+unfolding follower
+follower-stands s j last x e = both _ _ e .0
+
+-- all that is kept after the last one is above it
+rising-above : (s : List ℕ) (j last : ℕ) (xs : List ℕ) → 0 < j → (k : ℕ) → k < length (risingAfter s j last xs) → Lower (sized s last) (sized s (getD (risingAfter s j last xs) k 0))
+unfolding risingAfter
+rising-above s j last [] h k l = absurd (omega arith)
+rising-above s j last (x ∷ xs) h k l = go (follower s j last x) refl k l (rising-above s (j + 1) x xs (omega arith)) (rising-above s j last xs h)
+  where
+    go : (b : Bool) → follower s j last x ≡ b → (k : ℕ) → k < length (cond b (x ∷ risingAfter s (j + 1) x xs) (risingAfter s j last xs))
+        → ((i : ℕ) → i < length (risingAfter s (j + 1) x xs) → Lower (sized s x) (sized s (getD (risingAfter s (j + 1) x xs) i 0)))
+        → ((i : ℕ) → i < length (risingAfter s j last xs) → Lower (sized s last) (sized s (getD (risingAfter s j last xs) i 0)))
+        → Lower (sized s last) (sized s (getD (cond b (x ∷ risingAfter s (j + 1) x xs) (risingAfter s j last xs)) k 0))
+    go true e zero l f g = follower-above s j last x h e
+    go true e (suc k) l f g = lower-trans (follower-above s j last x h e) (f k (omega arith))
+    go false e k l f g = g k l
+
+-- so all that is kept rises
+rising-rises : (s : List ℕ) (j last : ℕ) (xs : List ℕ) (k : ℕ) → k < length (risingAfter s j last xs) → (i : ℕ) → i < k → Lower (sized s (getD (risingAfter s j last xs) i 0)) (sized s (getD (risingAfter s j last xs) k 0))
+unfolding risingAfter
+rising-rises s j last [] k l i h = absurd (omega arith)
+rising-rises s j last (x ∷ xs) k l i h = go (follower s j last x) k l i h (rising-above s (j + 1) x xs (omega arith)) (rising-rises s (j + 1) x xs) (rising-rises s j last xs)
+  where
+    go : (b : Bool) (k : ℕ) → k < length (cond b (x ∷ risingAfter s (j + 1) x xs) (risingAfter s j last xs)) → (i : ℕ) → i < k
+        → ((k : ℕ) → k < length (risingAfter s (j + 1) x xs) → Lower (sized s x) (sized s (getD (risingAfter s (j + 1) x xs) k 0)))
+        → ((k : ℕ) → k < length (risingAfter s (j + 1) x xs) → (i : ℕ) → i < k → Lower (sized s (getD (risingAfter s (j + 1) x xs) i 0)) (sized s (getD (risingAfter s (j + 1) x xs) k 0)))
+        → ((k : ℕ) → k < length (risingAfter s j last xs) → (i : ℕ) → i < k → Lower (sized s (getD (risingAfter s j last xs) i 0)) (sized s (getD (risingAfter s j last xs) k 0)))
+        → Lower (sized s (getD (cond b (x ∷ risingAfter s (j + 1) x xs) (risingAfter s j last xs)) i 0)) (sized s (getD (cond b (x ∷ risingAfter s (j + 1) x xs) (risingAfter s j last xs)) k 0))
+    go true zero l i h a f g = absurd (omega arith)
+    go true (suc k) l zero h a f g = a k (omega arith)
+    go true (suc k) l (suc i) h a f g = f k (omega arith) i (omega arith)
+    go false k l i h a f g = g k l i h
+
+-- what is kept rises in whatever slice it stands first
+pub kept-rising : (s : List ℕ) (room : ℕ) (xs d : List ℕ) → Rising s (begins (keptRising s room xs) d) (length (keptRising s room xs))
+unfolding begins keptRising
+kept-rising s room xs d =
+    let all = risingAfter s 0 0 xs in
+    let kept = take room all in
+    let size = length-take room all in
+    let is : (i : ℕ) → i < length kept → getD (kept ++ drop (length kept) d) i 0 ≡ getD all i 0 = λ i h. List·getD-append kept (drop (length kept) d) 0 i h ∙ getD-take room all i 0 (omega (arith, size)) in
     record {
-      few = simp length-set (omega arith);
-      rises = below-more (λ (k : ℕ). (i : ℕ) → i < k → Lower (sized s (getD (set ord j x) i 0)) (sized s (getD (set ord j x) k 0))) j (λ k m i n. rw (same k m, same i (omega arith)) (r .rises k m i n)) (λ i n. rw (same i n, getD-set-same ord j x 0 h) (above s ord j last x r l e i n));
+      few = simp length-append (omega arith);
+      rises = λ k h i l. rw (is k h, is i (omega arith)) (rising-rises s 0 0 xs k (omega (arith, size)) i l);
     }
+
+pub rising-is : (s ord : List ℕ) (n : ℕ) (kept d : List ℕ) → Rising s (begins kept d) (length kept) → n ≡ length kept → ord ≡ begins kept d → Rising s ord n
+rising-is s ord n kept d r e f = rw (e, f) r
 
 -- one of the first n offsets
 abbrev pub Among : List ℕ → ℕ → ℕ → Type 0
@@ -225,19 +252,101 @@ pub follows-not : (s : List ℕ) (j last x : ℕ) (b : Bool) → b ≡ standing 
 unfolding follower
 follows-not s j last x b e f = rw (← e, f)
 
--- what `keep_rising` has copied, into a slice of size m
-pub record Kept (s : List ℕ) (m : ℕ) (ord : List ℕ) (j last : ℕ) : Type 0 where
-  pub rising : Rising s ord j
-  pub above : Last ord s j last
-  pub size : length ord ≡ m
+-- where names end, a name at a time
+reach-step : (s : List ℕ) (n p : ℕ) → 0 < n → reachOf s n p ≡ cond (ltb p (length s)) (reachOf s (n - 1) (p + 1 + getD s p 0)) p
+unfolding reachOf
+reach-step s zero p h = absurd (omega arith)
+reach-step s (suc n) p h = let e : suc n - 1 ≡ n = omega arith in rw e
 
-pub kept-none : (s ord : List ℕ) (last : ℕ) → Kept s (length ord) ord 0 last
-kept-none s ord last = record { rising = rising-none s ord; above = last-none ord s last; size = refl }
+pub reach-went : (s : List ℕ) (n p b z : ℕ) → 0 < n → p < length s → b ≡ getD s p 0 → reachOf s n p ≡ z → reachOf s (n - 1) (p + 1 + b) ≡ z
+reach-went s n p b z h l e f = rw e (sym (rw (lt-ltb p (length s) l) at (reach-step s n p h)) ∙ f)
 
-pub kept-same : (s : List ℕ) (m : ℕ) (ord ord' : List ℕ) (j j' last last' : ℕ) → Kept s m ord j last → ord' ≡ ord → j' ≡ j → last' ≡ last → Kept s m ord' j' last'
-kept-same s m ord ord' j j' last last' r e f g = rw (e, f, g) r
+pub reach-past : (s : List ℕ) (n p z : ℕ) → 0 < n → length s ≤ p → reachOf s n p ≡ z → p ≡ z
+reach-past s n p z h l f = sym (rw (le-ltb p (length s) l) at (reach-step s n p h)) ∙ f
 
-pub kept-more : (s : List ℕ) (m : ℕ) (ord ord' : List ℕ) (j j' last x last' : ℕ) (b : Bool) → Kept s m ord j last → j < length ord → b ≡ follower s j last x → b ≡ true → ord' ≡ set ord j x → j' ≡ j + 1 → last' ≡ x → Kept s m ord' j' last'
-kept-more s m ord ord' j j' last x last' b r h t u e f g =
-    let w : follower s j last x ≡ true = sym t ∙ u in
-    rw (e, f, g) (record { rising = rising-more s ord j last x (r .rising) (r .above) h w; above = last-more ord s j last x h w; size = simp length-set (r .size) })
+pub reach-done : (s : List ℕ) (n p z : ℕ) → n ≤ 0 → reachOf s n p ≡ z → p ≡ z
+unfolding reachOf
+reach-done s zero p z h f = f
+reach-done s (suc n) p z h f = absurd (omega arith)
+
+-- the first n of a list
+pub firsts-length : (n : ℕ) (xs : List ℕ) → length (firsts n xs) ≡ n
+unfolding firsts
+firsts-length n xs = simp (length-take, length-append, length-replicate) (omega arith)
+
+zeros : (n k : ℕ) → _≡_ {A = ℕ} (getD (replicate n 0) k 0) 0
+zeros zero k = refl
+zeros (suc n) zero = refl
+zeros (suc n) (suc k) = zeros n k
+
+followed : (xs : List ℕ) (n k : ℕ) → getD (xs ++ replicate n 0) k 0 ≡ getD xs k 0
+followed [] n k = zeros n k
+followed (x ∷ xs) n zero = refl
+followed (x ∷ xs) n (suc k) = followed xs n k
+
+pub firsts-at : (n : ℕ) (xs : List ℕ) (k : ℕ) → k < n → getD (firsts n xs) k 0 ≡ getD xs k 0
+unfolding firsts
+firsts-at n xs k h = getD-take n (xs ++ replicate n 0) k 0 h ∙ followed xs n k
+
+-- what `keep_rising` has done with the first k of the offsets xs in a slice that held d: j of them are copied, the last is `last`
+pub record Kept (s xs d ord : List ℕ) (j last k : ℕ) : Type 0 where
+  pub size : length ord ≡ length d
+  pub few : j ≤ length d
+  pub rest : drop j ord ≡ drop j d
+  pub all : take j ord ++ take (length d - j) (risingAfter s j last (drop k xs)) ≡ keptRising s (length d) xs
+  pub stands : 0 < j → standing s last ≡ true
+
+pub kept-none : (s xs d : List ℕ) → Kept s xs d d 0 0 0
+unfolding keptRising
+kept-none s xs d = record { size = refl; few = omega arith; rest = refl; all = rw sub-zero; stands = λ h. absurd (omega arith) }
+
+rising-took : (s : List ℕ) (j last x : ℕ) (xs : List ℕ) → follower s j last x ≡ true → risingAfter s j last (x ∷ xs) ≡ x ∷ risingAfter s (j + 1) x xs
+unfolding risingAfter
+rising-took s j last x xs e = rw e
+
+rising-left : (s : List ℕ) (j last x : ℕ) (xs : List ℕ) → follower s j last x ≡ false → risingAfter s j last (x ∷ xs) ≡ risingAfter s j last xs
+unfolding risingAfter
+rising-left s j last x xs e = rw e
+
+-- the next offset is not kept
+pub kept-same : (s xs d ord ord' : List ℕ) (j j' last last' k k' x : ℕ) (b : Bool) → Kept s xs d ord j last k → k < length xs → x ≡ getD xs k 0 → b ≡ follower s j last x → b ≡ false → ord' ≡ ord → j' ≡ j → last' ≡ last → k' ≡ k + 1 → Kept s xs d ord' j' last' k'
+kept-same s xs d ord ord' j j' last last' k k' x b r h y t u e f g m =
+    let w : risingAfter s j last (drop (k + 1) xs) ≡ risingAfter s j last (drop k xs) = rw (add-one, drop-cons xs k 0 h, ← y) (sym (rising-left s j last x (drop (suc k) xs) (sym t ∙ u))) in
+    rw (e, f, g, m) (record { size = r .size; few = r .few; rest = r .rest; all = rw w (r .all); stands = r .stands })
+
+-- it is kept
+pub kept-more : (s xs d ord ord' : List ℕ) (j j' last last' k k' x : ℕ) (b : Bool) → Kept s xs d ord j last k → k < length xs → x ≡ getD xs k 0 → b ≡ follower s j last x → b ≡ true → j < length ord → ord' ≡ set ord j x → j' ≡ j + 1 → last' ≡ x → k' ≡ k + 1 → Kept s xs d ord' j' last' k'
+kept-more s xs d ord ord' j j' last last' k k' x b r h y t u l e f g m =
+    let z : follower s j last x ≡ true = sym t ∙ u in
+    let w : risingAfter s j last (drop k xs) ≡ x ∷ risingAfter s (j + 1) x (drop (suc k) xs) = rw (drop-cons xs k 0 h, ← y) (rising-took s j last x (drop (suc k) xs) z) in
+    let c : length d - j ≡ suc (length d - (j + 1)) = omega (arith, r .size) in
+    let v : take j ord ++ (x ∷ take (length d - (j + 1)) (risingAfter s (j + 1) x (drop (suc k) xs))) ≡ keptRising s (length d) xs = rw (w, c) at (r .all) in
+    let n : take (j + 1) (set ord j x) ≡ take j ord ++ (x ∷ []) = rw add-one (take-suc-set ord j x l) in
+    let o : drop (j + 1) ord ≡ drop (j + 1) d = sym (drop-drop 1 j ord) ∙ ap (drop 1) (r .rest) ∙ drop-drop 1 j d in
+    rw (e, f, g, m)
+    (record {
+      size = simp length-set (r .size);
+      few = omega (arith, r .size);
+      rest = drop-set-lt (j + 1) ord j x (omega arith) ∙ o;
+      all = rw (n, append-snoc, add-one k) v;
+      stands = λ _. follower-stands s j last x z;
+    })
+
+kept-whole : (s xs d ord : List ℕ) (j last k : ℕ) → Kept s xs d ord j last k → take j ord ≡ keptRising s (length d) xs → (j ≡ length (keptRising s (length d) xs)) × (ord ≡ begins (keptRising s (length d) xs) d)
+unfolding begins
+kept-whole s xs d ord j last k r e =
+    let n : j ≡ length (keptRising s (length d) xs) = sym (length-take-le j ord (omega (arith, r .few, r .size))) ∙ ap length e in
+    (n, sym (take-append-drop j ord) ∙ rw (e, r .rest, ← n))
+
+-- there is no more room
+pub kept-full : (s xs d ord : List ℕ) (j last k : ℕ) → Kept s xs d ord j last k → length ord ≤ j → (j ≡ length (keptRising s (length d) xs)) × (ord ≡ begins (keptRising s (length d) xs) d)
+kept-full s xs d ord j last k r h =
+    let z : length d - j ≡ 0 = omega (arith, r .size) in
+    kept-whole s xs d ord j last k r (sym (append-nil (take j ord)) ∙ (rw z at (r .all)))
+
+-- there are no more offsets
+pub kept-done : (s xs d ord : List ℕ) (j last k : ℕ) → Kept s xs d ord j last k → length xs ≤ k → (j ≡ length (keptRising s (length d) xs)) × (ord ≡ begins (keptRising s (length d) xs) d)
+unfolding risingAfter
+kept-done s xs d ord j last k r h =
+    let z : drop k xs ≡ [] = drop-of-length-le xs h in
+    kept-whole s xs d ord j last k r (sym (append-nil (take j ord)) ∙ (rw (z, take-nil) at (r .all)))

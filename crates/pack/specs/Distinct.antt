@@ -1,8 +1,8 @@
 -- Names in a strict order: the shorter first, and of one length by their bytes.
 use Prim.Native.Nat.{ℕ, _+_, _/_, _≤_, _<_, zero, suc}
-use mathlib.Core.List.{List, [], _∷_}
+use mathlib.Core.List.{List, [], _∷_, _++_}
 use mathlib.Core.Bool.{Bool, true, false, cond, _&&_}
-use lib.ListN.{length, getD}
+use lib.ListN.{length, getD, replicate, take}
 use lib.Dec.{eqb, leb, ltb}
 use Rattle.pack.specs.Names.{Name}
 use Rattle.pack.specs.RawNames.{rawName}
@@ -28,6 +28,24 @@ standing s x = leb (x + 1 + getD s x 0) (length s)
 -- the name at x stands, and above the one at `last` where there are names before
 unfoldable pub follower : List ℕ → ℕ → ℕ → ℕ → Bool
 follower s j last x = standing s x && cond (eqb j 0) true (lessName (rawName s last) (rawName s x))
+
+-- of offsets, after j that were kept, the last of them at `last`: each whose name may follow the last one kept
+unfoldable pub risingAfter : List ℕ → ℕ → ℕ → List ℕ → List ℕ
+risingAfter s j last [] = []
+risingAfter s j last (x ∷ xs) = cond (follower s j last x) (x ∷ risingAfter s (j + 1) x xs) (risingAfter s j last xs)
+
+-- what is kept of offsets where there is room for so many
+unfoldable pub keptRising : List ℕ → ℕ → List ℕ → List ℕ
+keptRising s room xs = take room (risingAfter s 0 0 xs)
+
+-- the first n of a list, 0 past its end
+unfoldable pub firsts : ℕ → List ℕ → List ℕ
+firsts n xs = take n (xs ++ replicate n 0)
+
+-- where n names from q on end; past the end of the bytes no name is passed over
+unfoldable pub reachOf : List ℕ → ℕ → ℕ → ℕ
+reachOf s zero q = q
+reachOf s (suc n) q = cond (ltb q (length s)) (reachOf s n (q + 1 + getD s q 0)) q
 
 -- `Lower` is `lower` as a relation
 pub data Lower : Name → Name → Type 0 where

@@ -3,7 +3,7 @@ use Prim.Native.Nat.{ℕ, _+_, _*_}
 use mathlib.Core.List.{List, _++_}
 use mathlib.Core.Path.{_≡_}
 use mathlib.Core.Bool.{cond}
-use lib.ListN.{length, drop}
+use lib.ListN.{length, take, drop}
 use lib.Dec.{ltb}
 use Rattle.wire.specs.Bytes.{two}
 use Rattle.wire.specs.Writer.{State, full, st}
@@ -38,6 +38,10 @@ returned o = numberOf o * 4294967296 + valueOf o
 -- a buffer that begins with bytes, and its rest as it was
 unfoldable pub begins : List ℕ → List ℕ → List ℕ
 begins p d = p ++ drop (length p) d
+
+-- a buffer with bytes put over what it held from `at` on
+unfoldable pub overwritten : ℕ → List ℕ → List ℕ → List ℕ
+overwritten at p d = take at d ++ (p ++ drop (at + length p) d)
 
 -- the output buffer: only a pack changes it
 unfoldable pub outputOf : Outcome → List ℕ → List ℕ

@@ -9,17 +9,13 @@ use crate::sections::then_origins;
 use wire::answer::Read;
 use wire::answer::Skipped;
 use wire::number::read_u16;
-ghost use mathlib.Core.List.{List};
 ghost use mathlib.Core.Path.{_≡_};
-ghost use Prim.Native.Nat.{ℕ, _≤_, _<_};
+ghost use Prim.Native.Nat.{_≤_};
 ghost use lib.ListN.{length};
-ghost use Rattle.wire.specs.Answer.{value};
 ghost use Rattle.wire.specs.Code.{skip};
-ghost use Rattle.pack.specs.Names.{Name};
-ghost use Rattle.pack.specs.Syntax.{Package};
-ghost use Rattle.pack.specs.Read.{nameSection, packAt, read, whole};
+ghost use Rattle.pack.specs.Read.{packAt, read};
 ghost use Rattle.pack.specs.Outcome.{check as checked, returned};
-ghost use Rattle.pack.specs.Verdict.{verdictOf, judgedOf, codeOf, offsetOf, Small, Stands};
+ghost use Rattle.pack.specs.Verdict.{verdictOf, judgedOf, codeOf, nameCount, offsetOf, recordOf, sectionsOf, Small};
 
 // What a byte slice is as a pack: the table's answers 1 to 5 with their offsets, or a whole pack.
 pub enum Verdict {
@@ -31,15 +27,15 @@ pub enum Verdict {
     After(usize),
 }
 
-// The verdict, and the record of a whole pack.
+// The verdict, and the record of where the sections stand.
 pub struct Opened {
     pub verdict: Verdict,
     pub pack: Pack,
 }
 
-// How many names the name section counts.
+// How many names the name section counts, or 0.
 fn name_count(s: &[u8]) -> usize
-    ensures { λ r. ⌜ ((ns : List Name) (q : ℕ) → nameSection (now (s .entry)) 0 ≡ value ns q → length ns ≡ r) ⌝ }
+    ensures { λ r. ⌜ r ≡ nameCount (now (s .entry)) ⌝ }
 {
     let r = read_u16(s, 0);
     let Read::Is { value, next: _ } = r else {
@@ -79,7 +75,7 @@ fn judged(r: Skipped, len: usize) -> Verdict
 fn read_sections(s: &[u8]) -> Opened
     requires { ⌜ length (now s) ≤ 65536 ⌝ }
     ensures { λ r. ⌜ r .verdict ≡ judgedOf (skip (packAt (now (s .entry)) 0)) (length (now (s .entry))) ⌝ }
-    ensures { λ r. ⌜ ((p : Package) (q : ℕ) → packAt (now (s .entry)) 0 ≡ value p q → Stands (now (s .entry)) (r .pack) p) ⌝ }
+    ensures { λ r. ⌜ r .pack ≡ sectionsOf (now (s .entry)) ⌝ }
 {
     let names = name_count(s);
     let a = skip_names(s, 0);
@@ -103,10 +99,10 @@ fn read_sections(s: &[u8]) -> Opened
     }
 }
 
-// Reads a pack: the verdict on every byte slice, and the record of where the sections of a whole pack stand.
+// Reads a pack: the verdict on every byte slice, and the record of where its sections stand, as far as it can be read.
 pub fn read_pack(s: &[u8]) -> Opened
     ensures { λ r. ⌜ r .verdict ≡ verdictOf (read (now (s .entry))) ⌝ }
-    ensures { λ r. ⌜ ((p : Package) → read (now (s .entry)) ≡ whole p → Stands (now (s .entry)) (r .pack) p) ⌝ }
+    ensures { λ r. ⌜ r .pack ≡ recordOf (now (s .entry)) ⌝ }
 {
     if Pack::BYTES < s.len() {
         return Opened {

@@ -1,18 +1,19 @@
 // Names in a strict order of their own, so that a name is known to be new without a look at all before it.
 use std::num::wrapping_add_u16;
 ghost use mathlib.Core.Path.{_≡_};
-ghost use mathlib.Core.Bool.{true};
-ghost use Prim.Native.Nat.{_+_, _<_, _≤_};
-ghost use lib.ListN.{length, getD};
+ghost use mathlib.Core.Bool.{true, cond};
+ghost use Prim.Native.Nat.{_+_, _<_, _≤_, min};
+ghost use lib.ListN.{length, getD, set};
 ghost use Rattle.pack.specs.RawNames.{rawName};
-ghost use Rattle.pack.specs.Distinct.{ahead, lessName, standing, follower, Rising, listedAt};
+ghost use Rattle.pack.specs.Distinct.{ahead, lessName, standing, firsts, follower, keptRising, reachOf, Rising, listedAt};
+ghost use Rattle.pack.specs.Outcome.{begins};
 
 // The sort. Nothing is believed of what it leaves in its slices: it is proved to be safe and to end, and `keep_rising` takes
 // of its order what rises.
 
 // The byte at i, or 0 past the end.
 fn byte_at(s: &[u8], i: usize) -> usize
-    ensures { λ r. ⌜ r < 256 ⌝ }
+    ensures { λ r. ⌜ (r ≡ getD (now (s .entry)) i 0) × (r < 256) ⌝ }
 {
     if i < s.len() { s[i] as usize } else { 0 }
 }
@@ -26,20 +27,22 @@ fn offset_at(ord: &[u16], k: usize) -> usize
 
 // Byte i of the name at a.
 fn byte_in(s: &[u8], a: u16, i: u16) -> usize
-    ensures { λ r. ⌜ r < 256 ⌝ }
+    ensures { λ r. ⌜ (r ≡ getD (now (s .entry)) (a + i) 0) × (r < 256) ⌝ }
 {
     byte_at(s, a as usize + i as usize)
 }
 
 // Byte d of the name at k, its length being byte 0.
 fn byte_of(s: &[u8], ord: &[u16], k: usize, d: u16) -> usize
-    ensures { λ r. ⌜ r < 256 ⌝ }
+    ensures { λ r. ⌜ (r ≡ getD (now (s .entry)) (getD (now (ord .entry)) k 0 + d) 0) × (r < 256) ⌝ }
 {
     byte_at(s, offset_at(ord, k) + wide(d))
 }
 
 // Writes v at k, if there is a k.
-fn put(ord: &mut [u16], k: usize, v: u16) {
+fn put(ord: &mut [u16], k: usize, v: u16)
+    ensures { λ _. ⌜ now (ord .exit) ≡ set (now (ord .entry)) k v ⌝ }
+{
     if k < ord.len() {
         ord[k] = v;
     }
@@ -67,7 +70,9 @@ fn offsets(s: &[u8], q: usize, count: usize, out: &mut [u16]) -> usize {
 }
 
 // Where the count names from q on end, or an offset past the end.
-pub fn reach(s: &[u8], q: usize, count: usize) -> usize {
+pub fn reach(s: &[u8], q: usize, count: usize) -> usize
+    ensures { λ r. ⌜ r ≡ reachOf (now (s .entry)) count q ⌝ }
+{
     let mut n = count;
     let mut p = q;
     while 0 < n {
@@ -95,7 +100,7 @@ fn alike(s: &[u8], ord: &[u16], lo: usize, n: usize, d: u16) -> bool {
 
 // The least of three.
 fn least_of(n: usize, a: usize, b: usize) -> usize
-    ensures { λ r. ⌜ (r ≤ a) × (r ≤ b) ⌝ }
+    ensures { λ r. ⌜ r ≡ min n (min a b) ⌝ }
 {
     if n <= a {
         if n <= b {
@@ -209,7 +214,9 @@ fn radix_sort(s: &[u8], ord: &mut [u16], n: u16, other: &mut [u16]) {
 // what two names share is not looked at again.
 
 // The number at k, or 0 past the end.
-fn at(list: &[u16], k: u16) -> u16 {
+fn at(list: &[u16], k: u16) -> u16
+    ensures { λ r. ⌜ r ≡ getD (now (list .entry)) k 0 ⌝ }
+{
     let i = k as usize;
     if i < list.len() { list[i] } else { 0 }
 }
@@ -265,7 +272,9 @@ fn compare(s: &[u8], a: u16, m: u16, b: u16, n: u16) -> Turn {
     }
 }
 
-fn either(first: bool, x: u16, y: u16) -> u16 {
+fn either(first: bool, x: u16, y: u16) -> u16
+    ensures { λ r. ⌜ r ≡ cond first x y ⌝ }
+{
     if first { x } else { y }
 }
 
@@ -319,7 +328,9 @@ fn next_of(s: &[u8], from: &[u16], i: u16, mid: u16, m: u16, j: u16, hi: u16, n:
     compare(s, at(from, i), m, at(from, j), n)
 }
 
-fn least(a: u16, b: u16) -> u16 {
+fn least(a: u16, b: u16) -> u16
+    ensures { λ r. ⌜ r ≡ min a b ⌝ }
+{
     if a < b { a } else { b }
 }
 
@@ -447,7 +458,8 @@ fn follows(s: &[u8], j: usize, last: usize, x: usize) -> bool
 
 // Copies the first n offsets of `from`, leaving out each whose name does not stand above the last one copied.
 fn keep_rising(s: &[u8], from: &[u16], n: usize, ord: &mut [u16]) -> usize
-    ensures { λ r. ⌜ Rising (now (s .entry)) (now (ord .exit)) r ⌝ }
+    ensures { λ r. ⌜ r ≡ length (keptRising (now (s .entry)) (length (now (ord .entry))) (firsts n (now (from .entry)))) ⌝ }
+    ensures { λ r. ⌜ now (ord .exit) ≡ begins (keptRising (now (s .entry)) (length (now (ord .entry))) (firsts n (now (from .entry)))) (now (ord .entry)) ⌝ }
 {
     let mut j = 0;
     let mut last = 0;
@@ -475,23 +487,22 @@ pub fn listed(ord: &[u16], n: usize, rank: &[u16], p: usize) -> bool
     if k < n { offset_at(ord, k) == p } else { false }
 }
 
-// Sorts the names from q on into `ord` and says how many of them rise.
-pub fn order(
-    s: &[u8],
-    q: usize,
-    count: usize,
-    ord: &mut [u16],
-    other: &mut [u16],
-    rank: &mut [u16],
-) -> usize
-    ensures { λ r. ⌜ Rising (now (s .entry)) (now (ord .exit)) r ⌝ }
-{
+// Sorts the offsets of the names from q on in `other`, and says how many. Nothing is promised of their order.
+pub fn sorted(s: &[u8], q: usize, count: usize, other: &mut [u16], ord: &mut [u16]) -> usize {
     let n = offsets(s, q, count, other);
     if 65535 < n {
         return 0;
     }
     sort(s, other, n as u16, ord);
-    let known = keep_rising(s, other, n, ord);
+    n
+}
+
+// What rises of the first n offsets of `from`, with the ranks of the names, and how many that are.
+pub fn rising(s: &[u8], from: &[u16], n: usize, ord: &mut [u16], rank: &mut [u16]) -> usize
+    ensures { λ r. ⌜ r ≡ length (keptRising (now (s .entry)) (length (now (ord .entry))) (firsts n (now (from .entry)))) ⌝ }
+    ensures { λ r. ⌜ now (ord .exit) ≡ begins (keptRising (now (s .entry)) (length (now (ord .entry))) (firsts n (now (from .entry)))) (now (ord .entry)) ⌝ }
+{
+    let known = keep_rising(s, from, n, ord);
     ranks(ord, known, rank);
     known
 }

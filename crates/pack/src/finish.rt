@@ -4,12 +4,12 @@ use crate::record::Pack;
 use wire::writer::Writer;
 use wire::writer::capped;
 ghost use mathlib.Core.Path.{_≡_};
-ghost use mathlib.Core.List.{List, _++_};
-ghost use Prim.Native.Nat.{ℕ, _+_, _≤_, min};
+ghost use mathlib.Core.List.{_++_};
+ghost use Prim.Native.Nat.{_+_, _≤_, min};
 ghost use lib.ListN.{length};
 ghost use Rattle.wire.specs.Bytes.{two};
 ghost use Rattle.wire.specs.Writer.{stateOf};
-ghost use Rattle.pack.specs.Outcome.{Gives, begins, sized, packOf, answered};
+ghost use Rattle.pack.specs.Outcome.{Gives, begins, overwritten, sized, packOf, answered};
 
 // A number and a value of the table of answers.
 pub struct Outcome {
@@ -17,11 +17,11 @@ pub struct Outcome {
     pub value: u64,
 }
 
-// Copies src to dst at `at`: where dst began with p, of length `at`, it now begins with p and src.
+// Copies src over what dst holds from `at` on, and says where it ends.
 fn append(src: &[u8], dst: &mut [u8], at: usize) -> usize
     requires { ⌜ at + length (now src) ≤ length (now dst) ⌝ }
     ensures { λ r. ⌜ r ≡ at + length (now (src .entry)) ⌝ }
-    ensures { λ r. ⌜ ((p d : List ℕ) → length p ≡ at → now (dst .entry) ≡ begins p d → now (dst .exit) ≡ begins (p ++ now (src .entry)) d) ⌝ }
+    ensures { λ r. ⌜ now (dst .exit) ≡ overwritten at (now (src .entry)) (now (dst .entry)) ⌝ }
 {
     let mut j = 0;
     let mut o = at;

@@ -1,7 +1,8 @@
 // The name section.
 use crate::distinct::listed;
-use crate::distinct::order;
 use crate::distinct::reach;
+use crate::distinct::rising;
+use crate::distinct::sorted;
 use wire::answer::Read;
 use wire::answer::Skipped;
 use wire::answer::past;
@@ -198,7 +199,8 @@ fn some_names(s: &[u8], q: usize, count: usize) -> Skipped
     let mut ord = [0u16; 4096];
     let mut other = [0u16; 4096];
     let mut rank = [0u16; 4096];
-    let known = order(s, q, count, &mut ord, &mut other, &mut rank);
+    let n = sorted(s, q, count, &mut other, &mut ord);
+    let known = rising(s, &other, n, &mut ord, &mut rank);
     read_names(s, q, count, &ord, known, &rank)
 }
 
@@ -209,7 +211,8 @@ fn many_names(s: &[u8], q: usize, count: usize) -> Skipped
     let mut ord = [0u16; 32768];
     let mut other = [0u16; 32768];
     let mut rank = [0u16; 32768];
-    let known = order(s, q, count, &mut ord, &mut other, &mut rank);
+    let n = sorted(s, q, count, &mut other, &mut ord);
+    let known = rising(s, &other, n, &mut ord, &mut rank);
     read_names(s, q, count, &ord, known, &rank)
 }
 

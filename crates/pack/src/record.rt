@@ -1,6 +1,6 @@
 // The pack record: where a pack's sections stand, and the limits of a pack.
-ghost use lib.ListN.{replicate};
-ghost use Rattle.pack.specs.Verdict.{Stands, emptyPackage};
+ghost use mathlib.Core.Path.{_≡_};
+ghost use Rattle.pack.specs.Verdict.{emptyRecord};
 
 pub struct Pack {
     pub names: usize,
@@ -24,7 +24,7 @@ impl Pack {
 
     // The record of the pack that holds nothing: twelve zero bytes.
     pub fn empty() -> Pack
-        ensures { λ r. ⌜ Stands (replicate 12 0) r emptyPackage ⌝ }
+        ensures { λ r. ⌜ r ≡ emptyRecord ⌝ }
     {
         Pack {
             names: 0,

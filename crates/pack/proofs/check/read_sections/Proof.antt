@@ -2,7 +2,7 @@ use lib.ListN.{length}
 use mathlib.Core.Path.{refl, ap, _∙_}
 use Rattle.wire.specs.declared.answer.Skipped.{Skipped}
 use Rattle.pack.specs.Verdict.{judgedOf}
-use Rattle.pack.proofs.CheckLaws.{Went, went-skip, went-stands}
+use Rattle.pack.proofs.CheckLaws.{Went, went-skip, went-record}
 use borrow.Author.Needs.{needs}
 use Rattle.pack.proofs.check.read_sections.Statement.{statement}
 use Rattle.pack.proofs.check.read_sections.Tie as tie
@@ -53,7 +53,7 @@ returns : tie.Need-returns
 returns c =
     let w : Went (c .before .before .before .before .before .before .before .before .before .before .before .before .before .before .before .args .s .now) (c .before .before .before .before .before .before .before .before .before .before .before .before .before .name-count .result) (c .before .before .before .before .before .before .before .before .before .before .before .before .skip-names .result) (c .before .before .before .before .before .before .before .before .before .before .before .then-enums .result) (c .before .before .before .before .before .before .before .before .before .before .then-nodes .result) (c .before .before .before .before .before .before .before .before .before .then-machines .result) (c .before .before .before .before .before .before .before .before .then-activations .result) (c .before .before .before .before .before .before .before .then-origins .result) = record { few = c .before .before .before .before .before .before .before .before .before .before .before .before .before .name-count .ensures; past-names = c .before .before .before .before .before .before .before .before .before .before .before .before .skip-names .ensures; past-enums = c .before .before .before .before .before .before .before .before .before .before .before .then-enums .ensures; past-nodes = c .before .before .before .before .before .before .before .before .before .before .then-nodes .ensures; past-machines = c .before .before .before .before .before .before .before .before .before .then-machines .ensures; past-activations = c .before .before .before .before .before .before .before .before .then-activations .ensures; past-origins = c .before .before .before .before .before .before .before .then-origins .ensures } in (
       c .judged .ensures ∙ ap (λ (r : Skipped). judgedOf r (length (c .before .before .before .before .before .before .before .before .before .before .before .before .before .before .before .args .s .now))) (went-skip _ _ _ _ _ _ _ _ w),
-      went-stands _ _ _ _ _ _ _ _ w _ refl (c .before .before .before .before .before .before .offset .ensures) (c .before .before .before .before .before .offset2 .ensures) (c .before .before .before .before .offset3 .ensures) (c .before .before .before .offset4 .ensures) (c .before .before .offset5 .ensures) (c .before .offset6 .ensures),
+      went-record _ _ _ _ _ _ _ _ w _ refl (c .before .before .before .before .before .before .offset .ensures) (c .before .before .before .before .before .offset2 .ensures) (c .before .before .before .before .offset3 .ensures) (c .before .before .before .offset4 .ensures) (c .before .before .offset5 .ensures) (c .before .offset6 .ensures),
     )
 
 pub read-sections-spec : {M : Type 1} → statement M

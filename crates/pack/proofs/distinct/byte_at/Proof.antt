@@ -1,3 +1,5 @@
+use lib.ListN.{List·getD-eq-default}
+use mathlib.Core.Path.{sym, refl}
 use native.Mathlib.Omega.{arith}
 use borrow.Author.Needs.{needs}
 use Rattle.pack.proofs.distinct.byte_at.Statement.{statement}
@@ -10,10 +12,10 @@ cast-result : tie.Need-cast-result
 cast-result c = omega (arith, c .shared-slice-known .given (c .before .before .args .i))
 
 returns : tie.Need-returns
-returns c = omega (arith, c .shared-slice-known .given (c .before .before .args .i))
+returns c = (refl, omega (arith, c .shared-slice-known .given (c .before .before .args .i)))
 
 returns-2 : tie.Need-returns-2
-returns-2 c = search needs
+returns-2 c = (sym (List·getD-eq-default (c .before .args .s .now) 0 (c .if1 .left)), omega arith)
 
 pub byte-at-spec : {M : Type 1} → statement M
 byte-at-spec = tie.close (tie.spec shared-slice-read-result cast-result returns returns-2)

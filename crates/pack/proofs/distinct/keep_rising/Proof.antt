@@ -1,13 +1,16 @@
-use Rattle.pack.proofs.OrderLaws.{Kept, kept-more, kept-none, kept-same}
+use Rattle.pack.specs.Distinct.{firsts}
+use Rattle.pack.proofs.OrderLaws.{Kept, firsts-at, firsts-length, kept-done, kept-full, kept-more, kept-none, kept-same}
+use native.Mathlib.Omega.{arith}
 use mathlib.Core.Logic.{⊎-elim}
+use mathlib.Core.Path.{_∙_, refl, sym}
 use lib.ListN.{length}
-use Prim.Native.Nat.{_-_}
+use Prim.Native.Nat.{_-_, _<_}
 use borrow.Author.Needs.{needs}
 use Rattle.pack.proofs.distinct.keep_rising.Statement.{statement}
 use Rattle.pack.proofs.distinct.keep_rising.Tie as tie
 
 abbrev Inv-loop : tie.InvT-loop
-Inv-loop s from n ord₀ j₀ last₀ k₀ ord j last k = Kept s (length ord₀) ord j last
+Inv-loop s from n ord₀ j₀ last₀ k₀ ord j last k = Kept s (firsts n from) ord₀ ord j last k
 
 abbrev μ-loop : tie.MeasureT-loop
 μ-loop s from n ord₀ j₀ last₀ k₀ ord j last k = n - k
@@ -19,13 +22,13 @@ same-length : tie.Need-same-length Inv-loop μ-loop
 same-length c = c .before .before .loop .inv .size
 
 returns : tie.Need-returns Inv-loop μ-loop
-returns c = c .before .before .loop .inv .rising
+returns c = kept-full _ _ _ _ _ _ _ (c .before .before .loop .inv) (c .if1 .taken)
 
 offset-at-requires : tie.Need-offset-at-requires Inv-loop μ-loop
 offset-at-requires c κs = search needs
 
 follows-requires : tie.Need-follows-requires Inv-loop μ-loop
-follows-requires c κs = c .before .before .before .loop .inv .above .stands
+follows-requires c κs = c .before .before .before .loop .inv .stands
 
 cast-ord : tie.Need-cast-ord Inv-loop μ-loop
 cast-ord c = search needs
@@ -46,13 +49,19 @@ loop-less : tie.Need-loop-less Inv-loop μ-loop
 loop-less c = search needs
 
 loop-again : tie.Need-loop-again Inv-loop μ-loop
-loop-again c = ⊎-elim (λ w. kept-more _ _ _ _ _ _ _ _ _ _ (c .before .before .before .before .before .loop .inv) (c .before .before .before .if1 .left) (c .before .follows .ensures) (w .0 .taken) (w .1) (w .2) (w .3)) (λ w. kept-same _ _ _ _ _ _ _ _ (c .before .before .before .before .before .loop .inv) (w .1) (w .2) (w .3)) (c .if2 .came)
+loop-again c =
+    let from = c .before .before .before .before .before .before .before .before .before .args .from .now in
+    let n = c .before .before .before .before .before .before .before .before .before .args .n in
+    let k = c .before .before .before .before .before .loop .k in
+    let more : k < length (firsts n from) = omega (arith, firsts-length n from, c .before .before .before .before .loop-test .taken) in
+    let is = c .before .before .offset-at .ensures .0 ∙ sym (firsts-at n from k (c .before .before .before .before .loop-test .taken)) in
+    ⊎-elim (λ w. kept-more _ _ _ _ _ _ _ _ _ _ _ _ _ (c .before .before .before .before .before .loop .inv) more is (c .before .follows .ensures) (w .0 .taken) (c .before .before .before .if1 .left) (w .1) (w .2) (w .3) refl) (λ w. kept-same _ _ _ _ _ _ _ _ _ _ _ _ _ (c .before .before .before .before .before .loop .inv) more is (c .before .follows .ensures) (w .0 .left) (w .1) (w .2) (w .3) refl) (c .if2 .came)
 
 same-length-2 : tie.Need-same-length-2 Inv-loop μ-loop
 same-length-2 c = c .before .loop .inv .size
 
 returns-2 : tie.Need-returns-2 Inv-loop μ-loop
-returns-2 c = c .before .loop .inv .rising
+returns-2 c = kept-done _ _ _ _ _ _ _ (c .before .loop .inv) (omega (arith, firsts-length (c .before .before .before .before .before .args .n) (c .before .before .before .before .before .args .from .now), c .loop-test .left))
 
 pub keep-rising-spec : {M : Type 1} → statement M
 keep-rising-spec =

@@ -1,19 +1,21 @@
-use Prim.Native.Nat.{_≤_}
+use mathlib.Core.Path.{_≡_, refl}
+use Rattle.pack.specs.Distinct.{reachOf}
+use Rattle.pack.proofs.OrderLaws.{reach-done, reach-past, reach-went}
 use borrow.Author.Needs.{needs}
 use Rattle.pack.proofs.distinct.reach.Statement.{statement}
 use Rattle.pack.proofs.distinct.reach.Tie as tie
 
 abbrev Inv-loop : tie.InvT-loop
-Inv-loop s q count n₀ p₀ n p = n ≤ count
+Inv-loop s q count n₀ p₀ n p = reachOf s n p ≡ reachOf s count q
 
 abbrev μ-loop : tie.MeasureT-loop
 μ-loop s q count n₀ p₀ n p = n
 
 loop-holds : tie.Need-loop-holds Inv-loop μ-loop
-loop-holds c = search needs
+loop-holds c = refl
 
 returns : tie.Need-returns Inv-loop μ-loop
-returns c = search needs
+returns c = reach-past _ _ _ _ (c .before .loop-test .taken) (c .if1 .taken) (c .before .before .loop .inv)
 
 add-p : tie.Need-add-p Inv-loop μ-loop
 add-p c = search needs
@@ -31,10 +33,10 @@ loop-less : tie.Need-loop-less Inv-loop μ-loop
 loop-less c = search needs
 
 loop-again : tie.Need-loop-again Inv-loop μ-loop
-loop-again c = search needs
+loop-again c = reach-went _ _ _ _ _ (c .before .before .loop-test .taken) (c .before .if1 .left) (c .byte-at .ensures .0) (c .before .before .before .loop .inv)
 
 returns-2 : tie.Need-returns-2 Inv-loop μ-loop
-returns-2 c = search needs
+returns-2 c = reach-done _ _ _ _ (c .loop-test .left) (c .before .loop .inv)
 
 pub reach-spec : {M : Type 1} → statement M
 reach-spec =

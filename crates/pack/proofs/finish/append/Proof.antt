@@ -3,7 +3,7 @@ use native.Mathlib.Omega.{arith}
 use mathlib.Core.Path.{_≡_, refl}
 use lib.ListN.{length, length-set}
 use lib.Seq.{paste, paste-zero}
-use Rattle.pack.proofs.Finished.{paste-turn, paste-begins}
+use Rattle.pack.proofs.Finished.{paste-turn, paste-whole}
 use Rattle.pack.proofs.finish.append.Statement.{statement}
 use Rattle.pack.proofs.finish.append.Tie as tie
 
@@ -47,7 +47,7 @@ returns : tie.Need-returns Inv-loop μ-loop
 returns c =
     let a = c .before .before .args in
     let past : c .before .loop .j ≡ length (a .src .now) = omega arith in
-    (omega arith, λ p d e f. paste-begins (a .dst .now) (a .src .now) _ p d (a .at) (c .before .loop .j) past (c .before .loop .inv .1) e f)
+    (omega arith, paste-whole (a .dst .now) (a .src .now) _ (a .at) (c .before .loop .j) past (c .before .loop .inv .1))
 
 pub append-spec : {M : Type 1} → statement M
 append-spec =

@@ -4,7 +4,7 @@ use mathlib.Core.List.{[], _++_, append-assoc}
 use lib.ListN.{length, length-append}
 use Rattle.wire.specs.Bytes.{two}
 use Rattle.pack.specs.Outcome.{begins}
-use Rattle.pack.proofs.Finished.{begins-none}
+use Rattle.pack.proofs.Finished.{begins-more, begins-none}
 use borrow.Author.Needs.{needs}
 use Rattle.pack.proofs.finish.join.Statement.{statement}
 use Rattle.pack.proofs.finish.join.Tie as tie
@@ -44,12 +44,12 @@ returns c =
     let d = a .dst .now in
     let old = a .old .now in
     let made = a .made .now in
-    let e1 = s1 .append .ensures .1 [] d refl (begins-none d) in
-    let e2 = s2 .append2 .ensures .1 h d (omega (arith, s1 .append .ensures .0)) e1 in
+    let e1 = begins-more d _ [] h d 0 refl (begins-none d) (s1 .append .ensures .1) in
+    let e2 = begins-more _ _ h old d _ (omega (arith, s1 .append .ensures .0)) e1 (s2 .append2 .ensures .1) in
     let i : length (h ++ old) ≡ s2 .append2 .result = rw length-append (omega (arith, s1 .append .ensures .0, s2 .append2 .ensures .0)) in
-    let e3 = s3 .append3 .ensures .1 (h ++ old) d i e2 in
+    let e3 = begins-more _ _ (h ++ old) made d _ i e2 (s3 .append3 .ensures .1) in
     let j : length ((h ++ old) ++ made) ≡ s3 .append3 .result = rw length-append (omega (arith, i, s3 .append3 .ensures .0)) in
-    let e4 = c .before .before .append4 .ensures .1 ((h ++ old) ++ made) d j e3 in
+    let e4 = begins-more _ _ ((h ++ old) ++ made) (a .body .now) d _ j e3 (c .before .before .append4 .ensures .1) in
     e4 ∙ ap (λ l. begins l d) (simp append-assoc)
 
 pub join-spec : {M : Type 1} → statement M
