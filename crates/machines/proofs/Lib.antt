@@ -22,3 +22,11 @@ pub mod Shares
 pub mod SectionLaws
 pub mod Refused
 pub mod SectionExample
+pub mod RowLaws
+pub mod EnumLaws
+pub mod ChainLaws
+pub mod RegionLaws
+pub mod EnumsEmitted
+pub mod ChainsEmitted
+pub mod EquationsEmitted
+pub mod EmitExample

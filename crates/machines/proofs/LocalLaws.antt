@@ -32,7 +32,7 @@ region-locals old m id s =
     sym (render-append old (portItems (statePort vr.State m id)) _ s
     ∙ ap (λ (is : List Item). render old is (render old (portItems (statePort vr.State m id)) s)) (append-nil (portItems (statePort vr.Next m id))))
 
-each-append : {A : Type 0} (f : A → List Item) (xs ys : List A) → each f (xs ++ ys) ≡ each f xs ++ each f ys
+pub each-append : {A : Type 0} (f : A → List Item) (xs ys : List A) → each f (xs ++ ys) ≡ each f xs ++ each f ys
 unfolding each
 each-append f [] ys = refl
 each-append f (x ∷ xs) ys = ap (λ (l : List Item). f x ++ l) (each-append f xs ys) ∙ sym (append-assoc (f x) (each f xs) (each f ys))

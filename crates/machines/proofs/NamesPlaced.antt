@@ -17,6 +17,7 @@ use Rattle.pack.specs.RawNames.{rawName}
 use Rattle.pack.specs.Read.{name, nameSection, namesAfter, size}
 use Rattle.pack.proofs.NameLaws.{name-value}
 use Rattle.pack.proofs.Tables.{eqName-ne, eqName-refl, place-at-name}
+use Rattle.machines.specs.Emits.{packName}
 use Rattle.machines.specs.Tables.{lenOf, namesPlaced, nextName}
 use Rattle.machines.proofs.TableLaws.{name-next, names-step}
 
@@ -141,3 +142,8 @@ names-placed s ns t h l i k = placed-at s (length ns) 2 0 t ns (h .spots) (omega
 pub right-length : (s spots : List ℕ) (i : ℕ) (n : Name) → SpotAt s (getD spots i 0) n → lenOf s spots i ≡ length n
 unfolding lenOf
 right-length s spots i n h = spot-length s (getD spots i 0) n h
+
+-- a name itself, by the table
+pub right-name : (s spots : List ℕ) (i : ℕ) (n : Name) → SpotAt s (getD spots i 0) n → packName s spots i ≡ n
+unfolding packName
+right-name s spots i n h = h .is

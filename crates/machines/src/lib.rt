@@ -10,3 +10,8 @@ pub mod locals; // the locals made for regions
 pub mod terms; // the fixed expressions of a region's equations
 pub mod equations; // the equations that need no look at a region's states
 pub mod lay; // the resolved machine laid out
+pub mod rows; // the layout as it is read
+pub mod enums; // the enums of regions
+pub mod qualified; // names as they are called in a region
+pub mod chains; // the next state of a region
+pub mod regions; // the equations of regions
