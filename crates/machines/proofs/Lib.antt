@@ -23,6 +23,7 @@ pub mod SectionLaws
 pub mod Refused
 pub mod SectionExample
 pub mod RowLaws
+pub mod ValidLaws
 pub mod EnumLaws
 pub mod ChainLaws
 pub mod RegionLaws
