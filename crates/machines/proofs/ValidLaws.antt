@@ -1,11 +1,15 @@
 -- Laws for the code that checks initial states and targets on the layout, step by step.
 use Prim.Native.Nat.{ℕ, zero, suc, _+_, _-_, _<_, _≤_}
 use native.Mathlib.Omega.{arith}
-use mathlib.Core.List.{List}
+use mathlib.Core.List.{List, [], _∷_}
+use mathlib.Core.Logic.{⊎-elim}
 use mathlib.Core.Bool.{Bool, true, false, cond, _||_}
 use mathlib.Core.Path.{_≡_, refl, sym, ap, _∙_}
 use lib.ListN.{getD}
 use lib.Dec.{eqb}
+use types.Run.{OneOf}
+use denote.Enum.Declared.{tagOf}
+use Rattle.machines.proofs.valid.Checked as Checked-enum
 use borrow.Author.Tests.{eq-eqb, ne-eqb}
 use Rattle.pack.specs.Names.{Name}
 use Rattle.pack.specs.Read.{exprIn}
@@ -82,6 +86,12 @@ unfoldable pub Stops : Checked → Type 0
 Stops ck.Fine = ⊥
 Stops (ck.Initial q) = Unit {0}
 Stops (ck.Target p q x) = Unit {0}
+
+pub stops : (r : Checked) → OneOf (1 ∷ 2 ∷ []) (tagOf Checked-enum.the-type r) → Stops r
+unfolding Stops
+stops ck.Fine h = ⊎-elim (λ d. omega arith) (λ d. omega arith) h
+stops (ck.Initial q) h = tt
+stops (ck.Target p q x) h = tt
 
 pub stop-then : (c d : Checked) → Stops c → c ≡ orThen c d
 unfolding Stops orThen
