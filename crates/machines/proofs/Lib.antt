@@ -24,6 +24,7 @@ pub mod Refused
 pub mod SectionExample
 pub mod RowLaws
 pub mod ValidLaws
+pub mod RepeatLaws
 pub mod EnumLaws
 pub mod ChainLaws
 pub mod RegionLaws

@@ -13,6 +13,7 @@ pub mod Covers
 pub mod Laid
 pub mod Lays
 pub mod Valid
+pub mod Repeats
 pub mod Lower
 pub mod Locals
 pub mod Equations
