@@ -28,6 +28,8 @@ pub mod SectionLaws
 pub mod Refused
 pub mod SectionExample
 pub mod RowLaws
+pub mod ValidLaws
+pub mod RepeatLaws
 pub mod EnumLaws
 pub mod ChainLaws
 pub mod RegionLaws

@@ -16,7 +16,7 @@ use Rattle.machines.specs.Sections.{nodeNames}
 use Rattle.machines.specs.Judges.{namesThen, refusals, refusedIn}
 use Rattle.machines.proofs.Fates.{names-append, names-extend}
 
-eqName-turn : (a b : Name) → eqName a b ≡ eqName b a
+pub eqName-turn : (a b : Name) → eqName a b ≡ eqName b a
 eqName-turn a b = go (eqName a b) refl
   where
     go : (t : Bool) → eqName a b ≡ t → t ≡ eqName b a

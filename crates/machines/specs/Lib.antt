@@ -12,6 +12,8 @@ pub mod Heads
 pub mod Covers
 pub mod Laid
 pub mod Lays
+pub mod Valid
+pub mod Repeats
 pub mod Lower
 pub mod Locals
 pub mod Equations

@@ -18,3 +18,5 @@ pub mod enums; // the enums of regions
 pub mod qualified; // names as they are called in a region
 pub mod chains; // the next state of a region
 pub mod regions; // the equations of regions
+pub mod valid; // state names, initial states and targets
+pub mod repeats; // a name that stands twice

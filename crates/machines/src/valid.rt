@@ -1,0 +1,129 @@
+// The checks of a machine that is laid out: its states' names, each region's initial state, and targets.
+// A region's states share their prefix, so that names within it are compared as indexes.
+use crate::rows::first;
+use crate::rows::inner;
+use crate::rows::word;
+use crate::sure::after_expr;
+use crate::sure::number;
+use crate::table::entry;
+ghost use mathlib.Core.List.{List};
+ghost use mathlib.Core.Path.{_≡_};
+ghost use Prim.Native.Nat.{_≤_};
+ghost use lib.ListN.{length};
+ghost use Rattle.pack.specs.Names.{Name};
+ghost use Rattle.machines.specs.Valid.{amongT, hasT, targetsT, checkedState, checkedRegion};
+
+// What checking came to: nothing wrong, a region (by its word) whose initial state is not among its states,
+// or a state's transition to a name that is not.
+pub enum Checked {
+    Fine,
+    Initial(usize),
+    Target {
+        state: usize,
+        region: usize,
+        name: usize,
+    },
+}
+
+// Whether one of `count` states from the word `from` on has the pack's name x.
+fn among(s: &[u8], t: &[usize], count: usize, from: usize, x: usize) -> bool
+    ensures { λ r. ⌜ r ≡ amongT (now (s .entry)) (now (t .entry)) x count from ⌝ }
+{
+    let mut n = count;
+    let mut p = from;
+    while 0 < n {
+        let i = number(s, entry(t, p));
+        if i.value == x {
+            return true;
+        }
+        p = word(t, p, 4);
+        n = n - 1;
+    }
+    false
+}
+
+// Whether a state of the region at the word q has the pack's name x.
+fn has_state(s: &[u8], t: &[usize], q: usize, x: usize) -> bool
+    ensures { λ r. ⌜ r ≡ hasT (now (s .entry)) (now (t .entry)) q x ⌝ }
+{
+    let n = word(t, q, 6);
+    let p = first(t, q);
+    among(s, t, n, p, x)
+}
+
+// The targets of the state at the word p, in the region at the word q.
+fn check_targets(s: &[u8], names: usize, t: &[usize], q: usize, p: usize) -> Checked
+    requires { ⌜ length (now s) ≤ 65536 ⌝ }
+    ensures { λ r. ⌜ ((ns : List Name) → length ns ≡ names → r ≡ targetsT ns (now (s .entry)) (now (t .entry)) q p) ⌝ }
+{
+    let c = number(s, word(t, p, 1));
+    let mut n = c.value;
+    let mut o = c.next;
+    while 0 < n {
+        let x = number(s, after_expr(s, names, o));
+        if has_state(s, t, q, x.value) {
+            o = x.next;
+            n = n - 1;
+        } else {
+            return Checked::Target {
+                state: p,
+                region: q,
+                name: x.value,
+            };
+        }
+    }
+    Checked::Fine
+}
+
+// A state: its targets, then its regions.
+fn check_state(
+    s: &[u8],
+    names: usize,
+    t: &[usize],
+    levels: usize,
+    q: usize,
+    p: usize,
+) -> Checked
+    requires { ⌜ length (now s) ≤ 65536 ⌝ }
+    ensures { λ r. ⌜ ((ns : List Name) → length ns ≡ names → r ≡ checkedState ns (now (s .entry)) (now (t .entry)) (checkedRegion ns (now (s .entry)) (now (t .entry)) levels) q p) ⌝ }
+{
+    let c = check_targets(s, names, t, q, p);
+    let Checked::Fine = c else {
+        return c;
+    };
+    let mut n = word(t, p, 5);
+    let mut g = inner(t, p);
+    while 0 < n {
+        let r = check_region(s, names, t, levels, g);
+        let Checked::Fine = r else {
+            return r;
+        };
+        g = word(t, g, 4);
+        n = n - 1;
+    }
+    Checked::Fine
+}
+
+// A region: its initial state, then its states.
+pub fn check_region(s: &[u8], names: usize, t: &[usize], levels: usize, q: usize) -> Checked
+    requires { ⌜ length (now s) ≤ 65536 ⌝ }
+    ensures { λ r. ⌜ ((ns : List Name) → length ns ≡ names → r ≡ checkedRegion ns (now (s .entry)) (now (t .entry)) levels q) ⌝ }
+{
+    if levels == 0 {
+        return Checked::Fine;
+    }
+    if has_state(s, t, q, entry(t, q)) {
+        let mut n = word(t, q, 6);
+        let mut p = first(t, q);
+        while 0 < n {
+            let r = check_state(s, names, t, levels - 1, q, p);
+            let Checked::Fine = r else {
+                return r;
+            };
+            p = word(t, p, 4);
+            n = n - 1;
+        }
+        return Checked::Fine;
+    }
+    Checked::Initial(q)
+}
