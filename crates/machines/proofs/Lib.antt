@@ -22,3 +22,4 @@ pub mod Shares
 pub mod SectionLaws
 pub mod Refused
 pub mod SectionExample
+pub mod LetterLaws

@@ -12,6 +12,7 @@ pub mod Heads
 pub mod Covers
 pub mod Laid
 pub mod Lays
+pub mod Counts
 pub mod Lower
 pub mod Locals
 pub mod Equations
