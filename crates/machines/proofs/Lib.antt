@@ -23,3 +23,4 @@ pub mod SectionLaws
 pub mod Refused
 pub mod SectionExample
 pub mod LetterLaws
+pub mod Boards
