@@ -24,3 +24,4 @@ pub mod Refused
 pub mod SectionExample
 pub mod LetterLaws
 pub mod Boards
+pub mod RowLaws
