@@ -25,3 +25,4 @@ pub mod SectionExample
 pub mod LetterLaws
 pub mod Boards
 pub mod RowLaws
+pub mod Openings
