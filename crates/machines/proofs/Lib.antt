@@ -26,3 +26,4 @@ pub mod LetterLaws
 pub mod Boards
 pub mod RowLaws
 pub mod Openings
+pub mod LaidOut

@@ -1,0 +1,187 @@
+-- What stands in a pack is laid out: the tables that laying out leaves say it.
+use Prim.Native.Nat.{ℕ, zero, suc, _+_, _*_, _<_, _≤_}
+use native.Mathlib.Omega.{arith}
+use mathlib.Core.List.{List, [], _∷_, _++_, append-assoc}
+use mathlib.Core.Bool.{Bool, true, false, cond, _&&_}
+use mathlib.Core.Path.{_≡_, refl, sym, ap, subst, _∙_}
+use lib.ListN.{length, getD, set, take, length-append}
+use lib.Dec.{eqb, leb}
+use borrow.Author.Tests.{eq-eqb, leb-true, ne-eqb}
+use Rattle.wire.specs.Answer.{below, byte, counted, u16, value}
+use Rattle.wire.proofs.Answers.{guard-value}
+use Rattle.pack.specs.Limits.{absent, maxName}
+use Rattle.pack.specs.Names.{Name}
+use Rattle.pack.specs.Syntax.{Equation, Regions, States, Transition, rCons, rNil, sCons, sNil}
+use Rattle.pack.specs.Forms.{flagOf, nameAt}
+use Rattle.pack.specs.Read.{equationsIn, transitionIn}
+use Rattle.pack.specs.Write.{enc}
+use Rattle.pack.proofs.Tables.{enc-append}
+use Rattle.machines.specs.declared.lay.Lay.{Lay}
+use Rattle.machines.specs.declared.lay.Opening.{Opening}
+use Rattle.machines.specs.declared.sure.Num.{Num}
+use Rattle.machines.specs.Checks.{allNamesR, allNamesS}
+use Rattle.machines.specs.Counts.{anyS, countR, countS, filledR, filledS}
+use Rattle.machines.specs.Laid.{LaidR, LaidS, holed, lEnd, lMore, prefixOf, rEnd, rLeft, rMore as rLaid, sliceOf}
+use Rattle.machines.specs.Lays.{Board, board, closeRegion, closeState, fed, inner, lay, layRegion, layState, lettersOf, machineAs, movedTo, movesAt, nameNumber, opening, openRegion, openState, passed, refineB, regionB, regionFrom, regionsAt, spelt, spellLen, spelling, stateWords, sum, tally, times}
+use Rattle.machines.specs.Resolve.{prefixTransitions, shortName, shortR, shortS, shortTargets}
+use Rattle.machines.specs.Stands.{MachineAt, RegionAt, StandsR, StandsS, StateAt, endOf, rInto, rMore, rPlain, sEnd, sMore}
+use Rattle.machines.specs.Sure.{byteIn, num, numberIn, with}
+use Rattle.machines.proofs.Reading.{name-number}
+use Rattle.machines.proofs.SureLaws.{byte-to, end-to, number-num, number-to}
+use Rattle.machines.proofs.NamesPlaced.{SpotAt, spot-length}
+use Rattle.machines.proofs.LetterLaws.{spelling-is, spelt-is, spelt-length, sum-is}
+use Rattle.machines.proofs.Boards.{Agrees, Room, Step, Under, agrees-before, agrees-later, room-first, room-then, spare, step-none, step-then, under-agrees, under-then}
+use Rattle.machines.proofs.Openings.{agrees-close-region, agrees-close-state, open-region-is, openedRegion, openedState, region-place, region-row, state-name, state-row, step-close-region, step-close-state, step-region, step-state}
+
+-- a name that is not empty, as a prefix
+prefix-some : (n : Name) → 0 < length n → prefixOf n ≡ n ++ (95 ∷ [])
+unfolding prefixOf
+prefix-some [] h = absurd (omega arith)
+prefix-some (c ∷ n) h = refl
+
+and-left : (x y : Bool) → (x && y) ≡ true → x ≡ true
+and-left true y e = refl
+and-left false y e = let z : _≡_ {A = ℕ} 0 1 = cc in absurd (omega arith)
+
+and-right : (x y : Bool) → (x && y) ≡ true → y ≡ true
+and-right true y e = e
+and-right false y e = let z : _≡_ {A = ℕ} 0 1 = cc in absurd (omega arith)
+
+-- names that stay short, part by part
+record ShortS (s : Name) (rs : Regions) (rest : States) : Type 0 where
+  name : length s < 256
+  regions : shortR 0 rs ≡ true
+  states : shortS 0 rest ≡ true
+
+short-states : (s : Name) (es : List Equation) (ts : List Transition) (rs : Regions) (rest : States) → shortS 0 (sCons s es ts rs rest) ≡ true → ShortS s rs rest
+unfolding shortS shortName maxName
+short-states s es ts rs rest e =
+    let n = leb-true (0 + length s) 255 (and-left (leb (0 + length s) 255) _ e) in
+    let f = and-right (shortTargets 0 ts) _ (and-right (leb (0 + length s) 255) _ e) in
+    record { name = omega arith; regions = and-left (shortR 0 rs) _ f; states = and-right (shortR 0 rs) _ f }
+
+short-regions : (i : Name) (h : Bool) (ss : States) (rest : Regions) → shortR 0 (rCons i h ss rest) ≡ true → (shortS 0 ss ≡ true) × (shortR 0 rest ≡ true)
+unfolding shortR
+short-regions i h ss rest e =
+    let f = and-right (shortName 0 i) _ e in (and-left (shortS 0 ss) _ f, and-right (shortS 0 ss) _ f)
+
+-- letters, part by part
+letters-states : (s : Name) (es : List Equation) (ts : List Transition) (rs : Regions) (rest : States) → enc (allNamesS (sCons s es ts rs rest)) ≡ (length s ∷ s) ++ (enc (allNamesR rs) ++ enc (allNamesS rest))
+unfolding enc allNamesS
+letters-states s es ts rs rest = ap (λ (y : List ℕ). length s ∷ (s ++ y)) (enc-append (allNamesR rs) (allNamesS rest))
+
+letters-regions : (i : Name) (h : Bool) (ss : States) (rest : Regions) → enc (allNamesR (rCons i h ss rest)) ≡ enc (allNamesS ss) ++ enc (allNamesR rest)
+unfolding allNamesR
+letters-regions i h ss rest = enc-append (allNamesS ss) (allNamesR rest)
+
+-- openings that were read
+region-opening : (ns : List Name) (s : List ℕ) (at : ℕ) (i : Name) (h : Bool) (k b : ℕ) (r : RegionAt ns s at i h k b) → regionFrom s at ≡ opening (name-number ns s at i (r .to-history) (r .initial) .i) (r .byte) k b
+unfolding regionFrom below
+region-opening ns s at i h k b r =
+    let n = name-number ns s at i (r .to-history) (r .initial) in
+    let g = guard-value _ (r .to-history) (byte s (r .to-history)) (r .byte) (r .to-states) (r .history) in
+    number-to s at (n .i) (r .to-history) _ (n .is) ∙ byte-to s (r .to-history) (r .byte) (r .to-states) _ (g .0) ∙ number-to s (r .to-states) k b _ (r .states)
+
+machine-opening : (ns : List Name) (s : List ℕ) (y at : ℕ) (i : Name) (k b : ℕ) (r : MachineAt ns s at i k b) → machineAs s y at ≡ opening (name-number ns s at i (r .to-states) (r .initial) .i) y k b
+unfolding machineAs
+machine-opening ns s y at i k b r =
+    let n = name-number ns s at i (r .to-states) (r .initial) in
+    number-to s at (n .i) (r .to-states) _ (n .is) ∙ number-to s (r .to-states) k b _ (r .states)
+
+-- one region more
+tally-same : (k w v : ℕ) → w ≡ v → tally k w v ≡ k
+unfolding tally
+tally-same k w v e = ap (λ (y : Bool). cond y k (sum k 1)) (eq-eqb w v e)
+
+tally-more : (k w v : ℕ) → w < v → k < 4294967296 → tally k w v ≡ k + 1
+unfolding tally
+tally-more k w v h l = ap (λ (y : Bool). cond y k (sum k 1)) (ne-eqb w v (λ e. omega arith)) ∙ sum-is k 1 (omega arith)
+
+module _ (ns : List Name) (s : List ℕ) where
+  -- states laid out from b to d
+  record DoneS (b d : Board) (p : Name) (up l n : ℕ) (ss : States) (q : ℕ) : Type 0 where
+    next : d .c .next ≡ q
+    step : Step b d (filledS ss) (countS ss) (enc (allNamesS ss))
+    laid : (t reg lets : List ℕ) → Agrees b d t reg lets → LaidS ns s t reg lets p up l n (b .c .words) (b .c .regions) (b .c .hole) ss (d .c .words) (d .c .regions) (d .c .hole)
+
+  -- one region, and others after it
+  record DoneOne (b d : Board) (l st up : ℕ) (full : Name) (h : Bool) (ss : States) (q : ℕ) : Type 0 where
+    next : d .c .next ≡ q
+    step : Step b d (anyS ss + filledS ss) (countS ss) (enc (allNamesS ss))
+    new : ℕ
+    tallied : (k : ℕ) → k ≤ b .c .words → tally k (b .c .words) (d .c .words) ≡ k + new
+    fewer : (k : ℕ) → k ≤ b .c .words → k + new ≤ d .c .words
+    laid : (t reg lets : List ℕ) → Agrees b d t reg lets → (j e o : ℕ) (f : Bool) (rest : Regions) → LaidR ns s t reg lets up st (suc l) j (d .c .words) (d .c .regions) (d .c .hole) rest e o f
+        → LaidR ns s t reg lets up st (suc l) (new + j) (b .c .words) (b .c .regions) (b .c .hole) (rCons full h ss rest) e o f
+
+  -- a state's regions, up to its closing
+  record DoneR (b out : Board) (st up l k : ℕ) (rs : Regions) (e : ℕ) : Type 0 where
+    d : Board
+    j : ℕ
+    is : out ≡ closeState st (k + j) e d
+    step : Step b d (filledR rs) (countR rs) (enc (allNamesR rs))
+    laid : (t reg lets : List ℕ) → Agrees b d t reg lets → LaidR ns s t reg lets up st l j (b .c .words) (b .c .regions) (b .c .hole) rs (d .c .words) (d .c .regions) (d .c .hole)
+
+  module _ (spots : List ℕ) (spot : (i : ℕ) → i < length ns → SpotAt s (getD spots i 0) (nameAt ns i)) (to : List ℕ) where
+    -- a state's regions and refinement, after k regions
+    unfoldable stateRest : (ℕ → ℕ → ℕ → ℕ → Opening → Board → Board) → ℕ → ℕ → ℕ → ℕ → ℕ → ℕ → ℕ → ℕ → Board → Board
+    stateRest rec st up a m la ln n k b = inner (regionB ns s spots to rec st up a m) n k b (λ i d. refineB ns s spots to rec st up la ln i d)
+
+    -- a state as it is opened
+    module _ (b : Board) (a m : ℕ) (p nm full : Name) (es : List Equation) (ts : List Transition) (k q : ℕ) (h : StateAt ns s (b .c .next) nm es ts k q)
+        (named : full ≡ p ++ nm) (u : Under b a m p) (room : Room b 0 1 (length full ∷ full)) (short : length full < 256) where
+      moves-is : movesAt ns s (b .c .next) ≡ h .to-transitions
+      unfolding movesAt
+      moves-is =
+          let i = name-number ns s (b .c .next) nm (h .to-equations) (h .name) in
+          ap (λ (y : Num). endOf (equationsIn ns s (y .next))) (number-num s (b .c .next) (i .i) (h .to-equations) (i .is))
+          ∙ end-to (equationsIn ns s (h .to-equations)) es (h .to-transitions) (h .equations)
+
+      regions-is : regionsAt ns s (b .c .next) ≡ num k q
+      unfolding regionsAt
+      regions-is =
+          ap (λ (y : ℕ). numberIn s (endOf (counted (transitionIn ns s) s y))) moves-is
+          ∙ ap (numberIn s) (end-to (counted (transitionIn ns s) s (h .to-transitions)) ts (h .to-regions) (h .transitions))
+          ∙ number-num s (h .to-regions) k q (h .regions)
+
+      name-is : spelling s spots (nameNumber ns s (b .c .next)) (b .lets) a m ≡ full
+      unfolding nameNumber
+      name-is =
+          let i = name-number ns s (b .c .next) nm (h .to-equations) (h .name) in
+          let l = room .letters in
+          let x = u .inside in
+          ap (λ (y : Num). spelling s spots (y .value) (b .lets) a m) (number-num s (b .c .next) (i .i) (h .to-equations) (i .is))
+          ∙ spelling-is s spots (i .i) (b .lets) a m p (nameAt ns (i .i)) (omega arith) (u .is) (spot (i .i) (i .small))
+          ∙ ap (λ (y : Name). p ++ y) (i .named) ∙ sym named
+
+      length-is : lettersOf ns s spots a m b ≡ length full
+      unfolding lettersOf
+      length-is =
+          let l = room .letters in
+          spelt-length s spots (nameNumber ns s (b .c .next)) (b .lets) a m (b .c .letters) full name-is (u .inside) (omega arith)
+
+      letter-is : sum (b .c .letters) 1 ≡ b .c .letters + 1
+      letter-is =
+          let l = room .letters in
+          let n = room .lets-small in
+          sum-is (b .c .letters) 1 (omega arith)
+
+      open-is : openState ns s spots a m b ≡ openedState b (h .to-transitions) q full
+      unfolding openState
+      open-is =
+          let l = room .letters in
+          let w = room .words in
+          let n = room .lets-small in
+          let o = room .t-small in
+          let z : b .c .letters + 1 + length full ≡ b .c .letters + suc (length full) = omega arith in
+          let x : sum (sum (b .c .letters) 1) (lettersOf ns s spots a m b) ≡ b .c .letters + suc (length full) =
+          ap (λ (y : ℕ). sum y (lettersOf ns s spots a m b)) letter-is ∙ ap (sum (b .c .letters + 1)) length-is ∙ sum-is (b .c .letters + 1) (length full) (omega arith) ∙ z in
+          let v : sum (b .c .words) 6 ≡ b .c .words + 6 = sum-is (b .c .words) 6 (omega arith) in
+          let g = spelt-is s spots (nameNumber ns s (b .c .next)) (b .lets) a m (b .c .letters) full name-is (u .inside) (omega arith) short in
+          λ i. board (stateWords (b .t) (b .c .words) (b .c .next) (moves-is i) (letter-is i) (length-is i)) (b .reg) (g i)
+          (lay (regions-is i .next) (v i) (b .c .regions) (x i) (b .c .hole))
+
+      state-open : (rec : ℕ → ℕ → ℕ → ℕ → Opening → Board → Board) (up : ℕ)
+          → layState ns s spots to rec up a m b ≡ stateRest rec (b .c .words) up a m (b .c .letters + 1) (length full) k 0 (openedState b (h .to-transitions) q full)
+      unfolding layState stateRest
+      state-open rec up = λ i. inner (regionB ns s spots to rec (b .c .words) up a m) (regions-is i .value) 0 (open-is i) (λ j d. refineB ns s spots to rec (b .c .words) up (letter-is i) (length-is i) j d)
