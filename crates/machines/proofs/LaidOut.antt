@@ -185,3 +185,81 @@ module _ (ns : List Name) (s : List ℕ) where
           → layState ns s spots to rec up a m b ≡ stateRest rec (b .c .words) up a m (b .c .letters + 1) (length full) k 0 (openedState b (h .to-transitions) q full)
       unfolding layState stateRest
       state-open rec up = λ i. inner (regionB ns s spots to rec (b .c .words) up a m) (regions-is i .value) 0 (open-is i) (λ j d. refineB ns s spots to rec (b .c .words) up (letter-is i) (length-is i) j d)
+
+    -- a state's regions, one by one
+    module _ (rec : ℕ → ℕ → ℕ → ℕ → Opening → Board → Board) (st up a m la ln : ℕ) where
+      rest-more : (n k : ℕ) (b d : Board) → rec st up a m (regionFrom s (b .c .next)) b ≡ d → stateRest rec st up a m la ln (suc n) k b ≡ stateRest rec st up a m la ln n (tally k (b .c .words) (d .c .words)) d
+      unfolding stateRest inner fed regionB
+      rest-more n k b d e = ap (λ (y : Board). inner (regionB ns s spots to rec st up a m) n (tally k (b .c .words) (y .c .words)) y (λ i d. refineB ns s spots to rec st up la ln i d)) e
+
+      rest-plain : (k e : ℕ) (b : Board) → u16 s (b .c .next) ≡ value absent e → stateRest rec st up a m la ln zero k b ≡ closeState st k e b
+      unfolding stateRest inner refineB
+      rest-plain k e b r = number-to s (b .c .next) absent e _ r ∙ rw (eq-eqb absent absent refl)
+
+      rest-into : (x k e : ℕ) (b d : Board) → u16 s (b .c .next) ≡ value x e → (x ≡ absent → ⊥) → rec st up la ln (machineAs s 0 (getD to x 0)) b ≡ d
+          → stateRest rec st up a m la ln zero k b ≡ closeState st (tally k (b .c .words) (d .c .words)) e d
+      unfolding stateRest inner refineB fed
+      rest-into x k e b d r n f =
+          number-to s (b .c .next) x e _ r
+          ∙ rw (ne-eqb x absent n) (ap (λ (y : Board). closeState st (tally k (b .c .words) (y .c .words)) e y) f)
+
+    -- states, and the regions of a state, wherever they are laid out
+    abbrev LaysS : Name → ℕ → ℕ → ℕ → States → ℕ → Type 0
+    LaysS p l n at ss q = (b : Board) (up a m : ℕ) → b .c .next ≡ at → Under b a m p → Room b (filledS ss) (countS ss) (enc (allNamesS ss)) → shortS 0 ss ≡ true
+        → DoneS b (times (layState ns s spots to (layRegion ns s spots to l) up a m) n b) p up l n ss q
+
+    abbrev LaysR : Name → ℕ → Name → ℕ → ℕ → Regions → ℕ → Type 0
+    LaysR p l nm n at rs e = (b : Board) (st up a m la ln k : ℕ) → b .c .next ≡ at → Under b a m p → Under b la ln (p ++ (nm ++ (95 ∷ []))) → k ≤ b .c .words
+        → Room b (filledR rs) (countR rs) (enc (allNamesR rs)) → shortR 0 rs ≡ true
+        → DoneR b (stateRest (layRegion ns s spots to l) st up a m la ln n k b) st up l k rs e
+
+    -- a region that is laid out
+    module _ (l st up a m x y n at z : ℕ) (b : Board) (p full : Name) (h : Bool) (ss : States)
+        (small : x < length ns) (flag : flagOf y ≡ h) (named : full ≡ p ++ nameAt ns x) (u : Under b a m p)
+        (ih : LaysS p l n at ss z) (room : Room b (anyS ss + filledS ss) (countS ss) (enc (allNamesS ss))) (short : shortS 0 ss ≡ true) where
+      closed-is : (eqb n 0 && b .c .hole) ≡ false → b .c .words + 9 ≤ 4294967296 → b .c .regions + 1 ≤ 4294967296
+          → layRegion ns s spots to (suc l) st up a m (opening x y n at) b
+          ≡ closeRegion (b .c .words) (times (layState ns s spots to (layRegion ns s spots to l) (b .c .regions) a m) n (openedRegion st up a m (opening x y n at) b))
+      unfolding layRegion
+      closed-is e i j =
+          ap (λ (w : Bool). cond w (passed at b) (closeRegion (b .c .words) (times (layState ns s spots to (layRegion ns s spots to l) (b .c .regions) a m) n (openRegion st up a m (opening x y n at) b)))) e
+          ∙ ap (λ (w : Board). closeRegion (b .c .words) (times (layState ns s spots to (layRegion ns s spots to l) (b .c .regions) a m) n w)) (open-region-is st up a m (opening x y n at) b i j)
+
+      region-laid : (eqb n 0 && b .c .hole) ≡ false → 1 + spare (holed (b .c .hole) n) ≤ anyS ss + spare (b .c .hole)
+          → DoneOne b (layRegion ns s spots to (suc l) st up a m (opening x y n at) b) l st up full h ss z
+      unfolding closeRegion
+      region-laid e pays =
+          let w = room .words in
+          let r = room .regions in
+          let tm = room .t-small in
+          let rm = room .reg-small in
+          let o : Board = openedRegion st up a m (opening x y n at) b in
+          let none : enc (allNamesS ss) ≡ [] ++ enc (allNamesS ss) = refl in
+          let first : Room b (anyS ss) 0 [] = room-first b (anyS ss) 0 [] (filledS ss) (countS ss) (enc (allNamesS ss)) (anyS ss + filledS ss) (countS ss) (enc (allNamesS ss)) refl (omega arith) none room in
+          let so : Step b o (anyS ss) 0 [] = step-region st up a m x y n at (anyS ss) b first pays in
+          let g = ih o (b .c .regions) a m refl (under-then b o a m p (anyS ss) 0 [] u so)
+          (room-then b o (anyS ss) 0 [] (filledS ss) (countS ss) (enc (allNamesS ss)) (anyS ss + filledS ss) (countS ss) (enc (allNamesS ss)) refl (omega arith) none room so) short in
+          let d : Board = times (layState ns s spots to (layRegion ns s spots to l) (b .c .regions) a m) n o in
+          let sd : Step b d (anyS ss + filledS ss) (countS ss) (enc (allNamesS ss)) =
+          step-then b o d (anyS ss) 0 [] (filledS ss) (countS ss) (enc (allNamesS ss)) (anyS ss + filledS ss) (countS ss) (enc (allNamesS ss)) refl (omega arith) none so (g .step) in
+          let sc = step-close-region b d (anyS ss + filledS ss) (countS ss) (enc (allNamesS ss)) sd in
+          let gw = g .step .words in
+          let full-words = sd .words-full in
+          subst (λ (k : Board). DoneOne b k l st up full h ss z) (sym (closed-is e (omega arith) (omega arith)))
+          (record {
+            next = g .next;
+            step = sc;
+            new = 1;
+            tallied = λ k i. tally-more k (b .c .words) (d .c .words) (omega arith) (omega arith);
+            fewer = λ k i. omega arith;
+            laid = λ t reg lets agr j e f q rest more.
+                let suc-is : suc j ≡ 1 + j = omega arith in
+                subst (λ (c : ℕ). LaidR ns s t reg lets up st (suc l) c (b .c .words) (b .c .regions) (b .c .hole) (rCons full h ss rest) e f q) suc-is
+                (rLaid (region-row st up a m x y n at (anyS ss) b first pays d (filledS ss) (countS ss) (enc (allNamesS ss)) (g .step) t reg lets agr)
+                (region-place st up a m x y n at (anyS ss) b first pays d (filledS ss) (countS ss) (enc (allNamesS ss)) (g .step) t reg lets agr)
+                small flag
+                (under-agrees b (closeRegion (b .c .words) d) a m p t reg lets (under-then b (closeRegion (b .c .words) d) a m p (anyS ss + filledS ss) (countS ss) (enc (allNamesS ss)) u sc) agr)
+                named
+                (g .laid t reg lets (agrees-close-region b o d t reg lets (omega arith) (omega arith) agr))
+                more);
+          })
