@@ -97,6 +97,16 @@ tally-more : (k w v : ℕ) → w < v → k < 4294967296 → tally k w v ≡ k + 
 unfolding tally
 tally-more k w v h l = ap (λ (y : Bool). cond y k (sum k 1)) (ne-eqb w v (λ e. omega arith)) ∙ sum-is k 1 (omega arith)
 
+-- a region is counted where it has states, and else it is the one that is spared
+pays-states : (g : Bool) (n : ℕ) (x : Name) (es : List Equation) (ts : List Transition) (rs : Regions) (rest : States) → 1 + spare (holed g (suc n)) ≤ anyS (sCons x es ts rs rest) + spare g
+unfolding holed anyS
+pays-states g n x es ts rs rest = omega arith
+
+pays-none : (g : Bool) → g ≡ false → 1 + spare (holed g zero) ≤ anyS sNil + spare g
+unfolding holed anyS spare
+pays-none true e = let z : _≡_ {A = ℕ} 0 1 = cc in absurd (omega arith)
+pays-none false e = omega arith
+
 module _ (ns : List Name) (s : List ℕ) where
   -- states laid out from b to d
   record DoneS (b d : Board) (p : Name) (up l n : ℕ) (ss : States) (q : ℕ) : Type 0 where
@@ -263,3 +273,51 @@ module _ (ns : List Name) (s : List ℕ) where
                 (g .laid t reg lets (agrees-close-region b o d t reg lets (omega arith) (omega arith) agr))
                 more);
           })
+
+    -- a region without states after such a one
+    region-left : (l st up a m x y at z : ℕ) (b : Board) (full : Name) (h : Bool) → b .c .hole ≡ true → at ≡ z → DoneOne b (layRegion ns s spots to (suc l) st up a m (opening x y zero at) b) l st up full h sNil z
+    unfolding layRegion passed movedTo anyS filledS countS allNamesS enc
+    region-left l st up a m x y at z b full h e f =
+        let sn = step-none b in
+        subst (λ (w : Bool).
+        DoneOne b
+        (cond w (passed at b) (closeRegion (b .c .words) (times (layState ns s spots to (layRegion ns s spots to l) (b .c .regions) a m) zero (openRegion st up a m (opening x y zero at) b))))
+        l st up full h sNil z) (sym e)
+        (record {
+          next = f;
+          step = record {
+            words = sn .words;
+            regions = sn .regions;
+            t-long = refl;
+            reg-long = refl;
+            lets-long = refl;
+            t-kept = λ i k. refl;
+            reg-kept = λ i k. refl;
+            lets-kept = refl;
+            words-full = omega arith;
+            regions-full = omega arith;
+            letters-full = sn .letters-full;
+            says = sn .says;
+          };
+          new = 0;
+          tallied = λ k i. tally-same k (b .c .words) (b .c .words) refl ∙ omega arith;
+          fewer = λ k i. omega arith;
+          laid = λ t reg lets agr j d o q rest more.
+              let zero-is : j ≡ 0 + j = omega arith in
+              subst (λ (c : ℕ). LaidR ns s t reg lets up st (suc l) c (b .c .words) (b .c .regions) (b .c .hole) (rCons full h sNil rest) d o q) zero-is
+              (subst (λ (w : Bool). LaidR ns s t reg lets up st (suc l) j (b .c .words) (b .c .regions) w (rCons full h sNil rest) d o q) (sym e)
+              (rLeft (subst (λ (w : Bool). LaidR ns s t reg lets up st (suc l) j (b .c .words) (b .c .regions) w rest d o q) e more)));
+        })
+
+    -- any region
+    one-region : {p : Name} {l n at : ℕ} {ss : States} {z : ℕ} → StandsS ns s (λ j. getD to j 0) p l n at ss z → (st up a m x y : ℕ) (b : Board) (full : Name) (h : Bool) → x < length ns → flagOf y ≡ h
+        → full ≡ p ++ nameAt ns x → Under b a m p → LaysS p l n at ss z → Room b (anyS ss + filledS ss) (countS ss) (enc (allNamesS ss)) → shortS 0 ss ≡ true
+        → DoneOne b (layRegion ns s spots to (suc l) st up a m (opening x y n at) b) l st up full h ss z
+    one-region {p} {l} (sEnd {at} {q = z} e) st up a m x y b full h small flag named u ih room short = go (b .c .hole) refl
+      where
+        go : (w : Bool) → b .c .hole ≡ w → DoneOne b (layRegion ns s spots to (suc l) st up a m (opening x y zero at) b) l st up full h sNil z
+        go true g = region-left l st up a m x y at z b full h g e
+        go false g = region-laid l st up a m x y zero at z b p full h sNil small flag named u ih room short g (pays-none (b .c .hole) g)
+    one-region {p} {l} (sMore {n} {at} {q = z} h′ i j o rs′ more) st up a m x y b full h small flag named u ih room short =
+        region-laid l st up a m x y (suc n) at z b p full h _ small flag named u ih room short (ap (λ w. w && b .c .hole) (ne-eqb (suc n) 0 (λ e. omega arith)))
+        (pays-states (b .c .hole) n _ _ _ _ _)
