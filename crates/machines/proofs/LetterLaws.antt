@@ -104,3 +104,9 @@ said-slice lets k at full h e =
     ∙ ap (λ (y : ℕ). take (length full) (drop (y + 1) (take at lets ++ (length full ∷ full)))) (sym i)
     ∙ ap (take (length full)) (drop-append-add (take at lets) (length full ∷ full) 1)
     ∙ take-length full
+
+-- a name that is not empty, as a prefix
+pub prefix-some : (n : Name) → 0 < length n → prefixOf n ≡ n ++ (95 ∷ [])
+unfolding prefixOf
+prefix-some [] h = absurd (omega arith)
+prefix-some (c ∷ n) h = refl

@@ -26,4 +26,8 @@ pub mod LetterLaws
 pub mod Boards
 pub mod RowLaws
 pub mod Openings
+pub mod CountLaws
+pub mod StateOpened
+pub mod RegionLaid
 pub mod LaidOut
+pub mod LaidMachine

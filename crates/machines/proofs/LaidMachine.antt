@@ -1,0 +1,108 @@
+-- A machine is laid out: in tables as long as the limits ask, the tree that stands in the pack is what the tables say.
+use Prim.Native.Nat.{ℕ, zero, suc, _+_, _*_, _<_, _≤_}
+use native.Mathlib.Omega.{arith}
+use mathlib.Core.List.{List, [], _∷_, _++_}
+use mathlib.Core.Bool.{Bool, true, false, _&&_}
+use mathlib.Core.Path.{_≡_, refl, sym, ap, subst, _∙_}
+use lib.ListN.{length, getD, take, length-append}
+use Rattle.pack.specs.Limits.{maxLevel}
+use Rattle.pack.specs.Names.{Name}
+use Rattle.pack.specs.Syntax.{Drawing, Regions, States, rCons, rNil, sCons, sNil}
+use Rattle.pack.specs.Forms.{flagOf}
+use Rattle.pack.specs.Write.{enc}
+use Rattle.machines.specs.declared.lay.Lay.{Lay}
+use Rattle.machines.specs.declared.lay.Opening.{Opening}
+use Rattle.machines.specs.Checks.{allNamesR, allNamesS}
+use Rattle.machines.specs.Counts.{anyS, countR, countS, filledR, filledS}
+use Rattle.machines.specs.Laid.{LaidR, LaidS, holed, lEnd, lMore, prefixOf, rEnd, rLeft, rMore, sliceOf}
+use Rattle.machines.specs.Lays.{Board, board, lay, layMachine, layRegion, opening}
+use Rattle.machines.specs.Lower.{sizeR, sizeS}
+use Rattle.machines.specs.Resolve.{shortR, shortS}
+use Rattle.machines.specs.Stands.{MachineAt, StandsS}
+use Rattle.machines.proofs.Reading.{name-number}
+use Rattle.machines.proofs.Walked.{Ready}
+use Rattle.machines.proofs.Boards.{Room, Under, agrees-all, spare}
+use Rattle.machines.proofs.CountLaws.{filled-states, letters-few}
+use Rattle.machines.proofs.StateOpened.{machine-opening}
+use Rattle.machines.proofs.RegionLaid.{one-region}
+use Rattle.machines.proofs.LaidOut.{laysS}
+
+-- where no region without states was met, every region has its id
+holed-not : (g : Bool) (n : ℕ) → holed g n ≡ false → g ≡ false
+unfolding holed
+holed-not g zero e = let z : _≡_ {A = ℕ} 0 1 = cc in absurd (omega arith)
+holed-not g (suc n) e = e
+
+module _ (ns : List Name) (s t reg lets : List ℕ) where
+  mutual
+    unfolding sizeS sizeR
+
+    pub states-sized : {pre : Name} {up l n p i : ℕ} {g : Bool} {ss : States} {q j : ℕ} {h : Bool} → LaidS ns s t reg lets pre up l n p i g ss q j h → h ≡ false → (g ≡ false) × (j ≡ i + sizeS ss)
+    states-sized (lEnd a b c) e = (c ∙ e, omega arith)
+    states-sized (lMore {g} row d tr f x y rs more) e =
+        let a = states-sized more e in
+        let b = regions-sized rs (a .0) in
+        let c = a .1 in
+        let k = b .1 in
+        (b .0, omega arith)
+
+    pub regions-sized : {up st l k p i : ℕ} {g : Bool} {rs : Regions} {q j : ℕ} {h : Bool} → LaidR ns s t reg lets up st l k p i g rs q j h → h ≡ false → (g ≡ false) × (j ≡ i + sizeR rs)
+    regions-sized (rEnd a b c) e = (c ∙ e, omega arith)
+    regions-sized (rMore {n} {g} row at small flag x f ss more) e =
+        let a = regions-sized more e in
+        let b = states-sized ss (a .0) in
+        let c = a .1 in
+        let k = b .1 in
+        (holed-not g n (b .0), omega arith)
+    regions-sized (rLeft more) e = let a = regions-sized more e in let x = a .0 in let z : _≡_ {A = ℕ} 0 1 = cc in absurd (omega arith)
+
+-- what laying a machine out comes to
+pub record LaidMachine (ns : List Name) (s : List ℕ) (d : Board) (i : Name) (ss : States) : Type 0 where
+  pub laid : LaidR ns s (d .t) (d .reg) (d .lets) 0 0 8 1 0 0 false (rCons i true ss rNil) (d .c .words) (d .c .regions) (d .c .hole)
+  -- the letters are all names in preorder, each after its length
+  pub letters : take (d .c .letters) (d .lets) ≡ enc (allNamesS ss)
+  pub letters-end : d .c .letters ≡ length (enc (allNamesS ss))
+  pub all : d .c .hole ≡ false → d .c .regions ≡ suc (sizeS ss)
+
+history : flagOf 1 ≡ true
+unfolding flagOf
+history = refl
+
+abbrev blank : List ℕ → List ℕ → List ℕ → Board
+blank t reg lets = board t reg lets (lay 0 0 0 0 false)
+
+no-prefix : (t reg lets : List ℕ) → Under (blank t reg lets) 0 0 []
+unfolding prefixOf sliceOf
+no-prefix t reg lets = record { inside = omega arith; is = refl }
+
+-- tables as long as the limits ask: 512 states in 512 regions and one that has none, 255 letters a name
+all-room : (t reg lets : List ℕ) (ss : States) → countS ss ≤ 512 → shortS 0 ss ≡ true → 7698 ≤ length t → 514 ≤ length reg → 131072 ≤ length lets
+    → length t ≤ 4294967296 → length reg ≤ 4294967296 → length lets ≤ 4294967296 → Room (blank t reg lets) (anyS ss + filledS ss) (countS ss) (enc (allNamesS ss))
+unfolding spare
+all-room t reg lets ss few short a b c x y z =
+    let f = filled-states ss in
+    let l = letters-few ss short in
+    record { words = omega arith; regions = omega arith; letters = omega arith; t-small = x; reg-small = y; lets-small = z }
+
+-- THE THEOREM: a machine whose tree stands in a pack is laid out
+pub laid-machine : (s : List ℕ) (ns : List Name) (ms : List Drawing) (spots to : List ℕ) → Ready s ns ms spots to → (at : ℕ) (i : Name) (k b : ℕ) → MachineAt ns s at i k b
+    → (ss : States) (q : ℕ) → StandsS ns s (λ j. getD to j 0) [] 7 k b ss q → countS ss ≤ 512 → shortS 0 ss ≡ true
+    → (t reg lets : List ℕ) → 7698 ≤ length t → 514 ≤ length reg → 131072 ≤ length lets → length t ≤ 4294967296 → length reg ≤ 4294967296 → length lets ≤ 4294967296
+    → LaidMachine ns s (layMachine ns s spots to at t reg lets) i ss
+unfolding layMachine maxLevel sizeR
+laid-machine s ns ms spots to r at i k b m ss q stands few short t reg lets lt lr ll st sr sl =
+    let x = name-number ns s at i (m .to-states) (m .initial) in
+    let one = one-region ns s spots to stands 0 0 0 0 (x .i) 1 (blank t reg lets) i true (x .small) history (sym (x .named)) (no-prefix t reg lets)
+    (laysS ns s spots (r .spot) to stands) (all-room t reg lets ss few short lt lr ll st sr sl) short in
+    let d : Board = layRegion ns s spots to 8 0 0 0 0 (opening (x .i) 1 k b) (blank t reg lets) in
+    let n : one .new + 0 ≡ 1 = omega (arith, one .first refl) in
+    let laid : LaidR ns s (d .t) (d .reg) (d .lets) 0 0 8 1 0 0 false (rCons i true ss rNil) (d .c .words) (d .c .regions) (d .c .hole) =
+    subst (λ (c : ℕ). LaidR ns s (d .t) (d .reg) (d .lets) 0 0 8 c 0 0 false (rCons i true ss rNil) (d .c .words) (d .c .regions) (d .c .hole)) n
+    (one .laid (d .t) (d .reg) (d .lets) (agrees-all (blank t reg lets) d) 0 (d .c .words) (d .c .regions) (d .c .hole) rNil (rEnd refl refl refl)) in
+    subst (λ (h : Opening). LaidMachine ns s (layRegion ns s spots to 8 0 0 0 0 h (blank t reg lets)) i ss) (sym (machine-opening ns s 1 at i k b m))
+    (record {
+      laid = laid;
+      letters = one .step .says;
+      letters-end = one .step .letters-full ∙ omega arith;
+      all = λ e. let z = regions-sized ns s (d .t) (d .reg) (d .lets) laid e in let y = z .1 in omega arith;
+    })
