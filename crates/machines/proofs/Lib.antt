@@ -31,3 +31,5 @@ pub mod StateOpened
 pub mod RegionLaid
 pub mod LaidOut
 pub mod LaidMachine
+pub mod Counted
+pub mod Longest
