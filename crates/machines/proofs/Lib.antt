@@ -33,3 +33,4 @@ pub mod LaidOut
 pub mod LaidMachine
 pub mod Counted
 pub mod Longest
+pub mod WalkedLaid
