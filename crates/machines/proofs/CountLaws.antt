@@ -2,7 +2,7 @@
 use Prim.Native.Nat.{ℕ, suc, _+_, _*_, _<_, _≤_}
 use native.Mathlib.Omega.{arith}
 use mathlib.Core.List.{List, _∷_, _++_}
-use mathlib.Core.Bool.{Bool, true, false, _&&_}
+use mathlib.Core.Bool.{Bool, true, _&&_, and-eq-true-iff}
 use mathlib.Core.Path.{_≡_, refl, ap, _∙_}
 use lib.ListN.{length, length-append}
 use lib.Dec.{leb}
@@ -17,14 +17,6 @@ use Rattle.machines.specs.Counts.{anyS, countR, countS, filledR, filledS
 use Rattle.machines.specs.Resolve.{shortName, shortR, shortS, shortTargets}
 use Rattle.machines.specs.Sure.{with}
 
-and-left : (x y : Bool) → (x && y) ≡ true → x ≡ true
-and-left true y e = refl
-and-left false y e = let z : _≡_ {A = ℕ} 0 1 = cc in absurd (omega arith)
-
-and-right : (x y : Bool) → (x && y) ≡ true → y ≡ true
-and-right true y e = e
-and-right false y e = let z : _≡_ {A = ℕ} 0 1 = cc in absurd (omega arith)
-
 -- names that stay short, part by part
 pub record ShortS (s : Name) (rs : Regions) (rest : States) : Type 0 where
   pub name : length s < 256
@@ -34,14 +26,16 @@ pub record ShortS (s : Name) (rs : Regions) (rest : States) : Type 0 where
 pub short-states : (s : Name) (es : List Equation) (ts : List Transition) (rs : Regions) (rest : States) → shortS 0 (sCons s es ts rs rest) ≡ true → ShortS s rs rest
 unfolding shortS shortName maxName
 short-states s es ts rs rest e =
-    let n = leb-true (0 + length s) 255 (and-left (leb (0 + length s) 255) _ e) in
-    let f = and-right (shortTargets 0 ts) _ (and-right (leb (0 + length s) 255) _ e) in
-    record { name = omega arith; regions = and-left (shortR 0 rs) _ f; states = and-right (shortR 0 rs) _ f }
+    let a = and-eq-true-iff (leb (0 + length s) 255) (shortTargets 0 ts && (shortR 0 rs && shortS 0 rest)) .0 e in
+    let b = and-eq-true-iff (shortTargets 0 ts) (shortR 0 rs && shortS 0 rest) .0 (a .1) in
+    let c = and-eq-true-iff (shortR 0 rs) (shortS 0 rest) .0 (b .1) in
+    let n = leb-true (0 + length s) 255 (a .0) in
+    record { name = omega arith; regions = c .0; states = c .1 }
 
 pub short-regions : (i : Name) (h : Bool) (ss : States) (rest : Regions) → shortR 0 (rCons i h ss rest) ≡ true → (shortS 0 ss ≡ true) × (shortR 0 rest ≡ true)
 unfolding shortR
 short-regions i h ss rest e =
-    let f = and-right (shortName 0 i) _ e in (and-left (shortS 0 ss) _ f, and-right (shortS 0 ss) _ f)
+    and-eq-true-iff (shortS 0 ss) (shortR 0 rest) .0 (and-eq-true-iff (shortName 0 i) (shortS 0 ss && shortR 0 rest) .0 e .1)
 
 -- letters, part by part
 pub letters-states : (s : Name) (es : List Equation) (ts : List Transition) (rs : Regions) (rest : States) → enc (allNamesS (sCons s es ts rs rest)) ≡ (length s ∷ s) ++ (enc (allNamesR rs) ++ enc (allNamesS rest))

@@ -14,7 +14,7 @@ use Rattle.machines.specs.declared.lay.Lay.{Lay}
 use Rattle.machines.specs.declared.lay.Opening.{Opening}
 use Rattle.machines.specs.Checks.{allNamesR, allNamesS}
 use Rattle.machines.specs.Counts.{anyS, countR, countS, filledR, filledS}
-use Rattle.machines.specs.Laid.{LaidR, LaidS, holed, lEnd, lMore, prefixOf, rEnd, rLeft, rMore, sliceOf}
+use Rattle.machines.specs.Laid.{HeldR, LaidR, prefixOf, rEnd, sliceOf}
 use Rattle.machines.specs.Lays.{Board, board, lay, layMachine, layRegion, opening}
 use Rattle.machines.specs.Lower.{sizeR, sizeS}
 use Rattle.machines.specs.Resolve.{shortR, shortS}
@@ -26,35 +26,7 @@ use Rattle.machines.proofs.CountLaws.{filled-states, letters-few}
 use Rattle.machines.proofs.StateOpened.{machine-opening}
 use Rattle.machines.proofs.RegionLaid.{one-region}
 use Rattle.machines.proofs.LaidOut.{laysS}
-
--- where no region without states was met, every region has its id
-holed-not : (g : Bool) (n : ℕ) → holed g n ≡ false → g ≡ false
-unfolding holed
-holed-not g zero e = let z : _≡_ {A = ℕ} 0 1 = cc in absurd (omega arith)
-holed-not g (suc n) e = e
-
-module _ (ns : List Name) (s t reg lets : List ℕ) where
-  mutual
-    unfolding sizeS sizeR
-
-    pub states-sized : {pre : Name} {up l n p i : ℕ} {g : Bool} {ss : States} {q j : ℕ} {h : Bool} → LaidS ns s t reg lets pre up l n p i g ss q j h → h ≡ false → (g ≡ false) × (j ≡ i + sizeS ss)
-    states-sized (lEnd a b c) e = (c ∙ e, omega arith)
-    states-sized (lMore {g} row d tr f x y rs more) e =
-        let a = states-sized more e in
-        let b = regions-sized rs (a .0) in
-        let c = a .1 in
-        let k = b .1 in
-        (b .0, omega arith)
-
-    pub regions-sized : {up st l k p i : ℕ} {g : Bool} {rs : Regions} {q j : ℕ} {h : Bool} → LaidR ns s t reg lets up st l k p i g rs q j h → h ≡ false → (g ≡ false) × (j ≡ i + sizeR rs)
-    regions-sized (rEnd a b c) e = (c ∙ e, omega arith)
-    regions-sized (rMore {n} {g} row at small flag x f ss more) e =
-        let a = regions-sized more e in
-        let b = states-sized ss (a .0) in
-        let c = a .1 in
-        let k = b .1 in
-        (holed-not g n (b .0), omega arith)
-    regions-sized (rLeft more) e = let a = regions-sized more e in let x = a .0 in let z : _≡_ {A = ℕ} 0 1 = cc in absurd (omega arith)
+use Rattle.machines.proofs.LaidLaws.{regions-held, regions-sized}
 
 -- what laying a machine out comes to
 pub record LaidMachine (ns : List Name) (s : List ℕ) (d : Board) (i : Name) (ss : States) : Type 0 where
@@ -62,7 +34,12 @@ pub record LaidMachine (ns : List Name) (s : List ℕ) (d : Board) (i : Name) (s
   -- the letters are all names in preorder, each after its length
   pub letters : take (d .c .letters) (d .lets) ≡ enc (allNamesS ss)
   pub letters-end : d .c .letters ≡ length (enc (allNamesS ss))
-  pub all : d .c .hole ≡ false → d .c .regions ≡ suc (sizeS ss)
+  pub words-few : d .c .words ≤ 7689
+  pub regions-few : d .c .regions ≤ 513
+  pub letters-few : d .c .letters ≤ 131072
+  -- where no region without states was met
+  pub held : d .c .hole ≡ false → HeldR ns s (d .t) (d .reg) (d .lets) 0 0 8 1 0 0 (rCons i true ss rNil) (d .c .words) (d .c .regions)
+  pub regions : d .c .hole ≡ false → d .c .regions ≡ suc (sizeS ss)
 
 history : flagOf 1 ≡ true
 unfolding flagOf
@@ -89,12 +66,17 @@ pub laid-machine : (s : List ℕ) (ns : List Name) (ms : List Drawing) (spots to
     → (ss : States) (q : ℕ) → StandsS ns s (λ j. getD to j 0) [] 7 k b ss q → countS ss ≤ 512 → shortS 0 ss ≡ true
     → (t reg lets : List ℕ) → 7698 ≤ length t → 514 ≤ length reg → 131072 ≤ length lets → length t ≤ 4294967296 → length reg ≤ 4294967296 → length lets ≤ 4294967296
     → LaidMachine ns s (layMachine ns s spots to at t reg lets) i ss
-unfolding layMachine maxLevel sizeR
+unfolding layMachine maxLevel sizeR spare
 laid-machine s ns ms spots to r at i k b m ss q stands few short t reg lets lt lr ll st sr sl =
     let x = name-number ns s at i (m .to-states) (m .initial) in
     let one = one-region ns s spots to stands 0 0 0 0 (x .i) 1 (blank t reg lets) i true (x .small) history (sym (x .named)) (no-prefix t reg lets)
     (laysS ns s spots (r .spot) to stands) (all-room t reg lets ss few short lt lr ll st sr sl) short in
     let d : Board = layRegion ns s spots to 8 0 0 0 0 (opening (x .i) 1 k b) (blank t reg lets) in
+    let f = filled-states ss in
+    let l = letters-few ss short in
+    let wf = one .step .words-full in
+    let rf = one .step .regions-full in
+    let lf = one .step .letters-full in
     let n : one .new + 0 ≡ 1 = omega (arith, one .first refl) in
     let laid : LaidR ns s (d .t) (d .reg) (d .lets) 0 0 8 1 0 0 false (rCons i true ss rNil) (d .c .words) (d .c .regions) (d .c .hole) =
     subst (λ (c : ℕ). LaidR ns s (d .t) (d .reg) (d .lets) 0 0 8 c 0 0 false (rCons i true ss rNil) (d .c .words) (d .c .regions) (d .c .hole)) n
@@ -104,5 +86,9 @@ laid-machine s ns ms spots to r at i k b m ss q stands few short t reg lets lt l
       laid = laid;
       letters = one .step .says;
       letters-end = one .step .letters-full ∙ omega arith;
-      all = λ e. let z = regions-sized ns s (d .t) (d .reg) (d .lets) laid e in let y = z .1 in omega arith;
+      words-few = omega arith;
+      regions-few = omega arith;
+      letters-few = omega arith;
+      held = λ e. regions-held ns s (d .t) (d .reg) (d .lets) laid e;
+      regions = λ e. let z = regions-sized ns s (d .t) (d .reg) (d .lets) laid e in let y = z .1 in omega arith;
     })

@@ -12,7 +12,6 @@ pub mod WalkSame
 pub mod Agreeing
 pub mod Walked
 pub mod Covered
-pub mod Instance
 pub mod MadeLaws
 pub mod LocalLaws
 pub mod TermLaws
@@ -30,7 +29,9 @@ pub mod CountLaws
 pub mod StateOpened
 pub mod RegionLaid
 pub mod LaidOut
+pub mod LaidLaws
 pub mod LaidMachine
 pub mod Counted
 pub mod Longest
 pub mod WalkedLaid
+pub mod Instance
