@@ -1,15 +1,13 @@
 -- What laying out keeps of three tables, how far it fills them, and that there is room for it.
-use Prim.Native.Nat.{ℕ, zero, suc, _+_, _*_, _<_, _≤_}
+use Prim.Native.Nat.{ℕ, _+_, _*_, _<_, _≤_}
 use native.Mathlib.Omega.{arith}
-use mathlib.Core.List.{List, [], _∷_, _++_, append-assoc, append-nil}
-use mathlib.Core.Bool.{Bool, true, false, cond}
+use mathlib.Core.List.{List, [], _++_, append-assoc, append-nil}
+use mathlib.Core.Bool.{Bool, true, false}
 use mathlib.Core.Path.{_≡_, refl, sym, ap, _∙_}
-use lib.ListN.{length, getD, set, take, length-append, length-set}
-use lib.Seq.{getD-set-other, getD-set-same}
+use lib.ListN.{length, getD, take, length-append}
 use Rattle.pack.specs.Names.{Name}
-use Rattle.machines.specs.declared.lay.Lay.{Lay}
 use Rattle.machines.specs.Laid.{prefixOf, sliceOf}
-use Rattle.machines.specs.Lays.{Board, board, closeRegion, closeState, lay, movedTo, stateEnds}
+use Rattle.machines.specs.Lays.{Board}
 use Rattle.machines.proofs.LetterLaws.{slice-shared, take-less}
 
 -- one region without states may still be laid out

@@ -3,7 +3,7 @@ use Prim.Native.Nat.{ℕ, suc, _+_, _*_, _<_, _≤_}
 use native.Mathlib.Omega.{arith}
 use mathlib.Core.List.{List, _∷_, _++_}
 use mathlib.Core.Bool.{Bool, true, _&&_, and-eq-true-iff}
-use mathlib.Core.Path.{_≡_, refl, ap, _∙_}
+use mathlib.Core.Path.{_≡_, ap, _∙_}
 use lib.ListN.{length, length-append}
 use lib.Dec.{leb}
 use borrow.Author.Tests.{leb-true}
@@ -15,7 +15,6 @@ use Rattle.pack.proofs.Tables.{enc-append}
 use Rattle.machines.specs.Checks.{allNamesR, allNamesS}
 use Rattle.machines.specs.Counts.{anyS, countR, countS, filledR, filledS}
 use Rattle.machines.specs.Resolve.{shortName, shortR, shortS, shortTargets}
-use Rattle.machines.specs.Sure.{with}
 
 -- names that stay short, part by part
 pub record ShortS (s : Name) (rs : Regions) (rest : States) : Type 0 where

@@ -13,7 +13,7 @@ use Rattle.pack.specs.Names.{Name}
 use Rattle.pack.specs.Syntax.{Drawing, Drawn, DrawnRegions, Equation, Regions, States, Transition, dCons, dNil, qCons, qNil, rCons, rNil, sCons, sNil}
 use Rattle.machines.specs.Counts.{countR, countS}
 use Rattle.machines.specs.Refusals.{tooLarge}
-use Rattle.machines.specs.Resolve.{Target, Walk, arrive, prefixR, prefixS, refineAt, resolveR, resolveS, resolvedStates, shortName, shortS, snoc, stop, walkOn, went, withRefine, withTarget}
+use Rattle.machines.specs.Resolve.{Target, Walk, arrive, prefixR, prefixS, refineAt, resolveR, resolveS, resolvedStates, shortName, shortS, snoc, stop, went, withRefine, withTarget}
 use Rattle.machines.proofs.Standing.{deeper-went, refine-went, target-went, walkOn-went}
 
 -- prefixes do not count, and a refinement adds its states
@@ -75,8 +75,7 @@ module _ (top : Name) (ms : List Drawing) where
       let u = target-went top (refineAt f top ms path) nm qs (g .0) (g .1) us m (g .3) in
       let v = target-count top (refineAt f top ms path) nm qs (g .0) (g .1) us m (g .3) in
       let x = low (h .j) (h .level) (h .f) (h .path) (h .d .states) c (h .ss) (g .1) (h .inside) in
-      let xi = x .is in
-      (
+      let xi = x .is in (
         countS (h .ss),
         ap countR u ∙ snoc-count qs ((nm ++ (95 ∷ [])) ++ g .0 .initial) (prefixS (nm ++ (95 ∷ [])) (g .0 .states))
             ∙ ap (λ (y : ℕ). countR qs + y) (prefix-count (nm ++ (95 ∷ [])) (g .0 .states) ∙ ap countS (h .states)),

@@ -1,23 +1,22 @@
 -- A machine is laid out: in tables as long as the limits ask, the tree that stands in the pack is what the tables say.
-use Prim.Native.Nat.{ℕ, zero, suc, _+_, _*_, _<_, _≤_}
+use Prim.Native.Nat.{ℕ, suc, _+_, _≤_}
 use native.Mathlib.Omega.{arith}
-use mathlib.Core.List.{List, [], _∷_, _++_}
-use mathlib.Core.Bool.{Bool, true, false, _&&_}
-use mathlib.Core.Path.{_≡_, refl, sym, ap, subst, _∙_}
-use lib.ListN.{length, getD, take, length-append}
+use mathlib.Core.List.{List, []}
+use mathlib.Core.Bool.{true, false}
+use mathlib.Core.Path.{_≡_, refl, sym, subst, _∙_}
+use lib.ListN.{length, getD, take}
 use Rattle.pack.specs.Limits.{maxLevel}
 use Rattle.pack.specs.Names.{Name}
-use Rattle.pack.specs.Syntax.{Drawing, Regions, States, rCons, rNil, sCons, sNil}
+use Rattle.pack.specs.Syntax.{Drawing, States, rCons, rNil}
 use Rattle.pack.specs.Forms.{flagOf}
 use Rattle.pack.specs.Write.{enc}
-use Rattle.machines.specs.declared.lay.Lay.{Lay}
 use Rattle.machines.specs.declared.lay.Opening.{Opening}
-use Rattle.machines.specs.Checks.{allNamesR, allNamesS}
-use Rattle.machines.specs.Counts.{anyS, countR, countS, filledR, filledS}
+use Rattle.machines.specs.Checks.{allNamesS}
+use Rattle.machines.specs.Counts.{anyS, countS, filledS}
 use Rattle.machines.specs.Laid.{HeldR, LaidR, prefixOf, rEnd, sliceOf}
 use Rattle.machines.specs.Lays.{Board, board, lay, layMachine, layRegion, opening}
 use Rattle.machines.specs.Lower.{sizeR, sizeS}
-use Rattle.machines.specs.Resolve.{shortR, shortS}
+use Rattle.machines.specs.Resolve.{shortS}
 use Rattle.machines.specs.Stands.{MachineAt, StandsS}
 use Rattle.machines.proofs.Reading.{name-number}
 use Rattle.machines.proofs.Walked.{Ready}

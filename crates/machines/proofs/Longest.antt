@@ -1,5 +1,5 @@
 -- The longest name of a walk is within 255: lengths are bytes, and qualified ones are tested.
-use Prim.Native.Nat.{ℕ, zero, suc, _+_, _≤_, _<_}
+use Prim.Native.Nat.{ℕ, zero, suc, _+_, _≤_}
 use native.Mathlib.Omega.{arith}
 use mathlib.Core.List.{List}
 use mathlib.Core.Bool.{Bool, true, false, cond}
@@ -14,7 +14,7 @@ use Rattle.machines.specs.declared.path.Path.{Path}
 use Rattle.machines.specs.declared.sure.Num.{Num}
 use Rattle.machines.specs.declared.walk.Walked.{Walked}
 use Rattle.machines.specs.declared.walk.Walked.the-variants as wk
-use Rattle.machines.specs.Sure.{machineFrom, num, numberIn, regionIn, turns, with}
+use Rattle.machines.specs.Sure.{machineFrom, numberIn, regionIn, turns, with}
 use Rattle.machines.specs.Tables.{lenOf}
 use Rattle.machines.specs.Paths.{pushedOf, startOf}
 use Rattle.machines.specs.Walks.{enterW, goOn, headT, lenAt, machineW, maxOf, qualifyOf, refineW, regionW, rounds, stateW, targetT, walk}

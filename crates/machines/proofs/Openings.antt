@@ -1,13 +1,11 @@
 -- States and regions opened and closed on the tables: each a step, and then the row says what it should.
-use Prim.Native.Nat.{ℕ, zero, suc, _+_, _*_, _<_, _≤_}
+use Prim.Native.Nat.{ℕ, suc, _+_, _<_, _≤_}
 use native.Mathlib.Omega.{arith}
-use mathlib.Core.List.{List, [], _∷_, _++_, append-nil}
-use mathlib.Core.Bool.{Bool}
+use mathlib.Core.List.{List, [], _∷_, append-nil}
 use mathlib.Core.Path.{_≡_, refl, sym, ap, _∙_}
 use lib.ListN.{length, getD, set, take, length-set}
 use lib.Seq.{getD-set-other, getD-set-same, length-sets, sets}
 use Rattle.pack.specs.Names.{Name}
-use Rattle.machines.specs.declared.lay.Lay.{Lay}
 use Rattle.machines.specs.declared.lay.Opening.{Opening}
 use Rattle.machines.specs.Laid.{RegionRow, StateRow, holed, sliceOf}
 use Rattle.machines.specs.Lays.{Board, board, closeRegion, closeState, lay, movedTo, opening, openRegion, regionWords, stateWords, sum}

@@ -7,7 +7,6 @@ use mathlib.Core.Path.{_≡_, refl, sym, ap, subst, _∙_}
 use lib.ListN.{length, getD}
 use lib.Dec.{eqb}
 use borrow.Author.Tests.{eq-eqb, ne-eqb}
-use Rattle.wire.specs.Answer.{counted}
 use Rattle.pack.specs.Names.{Name}
 use Rattle.pack.specs.Syntax.{Equation, Regions, States, Transition, rCons, sCons, sNil}
 use Rattle.pack.specs.Forms.{flagOf, nameAt}

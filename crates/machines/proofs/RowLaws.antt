@@ -1,18 +1,11 @@
 -- A state's row and a region's, opened and closed.
-use Prim.Native.Nat.{ℕ, zero, suc, _+_, _*_, _<_, _≤_}
+use Prim.Native.Nat.{ℕ, _+_, _<_, _≤_}
 use native.Mathlib.Omega.{arith}
-use mathlib.Core.List.{List, [], _∷_, _++_, append-nil}
-use mathlib.Core.Bool.{Bool, true, false}
-use mathlib.Core.Path.{_≡_, refl, sym, ap, _∙_}
-use lib.ListN.{length, getD, set, take, length-set}
-use lib.Seq.{getD-set-other, getD-set-same, length-sets, sets}
-use Rattle.pack.specs.Names.{Name}
-use Rattle.machines.specs.declared.lay.Lay.{Lay}
-use Rattle.machines.specs.declared.lay.Opening.{Opening}
-use Rattle.machines.specs.Laid.{holed}
-use Rattle.machines.specs.Lays.{Board, board, closeRegion, closeState, lay, movedTo, opening, openRegion, regionWords, stateEnds, stateWords}
-use Rattle.machines.proofs.LetterLaws.{said, said-before, sum-is}
-use Rattle.machines.proofs.Boards.{Agrees, Room, Step, spare}
+use mathlib.Core.List.{List}
+use mathlib.Core.Path.{_≡_, refl, _∙_}
+use lib.ListN.{length, getD, set, length-set}
+use lib.Seq.{getD-set-other, getD-set-same}
+use Rattle.machines.specs.Lays.{opening, regionWords, stateEnds, stateWords}
 
 -- a word that is not the one that was set
 keep : (l : List ℕ) (i v j x : ℕ) → (j ≡ i → ⊥) → getD l j 0 ≡ x → getD (set l i v) j 0 ≡ x
