@@ -47,9 +47,8 @@ step-none b =
       says = sym (append-nil (take (b .c .letters) (b .lets)));
     }
 
-pub step-then : (b d e : Board) (r c : ℕ) (xs : List ℕ) (r′ c′ : ℕ) (ys : List ℕ) (r″ c″ : ℕ) (zs : List ℕ) → r″ ≡ r + r′ → c″ ≡ c + c′ → zs ≡ xs ++ ys
-    → Step b d r c xs → Step d e r′ c′ ys → Step b e r″ c″ zs
-step-then b d e r c xs r′ c′ ys r″ c″ zs i j k f g =
+pub step-then : {b d e : Board} {r c r′ c′ r″ c″ : ℕ} {xs ys zs : List ℕ} → Step b d r c xs → Step d e r′ c′ ys → r″ ≡ r + r′ → c″ ≡ c + c′ → zs ≡ xs ++ ys → Step b e r″ c″ zs
+step-then {b} {d} {e} {xs} {ys} {zs} f g i j k =
     let fw = f .words in
     let fr = f .regions in
     let fwf = f .words-full in
@@ -85,18 +84,16 @@ pub record Room (b : Board) (r c : ℕ) (xs : List ℕ) : Type 0 where
   pub reg-small : length (b .reg) ≤ 4294967296
   pub lets-small : length (b .lets) ≤ 4294967296
 
-pub room-first : (b : Board) (r c : ℕ) (xs : List ℕ) (r′ c′ : ℕ) (ys : List ℕ) (r″ c″ : ℕ) (zs : List ℕ) → r″ ≡ r + r′ → c″ ≡ c + c′ → zs ≡ xs ++ ys
-    → Room b r″ c″ zs → Room b r c xs
-room-first b r c xs r′ c′ ys r″ c″ zs i j k h =
+pub room-first : {b : Board} {r c r″ c″ : ℕ} {xs zs : List ℕ} (ys : List ℕ) → Room b r″ c″ zs → r ≤ r″ → c ≤ c″ → zs ≡ xs ++ ys → Room b r c xs
+room-first {b} {xs} {zs} ys h i j k =
     let n : length zs ≡ length xs + length ys = ap length k ∙ length-append xs ys in
     let hw = h .words in
     let hr = h .regions in
     let hl = h .letters in
     record { words = omega arith; regions = omega arith; letters = omega arith; t-small = h .t-small; reg-small = h .reg-small; lets-small = h .lets-small }
 
-pub room-then : (b d : Board) (r c : ℕ) (xs : List ℕ) (r′ c′ : ℕ) (ys : List ℕ) (r″ c″ : ℕ) (zs : List ℕ) → r″ ≡ r + r′ → c″ ≡ c + c′ → zs ≡ xs ++ ys
-    → Room b r″ c″ zs → Step b d r c xs → Room d r′ c′ ys
-room-then b d r c xs r′ c′ ys r″ c″ zs i j k h f =
+pub room-then : {b d : Board} {r c r′ c′ r″ c″ : ℕ} {xs ys zs : List ℕ} → Room b r″ c″ zs → Step b d r c xs → r″ ≡ r + r′ → c″ ≡ c + c′ → zs ≡ xs ++ ys → Room d r′ c′ ys
+room-then {b} {d} {xs} {ys} {zs} h f i j k =
     let n : length zs ≡ length xs + length ys = ap length k ∙ length-append xs ys in
     let hw = h .words in
     let hr = h .regions in
@@ -117,8 +114,8 @@ pub record Under (b : Board) (a m : ℕ) (p : Name) : Type 0 where
   pub inside : a + m ≤ b .c .letters
   pub is : prefixOf (sliceOf (b .lets) a m) ≡ p
 
-pub under-then : (b d : Board) (a m : ℕ) (p : Name) (r c : ℕ) (xs : List ℕ) → Under b a m p → Step b d r c xs → Under d a m p
-under-then b d a m p r c xs h f =
+pub under-then : {b d : Board} {a m : ℕ} {p : Name} {r c : ℕ} {xs : List ℕ} → Under b a m p → Step b d r c xs → Under d a m p
+under-then {b} {d} {a} {m} h f =
     let i = h .inside in
     let j = f .letters-full in
     record { inside = omega arith; is = ap prefixOf (slice-shared (d .lets) (b .lets) a m (b .c .letters) i (f .lets-kept)) ∙ h .is }
@@ -132,14 +129,14 @@ pub record Agrees (b d : Board) (t reg lets : List ℕ) : Type 0 where
 pub agrees-all : (b d : Board) → Agrees b d (d .t) (d .reg) (d .lets)
 agrees-all b d = record { words = λ i h k. refl; regions = λ i h k. refl; letters = refl }
 
-pub agrees-later : (b d e : Board) (r c : ℕ) (xs t reg lets : List ℕ) → Step b d r c xs → Agrees b e t reg lets → Agrees d e t reg lets
-agrees-later b d e r c xs t reg lets f h =
+pub agrees-later : {b d e : Board} {r c : ℕ} {xs t reg lets : List ℕ} → Step b d r c xs → Agrees b e t reg lets → Agrees d e t reg lets
+agrees-later f h =
     let i = f .words in
     let j = f .regions in
     record { words = λ k x y. h .words k (omega arith) y; regions = λ k x y. h .regions k (omega arith) y; letters = h .letters }
 
-pub agrees-before : (b d e : Board) (r c : ℕ) (xs t reg lets : List ℕ) → Step d e r c xs → Agrees b e t reg lets → Agrees b d t reg lets
-agrees-before b d e r c xs t reg lets f h =
+pub agrees-before : {b d e : Board} {r c : ℕ} {xs t reg lets : List ℕ} → Step d e r c xs → Agrees b e t reg lets → Agrees b d t reg lets
+agrees-before {d} {e} {lets} f h =
     let i = f .words in
     let j = f .regions in
     let k = f .letters-full in
@@ -149,5 +146,5 @@ agrees-before b d e r c xs t reg lets f h =
       letters = take-less (d .c .letters) (e .c .letters) lets (e .lets) (omega arith) (h .letters) ∙ f .lets-kept;
     }
 
-pub under-agrees : (b d : Board) (a m : ℕ) (p : Name) (t reg lets : List ℕ) → Under d a m p → Agrees b d t reg lets → prefixOf (sliceOf lets a m) ≡ p
-under-agrees b d a m p t reg lets h f = ap prefixOf (slice-shared lets (d .lets) a m (d .c .letters) (h .inside) (f .letters)) ∙ h .is
+pub under-agrees : {b d : Board} {a m : ℕ} {p : Name} {t reg lets : List ℕ} → Under d a m p → Agrees b d t reg lets → prefixOf (sliceOf lets a m) ≡ p
+under-agrees {d} {a} {m} {lets} h f = ap prefixOf (slice-shared lets (d .lets) a m (d .c .letters) (h .inside) (f .letters)) ∙ h .is

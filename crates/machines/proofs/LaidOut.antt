@@ -52,22 +52,20 @@ module _ (ns : List Name) (s : List ℕ) where
         let x = name-number ns s (b .c .next) i (r′ .to-history) (r′ .initial) in
         let sh = short-regions full h ss rest short in
         let ls = letters-regions full h ss rest in
-        let first = room-first b (anyS ss + filledS ss) (countS ss) (enc (allNamesS ss)) (filledR rest) (countR rest) (enc (allNamesR rest)) (filledR (rCons full h ss rest)) (countR (rCons full h ss rest)) (enc (allNamesR (rCons full h ss rest))) refl refl ls room in
+        let first : Room b (anyS ss + filledS ss) (countS ss) (enc (allNamesS ss)) = room-first (enc (allNamesR rest)) room (omega arith) (omega arith) ls in
         let one = one-region ns s spots to stands st up a m (x .i) (r′ .byte) b full h (x .small) (r′ .flag) (named ∙ ap (λ (y : Name). p ++ y) (sym (x .named))) u ih first (sh .0) in
         let d : Board = layRegion ns s spots to (suc l) st up a m (opening (x .i) (r′ .byte) k q) b in
-        let g = more d st up a m la ln (c + one .new) (one .next) (under-then b d a m p (anyS ss + filledS ss) (countS ss) (enc (allNamesS ss)) u (one .step))
-        (under-then b d la ln (p ++ (nm ++ (95 ∷ []))) (anyS ss + filledS ss) (countS ss) (enc (allNamesS ss)) v (one .step)) (one .fewer c few)
-        (room-then b d (anyS ss + filledS ss) (countS ss) (enc (allNamesS ss)) (filledR rest) (countR rest) (enc (allNamesR rest)) (filledR (rCons full h ss rest)) (countR (rCons full h ss rest)) (enc (allNamesR (rCons full h ss rest))) refl refl ls room (one .step)) (sh .1) in
+        let g = more d st up a m la ln (c + one .new) (one .next) (under-then u (one .step)) (under-then v (one .step)) (one .fewer c few) (room-then room (one .step) refl refl ls) (sh .1) in
         let z : c + one .new + g .j ≡ c + (one .new + g .j) = omega arith in
         record {
           d = g .d;
           j = one .new + g .j;
           is = rest-more ns s spots to (layRegion ns s spots to (suc l)) st up a m la ln n c b d (ap (λ (y : Opening). layRegion ns s spots to (suc l) st up a m y b) (region-opening ns s (b .c .next) i h k q r′))
               ∙ ap (λ (y : ℕ). stateRest ns s spots to (layRegion ns s spots to (suc l)) st up a m la ln n y d) (one .tallied c few) ∙ g .is ∙ ap (λ (y : ℕ). closeState st y e (g .d)) z;
-          step = step-then b d (g .d) (anyS ss + filledS ss) (countS ss) (enc (allNamesS ss)) (filledR rest) (countR rest) (enc (allNamesR rest)) (filledR (rCons full h ss rest)) (countR (rCons full h ss rest)) (enc (allNamesR (rCons full h ss rest))) refl refl ls (one .step) (g .step);
+          step = step-then (one .step) (g .step) refl refl ls;
           laid = λ t reg lets agr.
-              one .laid t reg lets (agrees-before b d (g .d) (filledR rest) (countR rest) (enc (allNamesR rest)) t reg lets (g .step) agr) (g .j) (g .d .c .words) (g .d .c .regions) (g .d .c .hole) rest
-              (g .laid t reg lets (agrees-later b d (g .d) (anyS ss + filledS ss) (countS ss) (enc (allNamesS ss)) t reg lets (one .step) agr));
+              one .laid t reg lets (agrees-before (g .step) agr) (g .j) (g .d .c .words) (g .d .c .regions) (g .d .c .hole) rest
+              (g .laid t reg lets (agrees-later (one .step) agr));
         }
 
     regions-plain : (p nm : Name) {l at e : ℕ} → u16 s at ≡ value absent e → LaysR p l nm zero at rNil e
@@ -93,7 +91,7 @@ module _ (ns : List Name) (s : List ℕ) where
         let y = name-number ns s (getD to x 0) i (f .to-states) (f .initial) in
         let sh = short-regions full false ss rNil short in
         let ls = letters-regions full false ss rNil in
-        let first = room-first b (anyS ss + filledS ss) (countS ss) (enc (allNamesS ss)) 0 0 [] (filledR (rCons full false ss rNil)) (countR (rCons full false ss rNil)) (enc (allNamesR (rCons full false ss rNil))) refl refl ls room in
+        let first : Room b (anyS ss + filledS ss) (countS ss) (enc (allNamesS ss)) = room-first [] room (omega arith) (omega arith) ls in
         let one = one-region ns s spots to stands st up la ln (y .i) 0 b full false (y .small) no-flag (named ∙ ap (λ (w : Name). sub ++ w) (sym (y .named))) (subst (Under b la ln) (sym under) v) ih first (sh .0) in
         let d : Board = layRegion ns s spots to (suc l) st up la ln (opening (y .i) 0 k q) b in
         let o : c + one .new ≡ c + (one .new + 0) = omega arith in
@@ -102,7 +100,7 @@ module _ (ns : List Name) (s : List ℕ) where
           j = one .new + 0;
           is = rest-into ns s spots to (layRegion ns s spots to (suc l)) st up a m la ln x c e b d (ap (u16 s) nx ∙ r) other (ap (λ (w : Opening). layRegion ns s spots to (suc l) st up la ln w b) (machine-opening ns s 0 (getD to x 0) i k q f))
               ∙ ap (λ (w : ℕ). closeState st w e d) (one .tallied c few ∙ o);
-          step = step-then b d d (anyS ss + filledS ss) (countS ss) (enc (allNamesS ss)) 0 0 [] (filledR (rCons full false ss rNil)) (countR (rCons full false ss rNil)) (enc (allNamesR (rCons full false ss rNil))) refl refl ls (one .step) (step-none d);
+          step = step-then (one .step) (step-none d) refl refl ls;
           laid = λ t reg lets agr. one .laid t reg lets agr 0 (d .c .words) (d .c .regions) (d .c .hole) rNil (rEnd refl refl refl);
         }
 
@@ -124,41 +122,38 @@ module _ (ns : List Name) (s : List ℕ) where
         let sh = short-states full es tts rs rest short in
         let ls = letters-states full es tts rs rest in
         let here : List ℕ = length full ∷ full in
-        let first = room-first b 0 1 here (filledR rs + filledS rest) (countR rs + countS rest) (enc (allNamesR rs) ++ enc (allNamesS rest)) (filledR rs + filledS rest) (suc (countR rs + countS rest)) (enc (allNamesS (sCons full es tts rs rest))) (omega arith) (omega arith) ls room in
+        let first : Room b 0 1 here = room-first (enc (allNamesR rs) ++ enc (allNamesS rest)) room (omega arith) (omega arith) ls in
         let o : Board = openedState b (h′ .to-transitions) q full in
         let so : Step b o 0 1 here = step-state b (h′ .to-transitions) q full first in
-        let after = room-then b o 0 1 here (filledR rs + filledS rest) (countR rs + countS rest) (enc (allNamesR rs) ++ enc (allNamesS rest)) (filledR rs + filledS rest) (suc (countR rs + countS rest)) (enc (allNamesS (sCons full es tts rs rest))) (omega arith) (omega arith) ls room so in
+        let after : Room o (filledR rs + filledS rest) (countR rs + countS rest) (enc (allNamesR rs) ++ enc (allNamesS rest)) = room-then room so (omega arith) (omega arith) ls in
         let lead : Under o (b .c .letters + 1) (length full) (p ++ (nm ++ (95 ∷ []))) = record {
           inside = omega arith;
-          is = ap prefixOf (state-name b (h′ .to-transitions) q full first o 0 0 [] (step-none o) (o .lets) refl) ∙ prefix-some full (omega arith)
+          is = ap prefixOf (state-name b (h′ .to-transitions) q full first (step-none o) (o .lets) refl) ∙ prefix-some full (omega arith)
               ∙ ap (λ (y : Name). y ++ (95 ∷ [])) named ∙ append-assoc p nm (95 ∷ []);
         } in
-        let g = inside o (b .c .words) up a m (b .c .letters + 1) (length full) 0 refl (under-then b o a m p 0 1 here u so) lead (omega arith)
-        (room-first o (filledR rs) (countR rs) (enc (allNamesR rs)) (filledS rest) (countS rest) (enc (allNamesS rest)) (filledR rs + filledS rest) (countR rs + countS rest) (enc (allNamesR rs) ++ enc (allNamesS rest)) refl refl refl after) (sh .regions) in
+        let g = inside o (b .c .words) up a m (b .c .letters + 1) (length full) 0 refl (under-then u so) lead (omega arith)
+        (room-first (enc (allNamesS rest)) after (omega arith) (omega arith) refl) (sh .regions) in
         let d : Board = g .d in
         let none : 0 + g .j ≡ g .j = omega arith in
         let c : Board = closeState (b .c .words) (g .j) e d in
         let is : layState ns s spots to (layRegion ns s spots to l) up a m b ≡ c =
         state-open ns s spots to spot b a m p nm full es ts k q h′ named u first (sh .name) (layRegion ns s spots to l) up ∙ g .is ∙ ap (λ (y : ℕ). closeState (b .c .words) y e d) none in
-        let sd : Step b d (filledR rs) (suc (countR rs)) (here ++ enc (allNamesR rs)) =
-        step-then b o d 0 1 here (filledR rs) (countR rs) (enc (allNamesR rs)) (filledR rs) (suc (countR rs)) (here ++ enc (allNamesR rs)) (omega arith) (omega arith) refl so (g .step) in
-        let sc : Step b c (filledR rs) (suc (countR rs)) (here ++ enc (allNamesR rs)) = step-close-state b d (filledR rs) (suc (countR rs)) (here ++ enc (allNamesR rs)) (g .j) e sd in
+        let sd : Step b d (filledR rs) (suc (countR rs)) (here ++ enc (allNamesR rs)) = step-then so (g .step) (omega arith) (omega arith) refl in
+        let sc : Step b c (filledR rs) (suc (countR rs)) (here ++ enc (allNamesR rs)) = step-close-state (g .j) e sd in
         let both : enc (allNamesS (sCons full es tts rs rest)) ≡ (here ++ enc (allNamesR rs)) ++ enc (allNamesS rest) = ls ∙ sym (append-assoc here (enc (allNamesR rs)) (enc (allNamesS rest))) in
-        let w = more c up a m refl (under-then b c a m p (filledR rs) (suc (countR rs)) (here ++ enc (allNamesR rs)) u sc)
-        (room-then b c (filledR rs) (suc (countR rs)) (here ++ enc (allNamesR rs)) (filledS rest) (countS rest) (enc (allNamesS rest)) (filledR rs + filledS rest) (suc (countR rs + countS rest)) (enc (allNamesS (sCons full es tts rs rest))) refl (omega arith) both room sc) (sh .states) in
-        let f : Board = times (layState ns s spots to (layRegion ns s spots to l) up a m) n c in
+        let w = more c up a m refl (under-then u sc) (room-then room sc refl (omega arith) both) (sh .states) in
         subst (λ (y : Board). DoneS ns s b (times (layState ns s spots to (layRegion ns s spots to l) up a m) n y) p up l (suc n) (sCons full es tts rs rest) z) (sym is)
         (record {
           next = w .next;
-          step = step-then b c f (filledR rs) (suc (countR rs)) (here ++ enc (allNamesR rs)) (filledS rest) (countS rest) (enc (allNamesS rest)) (filledR rs + filledS rest) (suc (countR rs + countS rest)) (enc (allNamesS (sCons full es tts rs rest))) refl (omega arith) both sc (w .step);
+          step = step-then sc (w .step) refl (omega arith) both;
           laid = λ t reg lets agr.
-              let ac = agrees-before b c f (filledS rest) (countS rest) (enc (allNamesS rest)) t reg lets (w .step) agr in
-              lMore (state-row b (h′ .to-transitions) q full first d (filledR rs) (countR rs) (enc (allNamesR rs)) (g .step) (g .j) e t reg lets ac)
+              let ac : Agrees b c t reg lets = agrees-before (w .step) agr in
+              lMore (state-row b (h′ .to-transitions) q full first (g .step) (g .j) e t reg lets ac)
               h′ refl named
-              (state-name b (h′ .to-transitions) q full first d (filledR rs) (countR rs) (enc (allNamesR rs)) (g .step) lets (ac .letters))
+              (state-name b (h′ .to-transitions) q full first (g .step) lets (ac .letters))
               targets
               (g .laid t reg lets (agrees-close-state b o d (g .j) e t reg lets (omega arith) (omega arith) ac))
-              (w .laid t reg lets (agrees-later b c f (filledR rs) (suc (countR rs)) (here ++ enc (allNamesR rs)) t reg lets sc agr));
+              (w .laid t reg lets (agrees-later sc agr));
         })
 
     -- what stands there, wherever it is laid out

@@ -42,9 +42,9 @@ step-state b tr q full h =
       says = said (b .lets) (b .c .letters) (length full ∷ full) l;
     }
 
-pub step-close-state : (b d : Board) (r c : ℕ) (xs : List ℕ) (k q : ℕ) → Step b d r c xs → Step b (closeState (b .c .words) k q d) r c xs
+pub step-close-state : {b d : Board} {r c : ℕ} {xs : List ℕ} (k q : ℕ) → Step b d r c xs → Step b (closeState (b .c .words) k q d) r c xs
 unfolding closeState movedTo
-step-close-state b d r c xs k q f =
+step-close-state {b} {d} k q f =
     let e = state-ends (d .t) (b .c .words) (d .c .words) k in
     record {
       words = f .words;
@@ -72,7 +72,7 @@ agrees-close-state b o d k q t reg lets h j g =
       letters = g .letters;
     }
 
-module _ (b : Board) (tr q : ℕ) (full : Name) (room : Room b 0 1 (length full ∷ full)) (d : Board) (r c : ℕ) (xs : List ℕ) (f : Step (openedState b tr q full) d r c xs) where
+module _ (b : Board) (tr q : ℕ) (full : Name) (room : Room b 0 1 (length full ∷ full)) {d : Board} {r c : ℕ} {xs : List ℕ} (f : Step (openedState b tr q full) d r c xs) where
   -- the row of a state that was closed
   pub state-row : (k e : ℕ) (t reg lets : List ℕ) → Agrees b (closeState (b .c .words) k e d) t reg lets
       → StateRow t (b .c .words) (b .c .next) tr (b .c .letters + 1) (length full) (d .c .words) k
@@ -152,7 +152,7 @@ module _ (st up a m x y k q r : ℕ) (b : Board) (room : Room b r 0 []) (pays : 
         says = sym (append-nil (take (b .c .letters) (b .lets)));
       }
 
-  module _ (d : Board) (n c : ℕ) (xs : List ℕ) (f : Step (openedRegion st up a m (opening x y k q) b) d n c xs) where
+  module _ {d : Board} {n c : ℕ} {xs : List ℕ} (f : Step (openedRegion st up a m (opening x y k q) b) d n c xs) where
     pub region-row : (t reg lets : List ℕ) → Agrees b (closeRegion (b .c .words) d) t reg lets → RegionRow t (b .c .words) x y a m (d .c .words) (b .c .regions) k st up
     unfolding closeRegion
     region-row t reg lets g =
@@ -183,9 +183,9 @@ module _ (st up a m x y k q r : ℕ) (b : Board) (room : Room b r 0 []) (pays : 
         let o = f .regions in
         g .regions (b .c .regions) (omega arith) (omega arith) ∙ f .reg-kept (b .c .regions) (omega arith) ∙ getD-set-same (b .reg) (b .c .regions) (b .c .words) 0 (omega arith)
 
-pub step-close-region : (b d : Board) (r c : ℕ) (xs : List ℕ) → Step b d r c xs → Step b (closeRegion (b .c .words) d) r c xs
+pub step-close-region : {b d : Board} {r c : ℕ} {xs : List ℕ} → Step b d r c xs → Step b (closeRegion (b .c .words) d) r c xs
 unfolding closeRegion
-step-close-region b d r c xs f =
+step-close-region {b} {d} f =
     record {
       words = f .words;
       regions = f .regions;

@@ -86,14 +86,12 @@ module _ (ns : List Name) (s : List ℕ) where
           let rm = room .reg-small in
           let o : Board = openedRegion st up a m (opening x y n at) b in
           let none : enc (allNamesS ss) ≡ [] ++ enc (allNamesS ss) = refl in
-          let first : Room b (anyS ss) 0 [] = room-first b (anyS ss) 0 [] (filledS ss) (countS ss) (enc (allNamesS ss)) (anyS ss + filledS ss) (countS ss) (enc (allNamesS ss)) refl (omega arith) none room in
+          let first : Room b (anyS ss) 0 [] = room-first (enc (allNamesS ss)) room (omega arith) (omega arith) none in
           let so : Step b o (anyS ss) 0 [] = step-region st up a m x y n at (anyS ss) b first pays in
-          let g = ih o (b .c .regions) a m refl (under-then b o a m p (anyS ss) 0 [] u so)
-          (room-then b o (anyS ss) 0 [] (filledS ss) (countS ss) (enc (allNamesS ss)) (anyS ss + filledS ss) (countS ss) (enc (allNamesS ss)) refl (omega arith) none room so) short in
+          let g = ih o (b .c .regions) a m refl (under-then u so) (room-then room so refl (omega arith) none) short in
           let d : Board = times (layState ns s spots to (layRegion ns s spots to l) (b .c .regions) a m) n o in
-          let sd : Step b d (anyS ss + filledS ss) (countS ss) (enc (allNamesS ss)) =
-          step-then b o d (anyS ss) 0 [] (filledS ss) (countS ss) (enc (allNamesS ss)) (anyS ss + filledS ss) (countS ss) (enc (allNamesS ss)) refl (omega arith) none so (g .step) in
-          let sc = step-close-region b d (anyS ss + filledS ss) (countS ss) (enc (allNamesS ss)) sd in
+          let sd : Step b d (anyS ss + filledS ss) (countS ss) (enc (allNamesS ss)) = step-then so (g .step) refl (omega arith) none in
+          let sc : Step b (closeRegion (b .c .words) d) (anyS ss + filledS ss) (countS ss) (enc (allNamesS ss)) = step-close-region sd in
           let gw = g .step .words in
           let full-words = sd .words-full in
           subst (λ (k : Board). DoneOne b k l st up full h ss z) (sym (closed-is e (omega arith) (omega arith)))
@@ -107,10 +105,10 @@ module _ (ns : List Name) (s : List ℕ) where
             laid = λ t reg lets agr j e f q rest more.
                 let suc-is : suc j ≡ 1 + j = omega arith in
                 subst (λ (c : ℕ). LaidR ns s t reg lets up st (suc l) c (b .c .words) (b .c .regions) (b .c .hole) (rCons full h ss rest) e f q) suc-is
-                (rLaid (region-row st up a m x y n at (anyS ss) b first pays d (filledS ss) (countS ss) (enc (allNamesS ss)) (g .step) t reg lets agr)
-                (region-place st up a m x y n at (anyS ss) b first pays d (filledS ss) (countS ss) (enc (allNamesS ss)) (g .step) t reg lets agr)
+                (rLaid (region-row st up a m x y n at (anyS ss) b first pays (g .step) t reg lets agr)
+                (region-place st up a m x y n at (anyS ss) b first pays (g .step) t reg lets agr)
                 small flag
-                (under-agrees b (closeRegion (b .c .words) d) a m p t reg lets (under-then b (closeRegion (b .c .words) d) a m p (anyS ss + filledS ss) (countS ss) (enc (allNamesS ss)) u sc) agr)
+                (under-agrees (under-then u sc) agr)
                 named
                 (g .laid t reg lets (agrees-close-region b o d t reg lets (omega arith) (omega arith) agr))
                 more);
