@@ -23,7 +23,7 @@ pub mod Refused
 pub mod SectionExample
 pub mod LetterLaws
 pub mod Boards
-pub mod RowLaws
+pub mod RowFacts
 pub mod Openings
 pub mod CountLaws
 pub mod StateOpened

@@ -11,7 +11,7 @@ use Rattle.machines.specs.Laid.{RegionRow, StateRow, holed, sliceOf}
 use Rattle.machines.specs.Lays.{Board, board, closeRegion, closeState, lay, movedTo, opening, openRegion, regionWords, stateWords, sum}
 use Rattle.machines.proofs.LetterLaws.{said, said-before, said-slice, sum-is, take-less}
 use Rattle.machines.proofs.Boards.{Agrees, Room, Step, spare}
-use Rattle.machines.proofs.RowLaws.{region-frame, state-ends, state-head}
+use Rattle.machines.proofs.RowFacts.{region-frame, state-ends, state-head}
 
 -- a state that is open, under its full name
 abbrev pub openedState : Board → ℕ → ℕ → Name → Board
