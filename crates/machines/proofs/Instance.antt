@@ -1,13 +1,16 @@
 -- The theorems on a pack of two machines: the state a of M is refined by N, whose state b gives o.
-use Prim.Native.Nat.{ℕ, zero, suc}
+use Prim.Native.Nat.{ℕ, zero, suc, _≤_}
 use native.Mathlib.Omega.{arith}
 use mathlib.Core.List.{List, [], _∷_}
-use mathlib.Core.Bool.{true}
+use mathlib.Core.Bool.{Bool, true, _&&_, and-eq-true-iff}
 use mathlib.Core.Option.{none, some}
 use mathlib.Core.Path.{_≡_, refl}
-use lib.ListN.{getD}
+use lib.ListN.{length, getD}
+use lib.Dec.{ltb}
+use borrow.Author.Tests.{ltb-true}
 use Rattle.wire.specs.Answer.{below, bind, byte, counted, guard, index, many, mapA, u16, value}
 use Rattle.wire.specs.Code.{next, onward, readOf, skip, skips}
+use Rattle.wire.specs.Lists.{Bytes}
 use Rattle.wire.specs.Preorder.{trees}
 use Rattle.pack.specs.Limits.{absent, maxLevel, maxName, maxStates}
 use Rattle.pack.specs.Names.{Name, eqName, member}
@@ -17,6 +20,7 @@ use Rattle.pack.specs.Read.{char, drawnOf, equationIn, equationsIn, exprIn, mac
 use Rattle.pack.specs.Verdict.{offsetOf}
 use Rattle.machines.specs.declared.walk.Walked.the-variants as wk
 use Rattle.machines.specs.Resolve.{resolvedStates, went}
+use Rattle.machines.specs.Lays.{layMachine}
 use Rattle.machines.specs.Lower.{coversS}
 use Rattle.machines.specs.Stands.{endOf}
 use Rattle.machines.specs.Sure.{byteIn, machineFrom, numberIn, regionIn, sureOf, turns, with}
@@ -29,6 +33,8 @@ use Rattle.machines.proofs.NamesPlaced.{names-placed, section-read}
 use Rattle.machines.proofs.MachinesPlaced.{machines-placed}
 use Rattle.machines.proofs.Walked.{Ready, walked-stands}
 use Rattle.machines.proofs.Covered.{machine-covered}
+use Rattle.machines.proofs.LaidMachine.{LaidMachine}
+use Rattle.machines.proofs.WalkedLaid.{walked-laid, walked-tree}
 
 abbrev ns : List Name
 ns = (77 ∷ []) ∷ (111 ∷ []) ∷ (97 ∷ []) ∷ (78 ∷ []) ∷ (98 ∷ []) ∷ []
@@ -99,3 +105,26 @@ unfolding nameAt read-M
 instance =
     let r = walked-stands s ns (M ∷ N ∷ []) (namesPlaced s 5 2 0 zeros) (machinesPlaced ns s 16 zeros) tables 18 M 45 read-M 0 (omega arith) refl 45 2 3 walks in
     (r .0, r .1, machine-covered ns s (tables .names .fresh) 1 (omega arith) (machinesPlaced ns s 16 zeros) 31 (97 ∷ []) 1 35 (r .0) 45 (read-M .head) (r .2))
+
+-- every byte is one
+unfoldable small : List ℕ → Bool
+small [] = true
+small (x ∷ xs) = ltb x 256 && small xs
+
+small-bytes : (l : List ℕ) → small l ≡ true → Bytes l
+unfolding small
+small-bytes [] e i = omega arith
+small-bytes (x ∷ xs) e zero = ltb-true x 256 (and-eq-true-iff (ltb x 256) (small xs) .0 e .0)
+small-bytes (x ∷ xs) e (suc i) = small-bytes xs (and-eq-true-iff (ltb x 256) (small xs) .0 e .1) i
+
+bytes-here : small s ≡ true
+unfolding small
+bytes-here = refl
+
+-- and M's two states are laid out
+laid-instance : (t reg lets : List ℕ) → 7698 ≤ length t → 514 ≤ length reg → 131072 ≤ length lets → length t ≤ 4294967296 → length reg ≤ 4294967296 → length lets ≤ 4294967296
+    → (ss : States) × (resolvedStates (M ∷ N ∷ []) M ≡ went ss 2) × LaidMachine ns s (layMachine ns s (namesPlaced s 5 2 0 zeros) (machinesPlaced ns s 16 zeros) 31 t reg lets) (97 ∷ []) ss
+unfolding nameAt read-M
+laid-instance t reg lets lt lr ll st sr sl =
+    let r = walked-tree s ns (M ∷ N ∷ []) (namesPlaced s 5 2 0 zeros) (machinesPlaced ns s 16 zeros) tables (small-bytes s bytes-here) 18 M 45 read-M 0 (omega arith) refl 45 2 3 walks in
+    (r .states, r .resolves, walked-laid s ns (M ∷ N ∷ []) (namesPlaced s 5 2 0 zeros) (machinesPlaced ns s 16 zeros) tables (small-bytes s bytes-here) 18 M 45 read-M 0 (omega arith) refl 45 2 3 walks t reg lets lt lr ll st sr sl)

@@ -19,13 +19,13 @@ use Rattle.machines.specs.Stands.{MachineAt, StandsR, StandsS, rInto, rM
 use Rattle.machines.proofs.Reading.{many-cut, many-end, many-more, many-over, optional-none, optional-some, overs, region-none, region-value, state-value}
 
 -- what a walk that was not stopped says
-walkOn-went : {A B : Type 0} (w : Walk A) (k : A → ℕ → Walk B) (y : B) (m : ℕ) → walkOn w k ≡ went y m → (x : A) × (n : ℕ) × (w ≡ went x n) × (k x n ≡ went y m)
+pub walkOn-went : {A B : Type 0} (w : Walk A) (k : A → ℕ → Walk B) (y : B) (m : ℕ) → walkOn w k ≡ went y m → (x : A) × (n : ℕ) × (w ≡ went x n) × (k x n ≡ went y m)
 unfolding walkOn
 walkOn-went (stop r) k y m e = let z : _≡_ {A = ℕ} 0 1 = cc in absurd (omega arith)
 walkOn-went (went x n) k y m e = (x, n, refl, e)
 
 module _ (top : Name) (refine : ℕ → Name → Name → ℕ → Walk Target) where
-  deeper-went : {A : Type 0} (l : ℕ) (k : ℕ → Walk A) (y : A) (m : ℕ) → deeper top refine l k ≡ went y m → (j : ℕ) × (l ≡ suc j) × (k j ≡ went y m)
+  pub deeper-went : {A : Type 0} (l : ℕ) (k : ℕ → Walk A) (y : A) (m : ℕ) → deeper top refine l k ≡ went y m → (j : ℕ) × (l ≡ suc j) × (k j ≡ went y m)
   unfolding deeper
   deeper-went zero k y m e = let z : _≡_ {A = ℕ} 0 1 = cc in absurd (omega arith)
   deeper-went (suc l) k y m e = (l, refl, e)
@@ -38,7 +38,7 @@ module _ (top : Name) (refine : ℕ → Name → Name → ℕ → Walk Target) w
       go true d = d
       go false d = let z : _≡_ {A = ℕ} 0 1 = cc in absurd (omega arith)
 
-  target-went : (nm : Name) (qs : Regions) (t : Target) (n : ℕ) (us : Regions) (m : ℕ) → withTarget top refine nm qs t n ≡ went us m → us ≡ snoc qs ((nm ++ (95 ∷ [])) ++ t .initial) (prefixS (nm ++ (95 ∷ [])) (t .states))
+  pub target-went : (nm : Name) (qs : Regions) (t : Target) (n : ℕ) (us : Regions) (m : ℕ) → withTarget top refine nm qs t n ≡ went us m → us ≡ snoc qs ((nm ++ (95 ∷ [])) ++ t .initial) (prefixS (nm ++ (95 ∷ [])) (t .states))
   unfolding withTarget
   target-went nm qs t n us m e = go (shortName (length nm + 1) (t .initial) && shortS (length nm + 1) (t .states)) e
     where
@@ -47,19 +47,19 @@ module _ (top : Name) (refine : ℕ → Name → Name → ℕ → Walk Target) w
       go false d = let z : _≡_ {A = ℕ} 0 1 = cc in absurd (omega arith)
 
 -- a refinement that was resolved: the machine, and its states one level further down
-record Entered (top : Name) (ms : List Drawing) (l : ℕ) (n : Name) (c : ℕ) (t : Target) (m : ℕ) : Type 0 where
-  d : Drawing
-  j : ℕ
-  f : ℕ
-  path : List Name
-  ss : States
-  named : machineOf ms n ≡ some d
-  level : l ≡ suc j
-  inside : resolveS top (refineAt f top ms path) j (d .states) c ≡ went ss m
-  initial : t .initial ≡ d .initial
-  states : t .states ≡ ss
+pub record Entered (top : Name) (ms : List Drawing) (l : ℕ) (n : Name) (c : ℕ) (t : Target) (m : ℕ) : Type 0 where
+  pub d : Drawing
+  pub j : ℕ
+  pub f : ℕ
+  pub path : List Name
+  pub ss : States
+  pub named : machineOf ms n ≡ some d
+  pub level : l ≡ suc j
+  pub inside : resolveS top (refineAt f top ms path) j (d .states) c ≡ went ss m
+  pub initial : t .initial ≡ d .initial
+  pub states : t .states ≡ ss
 
-refine-went : (f : ℕ) (top : Name) (ms : List Drawing) (path : List Name) (l : ℕ) (nm n : Name) (c : ℕ) (t : Target) (m : ℕ) → refineAt f top ms path l nm n c ≡ went t m → Entered top ms l n c t m
+pub refine-went : (f : ℕ) (top : Name) (ms : List Drawing) (path : List Name) (l : ℕ) (nm n : Name) (c : ℕ) (t : Target) (m : ℕ) → refineAt f top ms path l nm n c ≡ went t m → Entered top ms l n c t m
 unfolding refineAt refineWith asTarget
 refine-went zero top ms path l nm n c t m e = absurd (go (member n path) (machineOf ms n) e)
   where

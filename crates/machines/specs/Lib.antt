@@ -14,6 +14,7 @@ pub mod Laid
 pub mod Lays
 pub mod Valid
 pub mod Repeats
+pub mod Counts
 pub mod Lower
 pub mod Locals
 pub mod Equations
