@@ -1,28 +1,27 @@
 -- Coverage on bytes is coverage of the resolved tree that stands there.
-use Prim.Native.Nat.{ℕ, zero, suc, _-_, _<_}
+use Prim.Native.Nat.{ℕ, zero, suc, _<_}
 use native.Mathlib.Omega.{arith}
 use mathlib.Core.List.{List, [], _∷_}
-use mathlib.Core.Bool.{Bool, true, false, cond, _&&_, _||_, and-true, or-false, and-assoc, or-assoc}
+use mathlib.Core.Bool.{Bool, true, false, cond, _&&_, _||_, or-false}
 use mathlib.Core.Option.{some}
 use mathlib.Core.Path.{_≡_, refl, sym, ap, _∙_}
-use lib.ListN.{length, getD}
+use lib.ListN.{length}
 use lib.Dec.{eqb}
-use borrow.Author.Tests.{eq-eqb, ne-eqb}
+use borrow.Author.Tests.{ne-eqb}
 use Rattle.wire.specs.Answer.{counted, many, u16, value}
 use Rattle.wire.proofs.Answers.{bind-value, map-value}
-use Rattle.pack.specs.Limits.{absent, maxLevel}
 use Rattle.pack.specs.Names.{Name, eqName}
-use Rattle.pack.specs.Syntax.{Equation, Regions, States, Transition}
+use Rattle.pack.specs.Syntax.{Equation, Transition}
 use Rattle.pack.specs.Forms.{nameAt}
 use Rattle.pack.specs.Legal.{Fresh}
 use Rattle.pack.specs.Read.{equationIn, equationsIn, exprIn, nameIn, namesIn, transitionIn}
 use Rattle.machines.specs.declared.cover.Told.{Told}
-use Rattle.machines.specs.Lower.{coversR, coversS, isOnly, isSome, ownValue}
-use Rattle.machines.specs.Stands.{MachineAt, RegionAt, StandsR, StandsS, StateAt, endOf, rInto, rMore, rPlain, sEnd, sMore}
-use Rattle.machines.specs.Sure.{machineFrom, numberIn, regionIn, with}
-use Rattle.machines.specs.Covers.{asked, coverT, givesT, machineT, ownT, refineT, regionT, stateT, tells, told}
+use Rattle.machines.specs.Lower.{isOnly, isSome, ownValue}
+use Rattle.machines.specs.Stands.{StateAt, endOf}
+use Rattle.machines.specs.Sure.{numberIn, with}
+use Rattle.machines.specs.Covers.{asked, givesT, ownT, tells, told}
 use Rattle.machines.proofs.Reading.{many-cut, many-end, many-more, many-over, name-number}
-use Rattle.machines.proofs.SureLaws.{end-to, machine-to, number-num, number-to, region-to, then-to}
+use Rattle.machines.proofs.SureLaws.{end-to, number-num, number-to}
 use Rattle.machines.proofs.NamesPlaced.{alone}
 
 pub ask-to : {A : Type 0} (x : Told) (v : Bool) (q : ℕ) (k : Bool → ℕ → A) → x ≡ told v q → asked x k ≡ k v q
@@ -82,65 +81,3 @@ module _ (ns : List Name) (s : List ℕ) (fresh : Fresh [] ns) (out : ℕ) (low 
       ∙ number-to s (h .to-equations) (d .0) (d .1) _ (d .2)
       ∙ ask-to _ (isSome (ownValue (nameAt ns out) es)) (h .to-transitions) _ (own-gather (d .0) (d .1) es (h .to-transitions) false (d .3))
       ∙ ap (told (isSome (ownValue (nameAt ns out) es))) (end-to (counted (transitionIn ns s) s (h .to-transitions)) ts (h .to-regions) (h .transitions))
-
-  module _ (to : List ℕ) where
-    module _ (rec : ℕ → ℕ → Told) where
-      -- the regions and the refinement of a state, after some
-      unfoldable pub rest : ℕ → ℕ → Bool → Told
-      rest n at a = asked (tells (regionT ns s to out rec) _||_ n at a) λ b o. refineT ns s to out rec b o
-
-      states-end : (at q : ℕ) (b : Bool) → at ≡ q → tells (stateT ns s to out rec) _&&_ zero at b ≡ told (b && true) q
-      unfolding tells
-      states-end at q b e = rw (e, and-true b)
-
-      states-more : (n at k b e q : ℕ) (nm : Name) (es : List Equation) (ts : List Transition) (x v c : Bool) → StateAt ns s at nm es ts k b → rest k b (isSome (ownValue (nameAt ns out) es)) ≡ told v e
-          → tells (stateT ns s to out rec) _&&_ n e (x && v) ≡ told ((x && v) && c) q
-          → tells (stateT ns s to out rec) _&&_ (suc n) at x ≡ told (x && (v && c)) q
-      unfolding tells stateT rest
-      states-more n at k b e q nm es ts x v c h y z =
-          ask-to _ v e _ (ask-to (ownT ns s out at) _ (h .to-regions) _ (own-link at nm es ts k b h) ∙ number-to s (h .to-regions) k b _ (h .regions) ∙ y)
-          ∙ z ∙ ap (λ y. told y q) (and-assoc x v c)
-
-      regions-more : (n at k b m e : ℕ) (i : Name) (h a v c : Bool) → RegionAt ns s at i h k b → rec k b ≡ told v m → rest n m (a || v) ≡ told ((a || v) || c) e → rest (suc n) at a ≡ told (a || (v || c)) e
-      unfolding tells regionT rest
-      regions-more n at k b m e i h a v c x y z =
-          let g : with (regionIn s at) rec ≡ told v m = then-to (regionIn s at) k b rec (region-to ns s at i h k b x) ∙ y in
-          ap (λ w. asked w (λ b o. refineT ns s to out rec b o)) (ask-to _ v m _ g) ∙ z ∙ ap (λ y. told y e) (or-assoc a v c)
-
-      refine-plain : (at e : ℕ) (a : Bool) → u16 s at ≡ value absent e → rest zero at a ≡ told (a || false) e
-      unfolding tells refineT rest
-      refine-plain at e a x = ask-to _ a at _ refl ∙ number-to s at absent e _ x ∙ rw (eq-eqb absent absent refl, or-false a)
-
-      refine-into : (at e x k b z : ℕ) (i : Name) (a v : Bool) → u16 s at ≡ value x e → (x ≡ absent → ⊥) → MachineAt ns s (getD to x 0) i k b → rec k b ≡ told v z → rest zero at a ≡ told (a || (v || false)) e
-      unfolding tells refineT rest
-      refine-into at e x k b z i a v r n f y =
-          ask-to _ a at _ refl ∙ number-to s at x e _ r
-          ∙ rw (ne-eqb x absent n) (then-to (machineFrom s (getD to x 0)) k b _ (machine-to ns s (getD to x 0) i k b f) ∙ ask-to (rec k b) v z _ y ∙ rw (or-false v))
-
-    cover-suc : (l k b : ℕ) → coverT ns s to out (suc l) k b ≡ tells (stateT ns s to out (coverT ns s to out l)) _&&_ k b true
-    unfolding coverT
-    cover-suc l k b = refl
-
-    mutual
-      unfolding coversS coversR
-
-      pub linkS : {p : Name} {l n at : ℕ} {t : States} {q : ℕ} → StandsS ns s (λ j. getD to j 0) p l n at t q → (b : Bool)
-          → tells (stateT ns s to out (coverT ns s to out l)) _&&_ n at b ≡ told (b && coversS (nameAt ns out) t) q
-      linkS (sEnd e) b = states-end _ _ _ b e
-      linkS (sMore h x y o rs more) b = states-more _ _ _ _ _ _ _ _ _ _ b _ _ h (linkR rs _) (linkS more _)
-
-      pub linkR : {p nm : Name} {l n at : ℕ} {t : Regions} {e : ℕ} → StandsR ns s (λ j. getD to j 0) p l nm n at t e → (b : Bool)
-          → rest (coverT ns s to out l) n at b ≡ told (b || coversR (nameAt ns out) t) e
-      linkR (rMore h x ss more) b = regions-more _ _ _ _ _ _ _ _ _ b _ _ h (cover-suc _ _ _ ∙ linkS ss true) (linkR more _)
-      linkR (rPlain r) b = refine-plain _ _ _ b r
-      linkR (rInto r l x f y z ss) b = refine-into _ _ _ _ _ _ _ _ b _ r x f (cover-suc _ _ _ ∙ linkS ss true)
-
-    -- the code's answer on states that stand is whether they cover the output
-    pub covered : {p : Name} {l n at : ℕ} {t : States} {q : ℕ} → StandsS ns s (λ j. getD to j 0) p l n at t q → coverT ns s to out (suc l) n at ≡ told (coversS (nameAt ns out) t) q
-    covered x = cover-suc _ _ _ ∙ linkS x true
-
-    -- on a machine, from its initial state on
-    pub machine-covered : (at : ℕ) (i : Name) (k b : ℕ) (t : States) (q : ℕ) → MachineAt ns s at i k b → StandsS ns s (λ j. getD to j 0) [] (maxLevel - 1) k b t q → machineT ns s to out at ≡ coversS (nameAt ns out) t
-    unfolding machineT maxLevel
-    machine-covered at i k b t q m x =
-        then-to (machineFrom s at) k b _ (machine-to ns s at i k b m) ∙ ap (λ (y : Told). y .yes) (covered x)

@@ -28,6 +28,9 @@ word-cut t p k h = past-end t (p + k) (omega arith)
 pub first-none : (t : List ℕ) (q r : ℕ) → length t ≤ q → 0 < getD t (q + 6) 0 → r ≡ q + 9
 first-none t q r h l = let e = word-past t q 6 h in absurd (omega arith)
 
+pub inner-none : (t : List ℕ) (p r : ℕ) → length t ≤ p → 0 < getD t (p + 5) 0 → r ≡ p + 6
+inner-none t p r h l = let e = word-past t p 5 h in absurd (omega arith)
+
 drop-cut : (s : List ℕ) (a b : ℕ) → b ≡ min (0 + a) (length s) → drop b s ≡ drop a s
 drop-cut s a b e = ⊎-elim
     (λ (g : length s < a). let i : b ≡ length s = omega arith in drop-of-length-le s {i = b} (omega arith) ∙ sym (drop-of-length-le s {i = a} (omega arith)))

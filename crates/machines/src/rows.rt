@@ -29,6 +29,13 @@ pub fn first(t: &[usize], q: usize) -> usize
     if q < t.len() { q + 9 } else { 0 }
 }
 
+// The word of the first region of the state at p, where it has one.
+pub fn inner(t: &[usize], p: usize) -> usize
+    ensures { λ r. ⌜ (0 < getD (now (t .entry)) (p + 5) 0 → r ≡ p + 6) ⌝ }
+{
+    if p < t.len() { p + 6 } else { 0 }
+}
+
 // Whether two numbers are one.
 pub fn is(a: usize, b: usize) -> bool
     ensures { λ r. ⌜ r ≡ eqb a b ⌝ }
