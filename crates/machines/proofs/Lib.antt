@@ -26,6 +26,7 @@ pub mod RowLaws
 pub mod EnumLaws
 pub mod ChainLaws
 pub mod RegionLaws
+pub mod ValueLaws
 pub mod EnumsEmitted
 pub mod ChainsEmitted
 pub mod EquationsEmitted

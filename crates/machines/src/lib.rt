@@ -14,3 +14,4 @@ pub mod enums; // the enums of regions
 pub mod qualified; // names as they are called in a region
 pub mod chains; // the next state of a region
 pub mod regions; // the equations of regions
+pub mod values; // the values of outputs
