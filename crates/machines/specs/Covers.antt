@@ -3,6 +3,7 @@
 use Prim.Native.Nat.{ℕ, zero, suc, _+_}
 use mathlib.Core.List.{List}
 use mathlib.Core.Bool.{Bool, false, cond, _&&_, _||_}
+use mathlib.Core.Option.{Option, none, some}
 use lib.ListN.{getD}
 use lib.Dec.{eqb}
 use Rattle.wire.specs.Answer.{counted}
@@ -11,6 +12,7 @@ use Rattle.pack.specs.Read.{equationIn, transitionIn}
 use Rattle.machines.specs.declared.cover.Told.{Told}
 use Rattle.machines.specs.Stands.{endOf}
 use Rattle.machines.specs.Sure.{numberIn, with}
+use Rattle.machines.specs.Emits.{lettersAt}
 
 abbrev pub told : Bool → ℕ → Told
 told b q = record { yes = b; next = q }
@@ -61,3 +63,7 @@ module _ (ns : List Name) (s t : List ℕ) (out : ℕ) where
   unfoldable pub uncoveredT : ℕ → ℕ → ℕ
   uncoveredT zero q = 0
   uncoveredT (suc l) q = firstMiss t (missT (uncoveredT l)) (getD t (q + 6) 0) (q + 9)
+
+-- the state that an answer names: none, or the one at that word
+unfoldable pub missed : List ℕ → List ℕ → ℕ → Option Name
+missed t lets m = cond (eqb m 0) none (some (lettersAt t lets m))
