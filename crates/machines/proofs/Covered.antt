@@ -35,7 +35,7 @@ ask-to x v q k e = rw e
 
 module _ (ns : List Name) (s : List ℕ) (fresh : Fresh [] ns) (out : ℕ) (low : out < length ns) where
   -- an equation's left names
-  lhs-link : (n p : ℕ) (l : List Name) (q : ℕ) → many (nameIn ns s) n p ≡ value l q → (eqb n 1 && eqb (numberIn s p .value) out) ≡ isOnly (nameAt ns out) l
+  pub lhs-link : (n p : ℕ) (l : List Name) (q : ℕ) → many (nameIn ns s) n p ≡ value l q → (eqb n 1 && eqb (numberIn s p .value) out) ≡ isOnly (nameAt ns out) l
   unfolding isOnly
   lhs-link zero p [] q m = refl
   lhs-link zero p (x ∷ l) q m = absurd (many-cut (nameIn ns s) p x l q m)

@@ -30,4 +30,5 @@ pub mod ValueLaws
 pub mod EnumsEmitted
 pub mod ChainsEmitted
 pub mod EquationsEmitted
+pub mod ValuesEmitted
 pub mod EmitExample

@@ -8,6 +8,7 @@ use lib.Dec.{eqb}
 use Rattle.wire.specs.Bytes.{two}
 use Rattle.pack.specs.Limits.{maxLevel}
 use Rattle.pack.specs.Names.{Name}
+use Rattle.pack.specs.Syntax.{Regions, States, rCons, rNil, sCons, sNil}
 use Rattle.pack.specs.Read.{equationIn, exprIn, portIn}
 use Rattle.pack.specs.Write.{Item, raw}
 use Rattle.machines.specs.Stands.{endOf}
@@ -71,3 +72,18 @@ module _ (s t lets : List ℕ) (ns : List Name) where
   -- of the ports at the offset `at`, after their count
   unfoldable pub portOutputsT : ℕ → List Item
   portOutputsT at = with (numberIn s at) λ n p. outputsT n p
+
+-- a list of states that is not empty
+unfoldable pub Peopled : States → Type 0
+Peopled sNil = ⊥
+Peopled (sCons s es ts rs rest) = Unit {0}
+
+-- no region without states, as the check of initial states has it: then no default is written
+unfoldable mutual
+  pub WholeS : States → Type 0
+  WholeS sNil = Unit {0}
+  WholeS (sCons s es ts rs rest) = WholeR rs × WholeS rest
+
+  pub WholeR : Regions → Type 0
+  WholeR rNil = Unit {0}
+  WholeR (rCons i h ss rest) = Peopled ss × WholeS ss × WholeR rest
