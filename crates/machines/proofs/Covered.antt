@@ -88,7 +88,7 @@ module _ (ns : List Name) (s : List ℕ) (fresh : Fresh [] ns) (out : ℕ) (low 
       ∙ ap (told (isSome (ownValue (nameAt ns out) es))) (end-to (counted (transitionIn ns s) s (h .to-transitions)) ts (h .to-regions) (h .transitions))
 
 -- a list of states that names none gives the output in all of them
-unfoldable isNone : Option Name → Bool
+unfoldable pub isNone : Option Name → Bool
 isNone none = true
 isNone (some n) = false
 
@@ -111,7 +111,7 @@ none-other (some n) false = refl
 mutual
   unfolding uncoveredS uncoveredR coversS coversR isNone
 
-  none-states : (o : Name) (ss : States) → isNone (uncoveredS o ss) ≡ coversS o ss
+  pub none-states : (o : Name) (ss : States) → isNone (uncoveredS o ss) ≡ coversS o ss
   none-states o sNil = refl
   none-states o (sCons n es ts rs rest) =
       none-first (unlessCovered (isSome (ownValue o es)) (uncoveredR o n rs)) (uncoveredS o rest)

@@ -31,4 +31,7 @@ pub mod EnumsEmitted
 pub mod ChainsEmitted
 pub mod EquationsEmitted
 pub mod ValuesEmitted
+pub mod Accepted
+pub mod OutputsEmitted
+pub mod MachineEmitted
 pub mod EmitExample
