@@ -7,20 +7,14 @@ use mathlib.Core.Path.{_≡_, refl, sym, ap, _∙_}
 use lib.ListN.{getD}
 use lib.Dec.{eqb}
 use borrow.Author.Tests.{eq-eqb, ne-eqb}
-use Rattle.wire.specs.Answer.{counted}
 use Rattle.pack.specs.Names.{Name}
-use Rattle.pack.specs.Read.{equationIn, transitionIn}
+use Rattle.pack.specs.Read.{equationIn}
 use Rattle.machines.specs.declared.cover.Told.{Told}
 use Rattle.machines.specs.declared.sure.Num.{Num}
 use Rattle.machines.specs.Stands.{endOf}
 use Rattle.machines.specs.Sure.{numberIn}
 use Rattle.machines.specs.Covers.{allMiss, asked, firstMiss, givesT, missT, orNext, ownT, tells, told, uncoveredT}
 use Rattle.machines.proofs.SureLaws.{on}
-
--- a step of the code
-pub ask : {A : Type 0} (h x : Told) (k : Bool → ℕ → A) (r : A) → h ≡ x → r ≡ k (h .yes) (h .next) → r ≡ asked x k
-unfolding asked
-ask h x k r e f = f ∙ ap (λ (y : Told). k (y .yes) (y .next)) e
 
 pub tells-went : (k : ℕ → Told) (f : Bool → Bool → Bool) (n at : ℕ) (a b : Bool) (e z : Told) → 0 < n → e ≡ k at → b ≡ f a (e .yes) → tells k f n at a ≡ z → tells k f (n - 1) (e .next) b ≡ z
 unfolding tells asked
@@ -38,9 +32,9 @@ module _ (ns : List Name) (s : List ℕ) where
   gives-is out at q k i x y r a b c d e f =
       on k _ _ _ a (on i _ _ _ b (ap (λ z. told z q) (f ∙ ap (λ z. z && y) d ∙ ap (λ z. eqb (k .value) 1 && z) e) ∙ ap (told (eqb (k .value) 1 && eqb (i .value) out)) c))
 
-  pub own-is : (out at q : ℕ) (i t : Num) (a : Told) → i ≡ numberIn s at → t ≡ numberIn s (i .next) → a ≡ tells (givesT ns s out) _||_ (t .value) (t .next) false → q ≡ endOf (counted (transitionIn ns s) s (a .next)) → told (a .yes) q ≡ ownT ns s out at
+  pub own-is : (out at q : ℕ) (i t : Num) (a : Bool) → i ≡ numberIn s at → t ≡ numberIn s (i .next) → told a q ≡ tells (givesT ns s out) _||_ (t .value) (t .next) false → a ≡ ownT ns s out at
   unfolding ownT
-  own-is out at q i t a x y z w = on i _ _ _ x (on t _ _ _ y (ask a _ _ _ z (ap (told (a .yes)) w)))
+  own-is out at q i t a x y z = on i _ _ _ x (on t _ _ _ y (ap (λ (h : Told). h .yes) z))
 
 -- the loop over states: one that gives the output, one that does not, and the end
 module _ (t : List ℕ) (f : ℕ → ℕ) where
@@ -103,18 +97,18 @@ next-first a b e = sym (ap (λ (x : Bool). cond x b a) (ne-eqb a 0 e))
 
 -- a state that gives the output itself, one without regions, one with regions; a region
 module _ (ns : List Name) (s t : List ℕ) (out : ℕ) where
-  own-at : (at p : ℕ) (o : Told) (b : Bool) → at ≡ getD t p 0 → o ≡ ownT ns s out at → o .yes ≡ b → ownT ns s out (getD t p 0) .yes ≡ b
-  own-at at p o b e f g = ap (λ (y : ℕ). ownT ns s out y .yes) (sym e) ∙ ap (λ (y : Told). y .yes) (sym f) ∙ g
+  own-at : (at p : ℕ) (o b : Bool) → at ≡ getD t p 0 → o ≡ ownT ns s out at → o ≡ b → ownT ns s out (getD t p 0) ≡ b
+  own-at at p o b e f g = ap (ownT ns s out) (sym e) ∙ sym f ∙ g
 
-  pub state-own : (f : ℕ → ℕ) (at p : ℕ) (o : Told) → at ≡ getD t p 0 → o ≡ ownT ns s out at → o .yes ≡ true → 0 ≡ missT ns s t out f p
+  pub state-own : (f : ℕ → ℕ) (at p : ℕ) (o : Bool) → at ≡ getD t p 0 → o ≡ ownT ns s out at → o ≡ true → 0 ≡ missT ns s t out f p
   unfolding missT
   state-own f at p o a b g = rw (own-at at p o true a b g) refl
 
-  pub state-alone : (f : ℕ → ℕ) (at p n : ℕ) (o : Told) → at ≡ getD t p 0 → o ≡ ownT ns s out at → o .yes ≡ false → n ≡ getD t (p + 5) 0 → n ≡ 0 → p ≡ missT ns s t out f p
+  pub state-alone : (f : ℕ → ℕ) (at p n : ℕ) (o : Bool) → at ≡ getD t p 0 → o ≡ ownT ns s out at → o ≡ false → n ≡ getD t (p + 5) 0 → n ≡ 0 → p ≡ missT ns s t out f p
   unfolding missT
   state-alone f at p n o a b g e h = rw (own-at at p o false a b g, eq-eqb (getD t (p + 5) 0) 0 (sym e ∙ h)) refl
 
-  pub state-regions : (f : ℕ → ℕ) (at p n g : ℕ) (o : Told) → at ≡ getD t p 0 → o ≡ ownT ns s out at → o .yes ≡ false → n ≡ getD t (p + 5) 0 → (n ≡ 0 → ⊥) → (0 < getD t (p + 5) 0 → g ≡ p + 6) → allMiss t f n g 0 ≡ missT ns s t out f p
+  pub state-regions : (f : ℕ → ℕ) (at p n g : ℕ) (o : Bool) → at ≡ getD t p 0 → o ≡ ownT ns s out at → o ≡ false → n ≡ getD t (p + 5) 0 → (n ≡ 0 → ⊥) → (0 < getD t (p + 5) 0 → g ≡ p + 6) → allMiss t f n g 0 ≡ missT ns s t out f p
   unfolding missT
   state-regions f at p n g o a b c e h d =
       rw (own-at at p o false a b c, ne-eqb (getD t (p + 5) 0) 0 (λ z. h (e ∙ z)))

@@ -77,15 +77,14 @@ module _ (ns : List Name) (s : List ℕ) (fresh : Fresh [] ns) (out : ℕ) (low 
       go false true = refl
       go false false = refl
 
-  pub own-link : (at : ℕ) (nm : Name) (es : List Equation) (ts : List Transition) (k b : ℕ) → (h : StateAt ns s at nm es ts k b) → ownT ns s out at ≡ told (isSome (ownValue (nameAt ns out) es)) (h .to-regions)
+  pub own-link : (at : ℕ) (nm : Name) (es : List Equation) (ts : List Transition) (k b : ℕ) → StateAt ns s at nm es ts k b → ownT ns s out at ≡ isSome (ownValue (nameAt ns out) es)
   unfolding ownT equationsIn counted
   own-link at nm es ts k b h =
       let i = name-number ns s at nm (h .to-equations) (h .name) in
       let d = bind-value (u16 s (h .to-equations)) _ es (h .to-transitions) (h .equations) in
       number-to s at (i .i) (h .to-equations) _ (i .is)
       ∙ number-to s (h .to-equations) (d .0) (d .1) _ (d .2)
-      ∙ ask-to _ (isSome (ownValue (nameAt ns out) es)) (h .to-transitions) _ (own-gather (d .0) (d .1) es (h .to-transitions) false (d .3))
-      ∙ ap (told (isSome (ownValue (nameAt ns out) es))) (end-to (counted (transitionIn ns s) s (h .to-transitions)) ts (h .to-regions) (h .transitions))
+      ∙ ap (λ (y : Told). y .yes) (own-gather (d .0) (d .1) es (h .to-transitions) false (d .3))
 
 -- a list of states that names none gives the output in all of them
 unfoldable pub isNone : Option Name → Bool
@@ -198,7 +197,7 @@ module _ (ns : List Name) (s t reg lets : List ℕ) (fresh : Fresh [] ns) (out :
       → missed t lets (cond (eqb k 0) p (allMiss t f k (p + 6) 0)) ≡ x → missed t lets (missT ns s t out f p) ≡ unlessCovered (isSome (ownValue o es)) x
   unfolding missT
   state-told {at = at} f p es x row d h =
-      let b : ownT ns s out (getD t p 0) .yes ≡ isSome (ownValue o es) = ap (λ (y : ℕ). ownT ns s out y .yes) (row .drawn) ∙ ap (λ (y : Told). y .yes) (own-link ns s fresh out low at _ es _ _ _ d) in
+      let b = ap (ownT ns s out) (row .drawn) ∙ own-link ns s fresh out low at _ es _ _ _ d in
       (λ i. missed t lets (cond (b i) 0 (cond (eqb (row .regions i) 0) p (allMiss t f (row .regions i) (p + 6) 0))))
       ∙ missed-own t lets (isSome (ownValue o es)) _ ∙ ap (unlessCovered (isSome (ownValue o es))) h
 

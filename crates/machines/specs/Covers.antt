@@ -6,9 +6,8 @@ use mathlib.Core.Bool.{Bool, false, cond, _&&_, _||_}
 use mathlib.Core.Option.{Option, none, some}
 use lib.ListN.{getD}
 use lib.Dec.{eqb}
-use Rattle.wire.specs.Answer.{counted}
 use Rattle.pack.specs.Names.{Name}
-use Rattle.pack.specs.Read.{equationIn, transitionIn}
+use Rattle.pack.specs.Read.{equationIn}
 use Rattle.machines.specs.declared.cover.Told.{Told}
 use Rattle.machines.specs.Stands.{endOf}
 use Rattle.machines.specs.Sure.{numberIn, with}
@@ -34,12 +33,9 @@ module _ (ns : List Name) (s : List ℕ) where
   unfoldable pub givesT : ℕ → ℕ → Told
   givesT out at = with (numberIn s at) λ k p. with (numberIn s p) λ i q. told (eqb k 1 && eqb i out) (endOf (equationIn ns s at))
 
-  -- a state's name, equations and transitions: whether an equation gives `out`
-  unfoldable pub ownT : ℕ → ℕ → Told
-  ownT out at =
-      with (numberIn s at) λ i p.
-      with (numberIn s p) λ n q.
-      asked (tells (givesT out) _||_ n q false) λ a o. told a (endOf (counted (transitionIn ns s) s o))
+  -- whether an equation of the state at `at` gives `out`
+  unfoldable pub ownT : ℕ → ℕ → Bool
+  ownT out at = with (numberIn s at) λ i p. with (numberIn s p) λ n q. tells (givesT out) _||_ n q false .yes
 
 module _ (t : List ℕ) where
   -- the answer of n states from the word p on: the first that is not 0
@@ -57,7 +53,7 @@ module _ (t : List ℕ) where
 module _ (ns : List Name) (s t : List ℕ) (out : ℕ) where
   -- of the state at the word p, by the answers of its regions
   unfoldable pub missT : (ℕ → ℕ) → ℕ → ℕ
-  missT f p = cond (ownT ns s out (getD t p 0) .yes) 0 (cond (eqb (getD t (p + 5) 0) 0) p (allMiss t f (getD t (p + 5) 0) (p + 6) 0))
+  missT f p = cond (ownT ns s out (getD t p 0)) 0 (cond (eqb (getD t (p + 5) 0) 0) p (allMiss t f (getD t (p + 5) 0) (p + 6) 0))
 
   -- of the region at the word q, with so many levels left
   unfoldable pub uncoveredT : ℕ → ℕ → ℕ

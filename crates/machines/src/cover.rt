@@ -4,7 +4,6 @@ use crate::rows::first;
 use crate::rows::inner;
 use crate::rows::word;
 use crate::sure::after_equation;
-use crate::sure::after_transitions;
 use crate::sure::number;
 use crate::table::entry;
 ghost use mathlib.Core.List.{List};
@@ -47,8 +46,8 @@ fn gives(s: &[u8], names: usize, out: usize, at: usize) -> Told
     }
 }
 
-// A state's name, equations and transitions: whether an equation gives `out`.
-pub fn own(s: &[u8], names: usize, out: usize, at: usize) -> Told
+// Whether an equation of the state at `at` gives `out`.
+fn own(s: &[u8], names: usize, out: usize, at: usize) -> bool
     requires { ⌜ length (now s) ≤ 65536 ⌝ }
     ensures { λ r. ⌜ ((ns : List Name) → length ns ≡ names → r ≡ ownT ns (now (s .entry)) out at) ⌝ }
 {
@@ -63,10 +62,7 @@ pub fn own(s: &[u8], names: usize, out: usize, at: usize) -> Told
         n = n - 1;
         p = e.next;
     }
-    Told {
-        yes: a,
-        next: after_transitions(s, names, p),
-    }
+    a
 }
 
 // The first number, or the second where that is 0.
@@ -89,8 +85,7 @@ fn uncovered_state(
     requires { ⌜ length (now s) ≤ 65536 ⌝ }
     ensures { λ r. ⌜ ((ns : List Name) → length ns ≡ names → r ≡ missT ns (now (s .entry)) (now (t .entry)) out (uncoveredT ns (now (s .entry)) (now (t .entry)) out levels) p) ⌝ }
 {
-    let o = own(s, names, out, entry(t, p));
-    if o.yes {
+    if own(s, names, out, entry(t, p)) {
         return 0;
     }
     let mut n = word(t, p, 5);
