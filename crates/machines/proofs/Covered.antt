@@ -15,7 +15,7 @@ use Rattle.pack.specs.Syntax.{Equation, Machine, Regions, States, Transition, r
 use Rattle.pack.specs.Forms.{nameAt}
 use Rattle.pack.specs.Legal.{Fresh}
 use Rattle.pack.specs.Report.{firstOf}
-use Rattle.pack.specs.Read.{equationIn, equationsIn, exprIn, nameIn, namesIn, transitionIn}
+use Rattle.pack.specs.Read.{equationIn, equationsIn, exprIn, nameIn, namesIn}
 use Rattle.machines.specs.declared.cover.Told.{Told}
 use Rattle.machines.specs.Lower.{coversR, coversS, isOnly, isSome, ownValue}
 use Rattle.machines.specs.Checks.{uncoveredR, uncoveredS, unlessCovered, unlessOther}

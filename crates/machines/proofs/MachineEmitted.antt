@@ -3,7 +3,7 @@ use Prim.Native.Nat.{ℕ, suc, _-_, _<_}
 use mathlib.Core.List.{List, [], _∷_, _++_, append-assoc, append-nil}
 use mathlib.Core.Bool.{true}
 use mathlib.Core.Option.{none}
-use mathlib.Core.Path.{_≡_, refl, sym, ap, subst, _∙_}
+use mathlib.Core.Path.{_≡_, sym, ap, subst, _∙_}
 use lib.ListN.{length, getD}
 use Rattle.wire.specs.Answer.{value}
 use Rattle.wire.specs.Bytes.{two}
@@ -12,7 +12,7 @@ use Rattle.wire.specs.Writer.{State, puts}
 use Rattle.pack.specs.Names.{Name}
 use Rattle.pack.specs.Syntax.{Expr, Machine, rCons, rNil}
 use Rattle.pack.specs.Forms.{nameAt}
-use Rattle.pack.specs.Legal.{Each, Fresh, Known, LegalName, place}
+use Rattle.pack.specs.Legal.{Each, Fresh, LegalName, place}
 use Rattle.pack.specs.Read.{exprIn, portsIn}
 use Rattle.pack.specs.Write.{Item, each, enc, equationItems, exprItems, nm, raw}
 use Rattle.pack.specs.Intern.{putItem, putName, render}

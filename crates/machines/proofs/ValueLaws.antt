@@ -1,7 +1,7 @@
 -- Laws of the values of outputs as the code writes them.
 use Prim.Native.Nat.{ℕ, zero, suc, _+_, _-_, _<_, _≤_}
 use native.Mathlib.Omega.{arith}
-use mathlib.Core.List.{List, [], _∷_}
+use mathlib.Core.List.{List}
 use mathlib.Core.Bool.{Bool, true, false, cond, _&&_}
 use mathlib.Core.Path.{_≡_, refl, sym, ap, _∙_}
 use lib.ListN.{getD}
@@ -13,12 +13,12 @@ use Rattle.wire.specs.Writer.{State, puts, stateOf}
 use Rattle.pack.specs.Limits.{maxLevel}
 use Rattle.pack.specs.Names.{Name}
 use Rattle.pack.specs.Read.{equationIn, exprIn, portIn}
-use Rattle.pack.specs.Write.{Item, raw}
+use Rattle.pack.specs.Write.{Item}
 use Rattle.pack.specs.Intern.{putItem, render}
 use Rattle.pack.proofs.Interns.{render-append}
 use Rattle.machines.specs.declared.sure.Num.{Num}
 use Rattle.machines.specs.Stands.{endOf}
-use Rattle.machines.specs.Sure.{numberIn, with}
+use Rattle.machines.specs.Sure.{numberIn}
 use Rattle.machines.specs.Laid.{sliceOf}
 use Rattle.machines.specs.Covers.{uncoveredT}
 use Rattle.machines.specs.Emits.{lastOr, testT}
