@@ -1,5 +1,6 @@
 -- The next state that is written from the layout is that of the definition: equal in what every writer comes to.
 use Prim.Native.Nat.{ℕ, zero, suc, _+_, _-_, _<_}
+use native.Mathlib.Omega.{arith}
 use mathlib.Core.List.{List, [], _∷_, _++_}
 use mathlib.Core.Path.{_≡_, refl, sym, ap, _∙_}
 use lib.ListN.{length, getD}
@@ -116,14 +117,15 @@ module _ (ns : List Name) (s spots t reg lets old : List ℕ)
       ∙ moves-alike q pre f (b .0) (b .1) ts (d .to-regions) (b .3) z
       ∙ ap (λ (us : List Transition). render old (exprItems (transitionsOf (stateVar (getD t (q + 5) 0)) us)) z) (sym g)
 
-  last-alike : {pre : Name} {up l n p i q j : ℕ} (rest : States) → HeldS ns s t reg lets pre up l n p i rest q j → (test val chain : List Item) (a b c : Expr) → Alike old test (raw (4 ∷ []) ∷ exprItems a) → Alike old val (exprItems b) → Alike old chain (exprItems c)
+  -- a part of a chain: the rest counts where the part is not the last
+  pub last-alike : {pre : Name} {up l n p i q j : ℕ} (rest : States) → HeldS ns s t reg lets pre up l n p i rest q j → (test val chain : List Item) (a b c : Expr) → Alike old test (raw (4 ∷ []) ∷ exprItems a) → Alike old val (exprItems b) → (0 < n → Alike old chain (exprItems c))
       → Alike old (lastOr n test val chain) (exprItems (orElse a b rest c))
   unfolding lastOr orElse exprItems
   last-alike sNil (hEnd x y) test val chain a b c f g h = g
   last-alike (sCons nn es ts rs rest) (hMore row d to fu sl ms rg st) test val chain a b c f g h =
-      alike-append old test (raw (4 ∷ []) ∷ exprItems a) (val ++ chain) (exprItems b ++ exprItems c) f (alike-append old val (exprItems b) chain (exprItems c) g h)
+      alike-append old test (raw (4 ∷ []) ∷ exprItems a) (val ++ chain) (exprItems b ++ exprItems c) f (alike-append old val (exprItems b) chain (exprItems c) g (h (omega arith)))
 
-  test-alike : {at tr a m e k : ℕ} (q p : ℕ) (full : Name) → StateRow t p at tr a m e k → sliceOf lets a m ≡ full → testT t lets q p ≡ raw (4 ∷ []) ∷ exprItems (isName (stateVar (getD t (q + 5) 0)) full)
+  pub test-alike : {at tr a m e k : ℕ} (q p : ℕ) (full : Name) → StateRow t p at tr a m e k → sliceOf lets a m ≡ full → testT t lets q p ≡ raw (4 ∷ []) ∷ exprItems (isName (stateVar (getD t (q + 5) 0)) full)
   unfolding testT
   test-alike q p full row f = ap (λ (n : Name). raw (4 ∷ []) ∷ exprItems (isName (stateVar (getD t (q + 5) 0)) n)) (state-letters t lets p full row f)
 
@@ -145,5 +147,5 @@ module _ (ns : List Name) (s spots t reg lets old : List ℕ)
   chain-alike q (sCons nn es ts rs rest) f (hMore row d to fu sl ms rg st) = λ z.
       ap (λ (is : List Item). render old is z) (chain-step q _ _ _ (row .after))
       ∙ last-alike rest st _ _ _ (isName (stateVar (getD t (q + 5) 0)) nn) (transitionsOf (stateVar (getD t (q + 5) 0)) ts) (nextChain (stateVar (getD t (q + 5) 0)) rest)
-      (alike-by old _ _ (test-alike q _ nn row sl)) (transitions-alike q _ _ _ ts f row d to ms) (chain-alike q rest f st) z
+      (alike-by old _ _ (test-alike q _ nn row sl)) (transitions-alike q _ _ _ ts f row d to ms) (λ h. chain-alike q rest f st) z
       ∙ ap (λ (is : List Item). render old is z) (next-step (stateVar (getD t (q + 5) 0)) nn es ts rs rest)

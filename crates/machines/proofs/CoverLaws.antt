@@ -1,28 +1,20 @@
--- Laws for the code that looks for coverage on bytes, step by step.
-use Prim.Native.Nat.{ℕ, zero, suc, _+_, _*_, _/_, _%_, _-_, _<_, _≤_}
+-- Laws for the code that looks for coverage, step by step.
+use Prim.Native.Nat.{ℕ, zero, suc, _+_, _-_, _<_, _≤_}
 use native.Mathlib.Omega.{arith}
 use mathlib.Core.List.{List}
-use mathlib.Core.Bool.{Bool, true, false, _&&_, _||_}
-use mathlib.Core.Path.{_≡_, refl, ap, _∙_}
-use lib.ListN.{getD, length, set, List·getD-eq-default}
-use lib.Seq.{getD-set-same, getD-set-other}
-use lib.Dec.{eqb, ltb}
-use borrow.Author.Tests.{eqb-true, eqb-false, ltb-true, ltb-false}
-use Rattle.wire.specs.Answer.{counted}
-use Rattle.pack.specs.Limits.{absent, maxLevel}
+use mathlib.Core.Bool.{Bool, true, false, cond, _&&_, _||_}
+use mathlib.Core.Path.{_≡_, refl, sym, ap, _∙_}
+use lib.ListN.{getD}
+use lib.Dec.{eqb}
+use borrow.Author.Tests.{eq-eqb, ne-eqb}
 use Rattle.pack.specs.Names.{Name}
-use Rattle.pack.specs.Read.{equationIn, transitionIn}
+use Rattle.pack.specs.Read.{equationIn}
 use Rattle.machines.specs.declared.cover.Told.{Told}
 use Rattle.machines.specs.declared.sure.Num.{Num}
 use Rattle.machines.specs.Stands.{endOf}
-use Rattle.machines.specs.Sure.{machineFrom, numberIn, regionIn}
-use Rattle.machines.specs.Covers.{OwnsRight, asked, bitOf, coverT, givesT, machineT, ownT, refineT, regionT, stateT, tells, told}
-use Rattle.machines.proofs.SureLaws.{high-part, low-part, no, on, yes}
-
--- a step of the code
-pub ask : {A : Type 0} (h x : Told) (k : Bool → ℕ → A) (r : A) → h ≡ x → r ≡ k (h .yes) (h .next) → r ≡ asked x k
-unfolding asked
-ask h x k r e f = f ∙ ap (λ (y : Told). k (y .yes) (y .next)) e
+use Rattle.machines.specs.Sure.{numberIn}
+use Rattle.machines.specs.Covers.{allMiss, asked, firstMiss, givesT, missT, orNext, ownT, tells, told, uncoveredT}
+use Rattle.machines.proofs.SureLaws.{on}
 
 pub tells-went : (k : ℕ → Told) (f : Bool → Bool → Bool) (n at : ℕ) (a b : Bool) (e z : Told) → 0 < n → e ≡ k at → b ≡ f a (e .yes) → tells k f n at a ≡ z → tells k f (n - 1) (e .next) b ≡ z
 unfolding tells asked
@@ -40,85 +32,96 @@ module _ (ns : List Name) (s : List ℕ) where
   gives-is out at q k i x y r a b c d e f =
       on k _ _ _ a (on i _ _ _ b (ap (λ z. told z q) (f ∙ ap (λ z. z && y) d ∙ ap (λ z. eqb (k .value) 1 && z) e) ∙ ap (told (eqb (k .value) 1 && eqb (i .value) out)) c))
 
-  pub own-is : (out at q : ℕ) (i t : Num) (a : Told) → i ≡ numberIn s at → t ≡ numberIn s (i .next) → a ≡ tells (givesT ns s out) _||_ (t .value) (t .next) false → q ≡ endOf (counted (transitionIn ns s) s (a .next)) → told (a .yes) q ≡ ownT ns s out at
+  pub own-is : (out at q : ℕ) (i t : Num) (a : Bool) → i ≡ numberIn s at → t ≡ numberIn s (i .next) → told a q ≡ tells (givesT ns s out) _||_ (t .value) (t .next) false → a ≡ ownT ns s out at
   unfolding ownT
-  own-is out at q i t a x y z w = on i _ _ _ x (on t _ _ _ y (ask a _ _ _ z (ap (told (a .yes)) w)))
+  own-is out at q i t a x y z = on i _ _ _ x (on t _ _ _ y (ap (λ (h : Told). h .yes) z))
 
-  module _ (to : List ℕ) (out : ℕ) where
-    pub region-on : (rec : ℕ → ℕ → Told) (at : ℕ) (g : Num) (e : Told) → g ≡ regionIn s at → e ≡ rec (g .value) (g .next) → e ≡ regionT ns s to out rec at
-    unfolding regionT
-    region-on rec at g e x y = on g _ rec e x y
+-- the loop over states: one that gives the output, one that does not, and the end
+module _ (t : List ℕ) (f : ℕ → ℕ) where
+  pub first-went : (n p m r z : ℕ) → 0 < n → m ≡ f p → m ≡ 0 → r ≡ getD t (p + 4) 0 → firstMiss t f n p ≡ z → firstMiss t f (n - 1) r ≡ z
+  unfolding firstMiss orNext
+  first-went zero p m r z l e h g d = absurd (omega arith)
+  first-went (suc n) p m r z l e h g d =
+      let i : suc n - 1 ≡ n = omega arith in
+      ap (λ (y : ℕ). firstMiss t f y r) i ∙ ap (firstMiss t f n) g
+      ∙ sym (ap (λ (b : Bool). cond b (firstMiss t f n (getD t (p + 4) 0)) (f p)) (eq-eqb (f p) 0 (sym e ∙ h))) ∙ d
 
-    pub refine-plain : (rec : ℕ → ℕ → Told) (a : Bool) (at : ℕ) (f : Num) → f ≡ numberIn s at → f .value ≡ 65535 → told a (f .next) ≡ refineT ns s to out rec a at
-    unfolding refineT absent
-    refine-plain rec a at f x e = on f _ _ _ x (yes (f .value) 65535 _ _ _ e refl)
+  pub first-found : (n p m z : ℕ) → 0 < n → m ≡ f p → (m ≡ 0 → ⊥) → firstMiss t f n p ≡ z → m ≡ z
+  unfolding firstMiss orNext
+  first-found zero p m z l e h d = absurd (omega arith)
+  first-found (suc n) p m z l e h d =
+      e ∙ sym (ap (λ (b : Bool). cond b (firstMiss t f n (getD t (p + 4) 0)) (f p)) (ne-eqb (f p) 0 (λ g. h (e ∙ g)))) ∙ d
 
-    pub refine-into : (rec : ℕ → ℕ → Told) (a : Bool) (at w : ℕ) (f k : Num) (v : Told) (x : Bool) → f ≡ numberIn s at → (f .value ≡ 65535 → ⊥) → w ≡ getD to (f .value) 0 → k ≡ machineFrom s w → v ≡ rec (k .value) (k .next) → x ≡ (a || v .yes) → told x (f .next) ≡ refineT ns s to out rec a at
-    unfolding refineT absent
-    refine-into rec a at w f k v x e n o g h y = on f _ _ _ e (no (f .value) 65535 _ _ _ n (on k _ _ _ (g ∙ ap (machineFrom s) o) (ask v _ _ _ h (ap (λ z. told z (f .next)) y))))
+  pub first-done : (n p z : ℕ) → n ≤ 0 → firstMiss t f n p ≡ z → 0 ≡ z
+  unfolding firstMiss
+  first-done zero p z l d = d
+  first-done (suc n) p z l d = absurd (omega arith)
 
-    pub state-on : (rec : ℕ → ℕ → Told) (at : ℕ) (h : Told) (t : Num) (u r : Told) → h ≡ ownT ns s out at → t ≡ numberIn s (h .next) → u ≡ tells (regionT ns s to out rec) _||_ (t .value) (t .next) (h .yes) → r ≡ refineT ns s to out rec (u .yes) (u .next) → r ≡ stateT ns s to out rec at
-    unfolding stateT
-    state-on rec at h t u r x y z w = ask h _ _ r x (on t _ _ r y (ask u _ _ r z w))
+  -- where the states start matters only where there is one
+  first-start : (n p r : ℕ) → (0 < n → p ≡ r) → firstMiss t f n p ≡ firstMiss t f n r
+  unfolding firstMiss
+  first-start zero p r h = refl
+  first-start (suc n) p r h = ap (firstMiss t f (suc n)) (h (omega arith))
 
-    pub cover-none : (l n at : ℕ) → l ≡ 0 → told false 0 ≡ coverT ns s to out l n at
-    unfolding coverT
-    cover-none l n at e = rw e
+  pub first-from : (k n p r : ℕ) → k ≡ n → (0 < n → p ≡ r) → firstMiss t f k p ≡ firstMiss t f n r
+  first-from k n p r e h = ap (λ (y : ℕ). firstMiss t f y p) e ∙ first-start n p r h
 
-    pub cover-some : (l n at : ℕ) → (l ≡ 0 → ⊥) → tells (stateT ns s to out (coverT ns s to out (l - 1))) _&&_ n at true ≡ coverT ns s to out l n at
-    unfolding coverT
-    cover-some zero n at h = absurd (h refl)
-    cover-some (suc l) n at h = let e : suc l - 1 ≡ l = omega arith in rw e refl
+  -- the loop over regions: one that does not give the output, one that does, and the end
+  pub all-went : (n g m v k r z : ℕ) → 0 < n → m ≡ f g → (m ≡ 0 → ⊥) → k ≡ orNext v m → r ≡ getD t (g + 4) 0 → allMiss t f n g v ≡ z → allMiss t f (n - 1) r k ≡ z
+  unfolding allMiss
+  all-went zero g m v k r z l e h a b d = absurd (omega arith)
+  all-went (suc n) g m v k r z l e h a b d =
+      let i : suc n - 1 ≡ n = omega arith in
+      ap (λ (y : ℕ). allMiss t f y r k) i
+      ∙ (λ j. allMiss t f n (b j) ((a ∙ ap (orNext v) e) j))
+      ∙ sym (ap (λ (x : Bool). cond x 0 (allMiss t f n (getD t (g + 4) 0) (orNext v (f g)))) (ne-eqb (f g) 0 (λ y. h (e ∙ y)))) ∙ d
 
-    pub machine-covers : (at : ℕ) (k : Num) (t : Told) → k ≡ machineFrom s at → t ≡ coverT ns s to out 8 (k .value) (k .next) → t .yes ≡ machineT ns s to out at
-    unfolding machineT maxLevel
-    machine-covers at k t x y = on k _ _ _ x (ap (λ (z : Told). z .yes) y)
+  pub all-given : (n g m v z : ℕ) → 0 < n → m ≡ f g → m ≡ 0 → allMiss t f n g v ≡ z → 0 ≡ z
+  unfolding allMiss
+  all-given zero g m v z l e h d = absurd (omega arith)
+  all-given (suc n) g m v z l e h d =
+      sym (ap (λ (x : Bool). cond x 0 (allMiss t f n (getD t (g + 4) 0) (orNext v (f g)))) (eq-eqb (f g) 0 (sym e ∙ h))) ∙ d
 
--- what is noted is what is found
-split : (b : Bool) (q : ℕ) → told (eqb ((q * 2 + bitOf b) % 2) 1) ((q * 2 + bitOf b) / 2) ≡ told b q
-unfolding bitOf
-split true q = ap (λ y. told (eqb y 1) ((q * 2 + 1) / 2)) (low-part 2 q 1 (omega arith)) ∙ ap (told true) (high-part 2 q 1 (omega arith))
-split false q = ap (λ y. told (eqb y 1) ((q * 2 + 0) / 2)) (low-part 2 q 0 (omega arith)) ∙ ap (told false) (high-part 2 q 0 (omega arith))
+  pub all-done : (n g v z : ℕ) → n ≤ 0 → allMiss t f n g v ≡ z → v ≡ z
+  unfolding allMiss
+  all-done zero g v z l d = d
+  all-done (suc n) g v z l d = absurd (omega arith)
 
-module _ (ns : List Name) (s : List ℕ) (out : ℕ) where
-  pub note-found : (owns : List ℕ) (at : ℕ) → OwnsRight ns s out owns → (getD owns at 0 ≡ 0 → ⊥) → told (eqb (getD owns at 0 % 2) 1) (getD owns at 0 / 2) ≡ ownT ns s out at
-  note-found owns at r n = r at n
+pub next-second : (a b : ℕ) → a ≡ 0 → b ≡ orNext a b
+unfolding orNext
+next-second a b e = sym (ap (λ (x : Bool). cond x b a) (eq-eqb a 0 e))
 
-  pub note-put : (owns : List ℕ) (at v : ℕ) (h : Told) → at < length owns → h ≡ ownT ns s out at → v ≡ bitOf (h .yes) → OwnsRight ns s out owns → OwnsRight ns s out (set owns at (h .next * 2 + v))
-  note-put owns at v h l e f r = λ j. go j (eqb j at) refl
-    where
-      go : (j : ℕ) (b : Bool) → eqb j at ≡ b → (getD (set owns at (h .next * 2 + v)) j 0 ≡ 0 → ⊥) → told (eqb (getD (set owns at (h .next * 2 + v)) j 0 % 2) 1) (getD (set owns at (h .next * 2 + v)) j 0 / 2) ≡ ownT ns s out j
-      go j false g = rw (getD-set-other owns at j (h .next * 2 + v) 0 (eqb-false j at g)) (r j)
-      go j true g = rw (eqb-true j at g) (rw (getD-set-same owns at (h .next * 2 + v) 0 l) (λ y. ap (λ x. told (eqb ((h .next * 2 + x) % 2) 1) ((h .next * 2 + x) / 2)) f ∙ split (h .yes) (h .next) ∙ e))
+pub next-first : (a b : ℕ) → (a ≡ 0 → ⊥) → a ≡ orNext a b
+unfolding orNext
+next-first a b e = sym (ap (λ (x : Bool). cond x b a) (ne-eqb a 0 e))
 
-  -- zeros note nothing
-  pub note-none : (owns : List ℕ) → ((i : ℕ) → getD owns i 0 ≡ 0) → OwnsRight ns s out owns
-  note-none owns z = λ at n. absurd (n (z at))
+-- a state that gives the output itself, one without regions, one with regions; a region
+module _ (ns : List Name) (s t : List ℕ) (out : ℕ) where
+  own-at : (at p : ℕ) (o b : Bool) → at ≡ getD t p 0 → o ≡ ownT ns s out at → o ≡ b → ownT ns s out (getD t p 0) ≡ b
+  own-at at p o b e f g = ap (ownT ns s out) (sym e) ∙ sym f ∙ g
 
--- zeros so far, one more, all
-pub zeros-more : (l : List ℕ) (i : ℕ) → i < length l → ((k : ℕ) → k < i → getD l k 0 ≡ 0) → (k : ℕ) → k < i + 1 → getD (set l i 0) k 0 ≡ 0
-zeros-more l i h z k m = go (eqb k i) refl
-  where
-    go : (b : Bool) → eqb k i ≡ b → getD (set l i 0) k 0 ≡ 0
-    go true e = rw (eqb-true k i e) (getD-set-same l i 0 0 h)
-    go false e = getD-set-other l i k 0 0 (eqb-false k i e) ∙ z k (let n = eqb-false k i e in omega arith)
+  pub state-own : (f : ℕ → ℕ) (at p : ℕ) (o : Bool) → at ≡ getD t p 0 → o ≡ ownT ns s out at → o ≡ true → 0 ≡ missT ns s t out f p
+  unfolding missT
+  state-own f at p o a b g = rw (own-at at p o true a b g) refl
 
-pub zeros-all : (l : List ℕ) (i : ℕ) → length l ≤ i → ((k : ℕ) → k < i → getD l k 0 ≡ 0) → (k : ℕ) → getD l k 0 ≡ 0
-zeros-all l i h z k = go (ltb k i) refl
-  where
-    go : (b : Bool) → ltb k i ≡ b → getD l k 0 ≡ 0
-    go true e = z k (ltb-true k i e)
-    go false e = List·getD-eq-default l 0 (let n = ltb-false k i e in omega arith)
+  pub state-alone : (f : ℕ → ℕ) (at p n : ℕ) (o : Bool) → at ≡ getD t p 0 → o ≡ ownT ns s out at → o ≡ false → n ≡ getD t (p + 5) 0 → n ≡ 0 → p ≡ missT ns s t out f p
+  unfolding missT
+  state-alone f at p n o a b g e h = rw (own-at at p o false a b g, eq-eqb (getD t (p + 5) 0) 0 (sym e ∙ h)) refl
 
-pub bit-yes : (b : Bool) → b ≡ true → 1 ≡ bitOf b
-unfolding bitOf
-bit-yes b e = rw e
+  pub state-regions : (f : ℕ → ℕ) (at p n g : ℕ) (o : Bool) → at ≡ getD t p 0 → o ≡ ownT ns s out at → o ≡ false → n ≡ getD t (p + 5) 0 → (n ≡ 0 → ⊥) → (0 < getD t (p + 5) 0 → g ≡ p + 6) → allMiss t f n g 0 ≡ missT ns s t out f p
+  unfolding missT
+  state-regions f at p n g o a b c e h d =
+      rw (own-at at p o false a b c, ne-eqb (getD t (p + 5) 0) 0 (λ z. h (e ∙ z)))
+      (let l : 0 < getD t (p + 5) 0 = omega arith in λ i. allMiss t f (e i) (d l i) 0)
 
-pub bit-no : (b : Bool) → b ≡ false → 0 ≡ bitOf b
-unfolding bitOf
-bit-no b e = rw e
+  pub uncovered-none : (l q : ℕ) → l ≡ 0 → 0 ≡ uncoveredT ns s t out l q
+  unfolding uncoveredT
+  uncovered-none l q e = rw e
 
-pub bit-small : (b : Bool) (v : ℕ) → v ≡ bitOf b → v ≤ 1
-unfolding bitOf
-bit-small true v e = omega arith
-bit-small false v e = omega arith
+  pub uncovered-some : (l q k p : ℕ) → (l ≡ 0 → ⊥) → k ≡ getD t (q + 6) 0 → (0 < getD t (q + 6) 0 → p ≡ q + 9) → firstMiss t (missT ns s t out (uncoveredT ns s t out (l - 1))) k p ≡ uncoveredT ns s t out l q
+  unfolding uncoveredT
+  uncovered-some zero q k p h e g = absurd (h refl)
+  uncovered-some (suc l) q k p h e g =
+      let i : suc l - 1 ≡ l = omega arith in
+      ap (λ (y : ℕ). firstMiss t (missT ns s t out (uncoveredT ns s t out y)) k p) i
+      ∙ first-from t (missT ns s t out (uncoveredT ns s t out l)) k (getD t (q + 6) 0) p (q + 9) e g

@@ -21,18 +21,15 @@ use Rattle.pack.specs.Verdict.{offsetOf}
 use Rattle.machines.specs.declared.walk.Walked.the-variants as wk
 use Rattle.machines.specs.Resolve.{resolvedStates, went}
 use Rattle.machines.specs.Lays.{layMachine}
-use Rattle.machines.specs.Lower.{coversS}
-use Rattle.machines.specs.Stands.{endOf}
+use Rattle.machines.specs.Stands.{StandsS, endOf}
 use Rattle.machines.specs.Sure.{byteIn, machineFrom, numberIn, regionIn, sureOf, turns, with}
 use Rattle.machines.specs.Tables.{initialIn, lenOf, machinesPlaced, namesPlaced, nextName, placedFrom, statesEnd}
 use Rattle.machines.specs.Paths.{onOf, pushedOf, startOf}
 use Rattle.machines.specs.Walks.{enterW, goOn, headT, lenAt, machineW, maxOf, qualifyOf, refineW, regionW, rounds, stateW, targetT, walk}
-use Rattle.machines.specs.Covers.{machineT}
 use Rattle.machines.proofs.Reading.{MachineRead}
 use Rattle.machines.proofs.NamesPlaced.{names-placed, section-read}
 use Rattle.machines.proofs.MachinesPlaced.{machines-placed}
 use Rattle.machines.proofs.Walked.{Ready, walked-stands}
-use Rattle.machines.proofs.Covered.{machine-covered}
 use Rattle.machines.proofs.LaidMachine.{LaidMachine}
 use Rattle.machines.proofs.WalkedLaid.{walked-laid, walked-tree}
 
@@ -99,12 +96,10 @@ read-M =
       same = refl;
     }
 
--- M resolves to two states that stand there, and the code's answer on the output o is whether they give it
-instance : (t : States) × (resolvedStates (M ∷ N ∷ []) M ≡ went t 2) × (machineT ns s (machinesPlaced ns s 16 zeros) 1 31 ≡ coversS (111 ∷ []) t)
-unfolding nameAt read-M
-instance =
-    let r = walked-stands s ns (M ∷ N ∷ []) (namesPlaced s 5 2 0 zeros) (machinesPlaced ns s 16 zeros) tables 18 M 45 read-M 0 (omega arith) refl 45 2 3 walks in
-    (r .0, r .1, machine-covered ns s (tables .names .fresh) 1 (omega arith) (machinesPlaced ns s 16 zeros) 31 (97 ∷ []) 1 35 (r .0) 45 (read-M .head) (r .2))
+-- M resolves to two states, and they stand there
+instance : (t : States) × (resolvedStates (M ∷ N ∷ []) M ≡ went t 2) × StandsS ns s (λ j. getD (machinesPlaced ns s 16 zeros) j 0) [] 7 1 35 t 45
+unfolding read-M maxLevel
+instance = walked-stands s ns (M ∷ N ∷ []) (namesPlaced s 5 2 0 zeros) (machinesPlaced ns s 16 zeros) tables 18 M 45 read-M 0 (omega arith) refl 45 2 3 walks
 
 -- every byte is one
 unfoldable small : List ℕ → Bool

@@ -29,10 +29,15 @@ pub mod RepeatLaws
 pub mod EnumLaws
 pub mod ChainLaws
 pub mod RegionLaws
+pub mod ValueLaws
 pub mod EnumsEmitted
 pub mod Validated
 pub mod ChainsEmitted
 pub mod EquationsEmitted
+pub mod ValuesEmitted
+pub mod Accepted
+pub mod OutputsEmitted
+pub mod MachineEmitted
 pub mod EmitExample
 pub mod LetterLaws
 pub mod Boards

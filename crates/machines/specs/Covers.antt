@@ -1,17 +1,17 @@
--- Coverage of an output on bytes: what the code does, structural on the levels left. No tree is made.
-use Prim.Native.Nat.{ℕ, zero, suc, _/_, _%_}
+-- Coverage of an output: whether a state's own equations give it, on bytes; and which state of the layout does not give it,
+-- structural on the levels left.
+use Prim.Native.Nat.{ℕ, zero, suc, _+_}
 use mathlib.Core.List.{List}
-use mathlib.Core.Bool.{Bool, true, false, cond, _&&_, _||_}
-use mathlib.Core.Path.{_≡_}
+use mathlib.Core.Bool.{Bool, false, cond, _&&_, _||_}
+use mathlib.Core.Option.{Option, none, some}
 use lib.ListN.{getD}
 use lib.Dec.{eqb}
-use Rattle.wire.specs.Answer.{counted}
-use Rattle.pack.specs.Limits.{absent, maxLevel}
 use Rattle.pack.specs.Names.{Name}
-use Rattle.pack.specs.Read.{equationIn, transitionIn}
+use Rattle.pack.specs.Read.{equationIn}
 use Rattle.machines.specs.declared.cover.Told.{Told}
 use Rattle.machines.specs.Stands.{endOf}
-use Rattle.machines.specs.Sure.{machineFrom, numberIn, regionIn, with}
+use Rattle.machines.specs.Sure.{numberIn, with}
+use Rattle.machines.specs.Emits.{lettersAt}
 
 abbrev pub told : Bool → ℕ → Told
 told b q = record { yes = b; next = q }
@@ -24,46 +24,42 @@ unfoldable pub tells : (ℕ → Told) → (Bool → Bool → Bool) → ℕ → �
 tells r f zero at a = told a at
 tells r f (suc n) at a = asked (r at) λ v p. tells r f n p (f a v)
 
+-- the first number, or the second where that is 0
+unfoldable pub orNext : ℕ → ℕ → ℕ
+orNext a b = cond (eqb a 0) b a
+
 module _ (ns : List Name) (s : List ℕ) where
   -- whether `out` is an equation's only left name
   unfoldable pub givesT : ℕ → ℕ → Told
   givesT out at = with (numberIn s at) λ k p. with (numberIn s p) λ i q. told (eqb k 1 && eqb i out) (endOf (equationIn ns s at))
 
-  -- a state's name, equations and transitions: whether an equation gives `out`
-  unfoldable pub ownT : ℕ → ℕ → Told
-  ownT out at =
-      with (numberIn s at) λ i p.
-      with (numberIn s p) λ n q.
-      asked (tells (givesT out) _||_ n q false) λ a o. told a (endOf (counted (transitionIn ns s) s o))
+  -- whether an equation of the state at `at` gives `out`
+  unfoldable pub ownT : ℕ → ℕ → Bool
+  ownT out at = with (numberIn s at) λ i p. with (numberIn s p) λ n q. tells (givesT out) _||_ n q false .yes
 
-  module _ (to : List ℕ) (out : ℕ) where
-    unfoldable pub regionT : (ℕ → ℕ → Told) → ℕ → Told
-    regionT rec at = with (regionIn s at) rec
+module _ (t : List ℕ) where
+  -- the answer of n states from the word p on: the first that is not 0
+  unfoldable pub firstMiss : (ℕ → ℕ) → ℕ → ℕ → ℕ
+  firstMiss f zero p = 0
+  firstMiss f (suc n) p = orNext (f p) (firstMiss f n (getD t (p + 4) 0))
 
-    unfoldable pub refineT : (ℕ → ℕ → Told) → Bool → ℕ → Told
-    refineT rec a at =
-        with (numberIn s at) λ m e.
-        cond (eqb m absent) (told a e) (with (machineFrom s (getD to m 0)) λ n p. asked (rec n p) λ w z. told (a || w) e)
+  -- the answer of a state by n regions from the word g on, after others with the answer `miss`: 0 where one of them is 0,
+  -- else the first
+  unfoldable pub allMiss : (ℕ → ℕ) → ℕ → ℕ → ℕ → ℕ
+  allMiss f zero g miss = miss
+  allMiss f (suc n) g miss = cond (eqb (f g) 0) 0 (allMiss f n (getD t (g + 4) 0) (orNext miss (f g)))
 
-    unfoldable pub stateT : (ℕ → ℕ → Told) → ℕ → Told
-    stateT rec at =
-        asked (ownT out at) λ own p.
-        with (numberIn s p) λ n q.
-        asked (tells (regionT rec) _||_ n q own) λ a o.
-        refineT rec a o
+-- names, the pack's bytes, words, an output by its name's index: the answer is 0, or the word of a state that does not give it
+module _ (ns : List Name) (s t : List ℕ) (out : ℕ) where
+  -- of the state at the word p, by the answers of its regions
+  unfoldable pub missT : (ℕ → ℕ) → ℕ → ℕ
+  missT f p = cond (ownT ns s out (getD t p 0)) 0 (cond (eqb (getD t (p + 5) 0) 0) p (allMiss t f (getD t (p + 5) 0) (p + 6) 0))
 
-    unfoldable pub coverT : ℕ → ℕ → ℕ → Told
-    coverT zero n at = told false 0
-    coverT (suc l) n at = tells (stateT (coverT l)) _&&_ n at true
+  -- of the region at the word q, with so many levels left
+  unfoldable pub uncoveredT : ℕ → ℕ → ℕ
+  uncoveredT zero q = 0
+  uncoveredT (suc l) q = firstMiss t (missT (uncoveredT l)) (getD t (q + 6) 0) (q + 9)
 
-    -- the machine whose initial state stands at `at`
-    unfoldable pub machineT : ℕ → Bool
-    machineT at = with (machineFrom s at) λ k b. coverT maxLevel k b .yes
-
--- what is noted of states by their offsets, for one output: each entry is 0 or right
-unfoldable pub bitOf : Bool → ℕ
-bitOf true = 1
-bitOf false = 0
-
-abbrev pub OwnsRight : List Name → List ℕ → ℕ → List ℕ → Type 0
-OwnsRight ns s out owns = (at : ℕ) → (getD owns at 0 ≡ 0 → ⊥) → told (eqb (getD owns at 0 % 2) 1) (getD owns at 0 / 2) ≡ ownT ns s out at
+-- the state that an answer names: none, or the one at that word
+unfoldable pub missed : List ℕ → List ℕ → ℕ → Option Name
+missed t lets m = cond (eqb m 0) none (some (lettersAt t lets m))

@@ -19,6 +19,7 @@ pub mod Lower
 pub mod Locals
 pub mod Equations
 pub mod Emits
+pub mod Values
 pub mod Checks
 pub mod Machines
 pub mod Sections

@@ -114,7 +114,7 @@ pub fn put_transitions(
 }
 
 // Whether the region at the word q is in the state at the word p, as the test of a conditional.
-fn put_test(
+pub fn put_test(
     old: &[u8],
     t: &[usize],
     lets: &[u8],

@@ -1,19 +1,18 @@
 // Whether a resolved machine's states give an output: a state calls its regions and a region its states,
 // with the levels left as the falling number.
+use crate::rows::first;
+use crate::rows::inner;
+use crate::rows::word;
 use crate::sure::after_equation;
-use crate::sure::after_transitions;
-use crate::sure::machine;
 use crate::sure::number;
-use crate::sure::region;
 use crate::table::entry;
-use pack::record::Pack;
 ghost use mathlib.Core.List.{List};
 ghost use mathlib.Core.Path.{_≡_};
 ghost use mathlib.Core.Bool.{_&&_, _||_};
-ghost use Prim.Native.Nat.{ℕ, _≤_};
-ghost use lib.ListN.{length, getD};
+ghost use Prim.Native.Nat.{_≤_};
+ghost use lib.ListN.{length};
 ghost use Rattle.pack.specs.Names.{Name};
-ghost use Rattle.machines.specs.Covers.{givesT, ownT, coverT, stateT, machineT, bitOf, OwnsRight};
+ghost use Rattle.machines.specs.Covers.{givesT, orNext, ownT, missT, uncoveredT};
 
 // A yes or no, and the offset after what it was asked of.
 pub struct Told {
@@ -47,8 +46,8 @@ fn gives(s: &[u8], names: usize, out: usize, at: usize) -> Told
     }
 }
 
-// A state's name, equations and transitions: whether an equation gives `out`.
-pub fn own(s: &[u8], names: usize, out: usize, at: usize) -> Told
+// Whether an equation of the state at `at` gives `out`.
+fn own(s: &[u8], names: usize, out: usize, at: usize) -> bool
     requires { ⌜ length (now s) ≤ 65536 ⌝ }
     ensures { λ r. ⌜ ((ns : List Name) → length ns ≡ names → r ≡ ownT ns (now (s .entry)) out at) ⌝ }
 {
@@ -63,132 +62,74 @@ pub fn own(s: &[u8], names: usize, out: usize, at: usize) -> Told
         n = n - 1;
         p = e.next;
     }
-    Told {
-        yes: a,
-        next: after_transitions(s, names, p),
-    }
+    a
 }
 
-fn bit(b: bool) -> usize
-    ensures { λ r. ⌜ r ≡ bitOf b ⌝ }
+// The first number, or the second where that is 0.
+fn or_next(a: usize, b: usize) -> usize
+    ensures { λ r. ⌜ r ≡ orNext a b ⌝ }
 {
-    if b { 1 } else { 0 }
+    if a == 0 { b } else { a }
 }
 
-// The same as `own`, noted by the state's offset: for one output a state of a refined machine can be visited
-// hundreds of times.
-fn noted(s: &[u8], names: usize, out: usize, owns: &mut [u32], at: usize) -> Told
-    requires { ⌜ (length (now s) ≤ 65536) × ((ns : List Name) → length ns ≡ names → OwnsRight ns (now s) out (now owns)) ⌝ }
-    ensures { λ r. ⌜ ((ns : List Name) → length ns ≡ names → (r ≡ ownT ns (now (s .entry)) out at) × OwnsRight ns (now (s .entry)) out (now (owns .exit))) ⌝ }
-{
-    if owns.len() <= at {
-        return own(s, names, out, at);
-    }
-    let v = owns[at] as usize;
-    if v != 0 {
-        return Told {
-            yes: v % 2 == 1,
-            next: v / 2,
-        };
-    }
-    let h = own(s, names, out, at);
-    if h.next < 65536 {
-        owns[at] = (h.next * 2 + bit(h.yes)) as u32;
-    }
-    h
-}
-
-// Whether a state gives `out`: by an equation, by a region, or by its refinement.
-fn cover_state(
+// 0 where the state at the word p gives `out`, by an equation or by a region; else the word of a state that does not:
+// its first region's, or its own where it has none.
+fn uncovered_state(
     s: &[u8],
     names: usize,
-    to: &[usize],
+    t: &[usize],
     out: usize,
-    owns: &mut [u32],
     levels: usize,
-    at: usize,
-) -> Told
-    requires { ⌜ (length (now s) ≤ 65536) × ((ns : List Name) → length ns ≡ names → OwnsRight ns (now s) out (now owns)) ⌝ }
-    ensures { λ r. ⌜ ((ns : List Name) → length ns ≡ names → (r ≡ stateT ns (now (s .entry)) (now (to .entry)) out (coverT ns (now (s .entry)) (now (to .entry)) out levels) at) × OwnsRight ns (now (s .entry)) out (now (owns .exit))) ⌝ }
+    p: usize,
+) -> usize
+    requires { ⌜ length (now s) ≤ 65536 ⌝ }
+    ensures { λ r. ⌜ ((ns : List Name) → length ns ≡ names → r ≡ missT ns (now (s .entry)) (now (t .entry)) out (uncoveredT ns (now (s .entry)) (now (t .entry)) out levels) p) ⌝ }
 {
-    let h = noted(s, names, out, owns, at);
-    let t = number(s, h.next);
-    let mut n = t.value;
-    let mut p = t.next;
-    let mut a = h.yes;
+    if own(s, names, out, entry(t, p)) {
+        return 0;
+    }
+    let mut n = word(t, p, 5);
+    if n == 0 {
+        return p;
+    }
+    let mut g = inner(t, p);
+    let mut miss = 0;
     while 0 < n {
-        let g = region(s, p);
-        let e = cover_region(s, names, to, out, owns, levels, g.value, g.next);
-        a = either(a, e.yes);
+        let m = uncovered_region(s, names, t, out, levels, g);
+        if m == 0 {
+            return 0;
+        }
+        miss = or_next(miss, m);
+        g = word(t, g, 4);
         n = n - 1;
-        p = e.next;
     }
-    let f = number(s, p);
-    if f.value == 65535 {
-        return Told {
-            yes: a,
-            next: f.next,
-        };
-    }
-    let k = machine(s, entry(to, f.value));
-    let v = cover_region(s, names, to, out, owns, levels, k.value, k.next);
-    Told {
-        yes: either(a, v.yes),
-        next: f.next,
-    }
+    miss
 }
 
-// Whether each of so many states does.
-pub fn cover_region(
+// 0 where each state of the region at the word q gives `out`; else the word of a state that does not.
+pub fn uncovered_region(
     s: &[u8],
     names: usize,
-    to: &[usize],
+    t: &[usize],
     out: usize,
-    owns: &mut [u32],
     levels: usize,
-    count: usize,
-    at: usize,
-) -> Told
-    requires { ⌜ (length (now s) ≤ 65536) × ((ns : List Name) → length ns ≡ names → OwnsRight ns (now s) out (now owns)) ⌝ }
-    ensures { λ r. ⌜ ((ns : List Name) → length ns ≡ names → (r ≡ coverT ns (now (s .entry)) (now (to .entry)) out levels count at) × OwnsRight ns (now (s .entry)) out (now (owns .exit))) ⌝ }
+    q: usize,
+) -> usize
+    requires { ⌜ length (now s) ≤ 65536 ⌝ }
+    ensures { λ r. ⌜ ((ns : List Name) → length ns ≡ names → r ≡ uncoveredT ns (now (s .entry)) (now (t .entry)) out levels q) ⌝ }
 {
     if levels == 0 {
-        return Told {
-            yes: false,
-            next: 0,
-        };
+        return 0;
     }
-    let mut n = count;
-    let mut p = at;
-    let mut a = true;
+    let mut n = word(t, q, 6);
+    let mut p = first(t, q);
     while 0 < n {
-        let e = cover_state(s, names, to, out, owns, levels - 1, p);
-        a = both(a, e.yes);
+        let m = uncovered_state(s, names, t, out, levels - 1, p);
+        if m != 0 {
+            return m;
+        }
+        p = word(t, p, 4);
         n = n - 1;
-        p = e.next;
     }
-    Told { yes: a, next: p }
-}
-
-// Forgets what was noted for another output.
-fn forget(owns: &mut [u32])
-    ensures { λ r. ⌜ ((i : ℕ) → getD (now (owns .exit)) i 0 ≡ 0) ⌝ }
-{
-    let mut i = 0;
-    while i < owns.len() {
-        owns[i] = 0;
-        i += 1;
-    }
-}
-
-// Whether the machine whose initial state stands at `at` gives `out` in all its states. `owns` is scratch as long as
-// the pack; what is noted in it stays right for `out`.
-pub fn covers(s: &[u8], names: usize, to: &[usize], out: usize, owns: &mut [u32], at: usize) -> bool
-    requires { ⌜ length (now s) ≤ 65536 ⌝ }
-    ensures { λ r. ⌜ ((ns : List Name) → length ns ≡ names → (r ≡ machineT ns (now (s .entry)) (now (to .entry)) out at) × OwnsRight ns (now (s .entry)) out (now (owns .exit))) ⌝ }
-{
-    forget(owns);
-    let k = machine(s, at);
-    let t = cover_region(s, names, to, out, owns, Pack::LEVELS, k.value, k.next);
-    t.yes
+    0
 }

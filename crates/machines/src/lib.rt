@@ -20,3 +20,4 @@ pub mod chains; // the next state of a region
 pub mod regions; // the equations of regions
 pub mod valid; // state names, initial states and targets
 pub mod repeats; // a name that stands twice
+pub mod values; // the values of outputs

@@ -3,6 +3,7 @@ use pack::charts::then_state;
 use pack::parts::then_equation;
 use pack::parts::then_equations;
 use pack::parts::then_expr;
+use pack::parts::then_port;
 use pack::parts::then_transitions;
 use pack::record::Pack;
 use wire::answer::Read;
@@ -15,7 +16,7 @@ ghost use Prim.Native.Nat.{_≤_};
 ghost use lib.ListN.{length};
 ghost use Rattle.wire.specs.Answer.{counted};
 ghost use Rattle.pack.specs.Names.{Name};
-ghost use Rattle.pack.specs.Read.{equationIn, equationsIn, exprIn, transitionIn};
+ghost use Rattle.pack.specs.Read.{equationIn, equationsIn, exprIn, portIn, transitionIn};
 ghost use Rattle.pack.specs.Verdict.{offsetOf};
 ghost use Rattle.machines.specs.Stands.{endOf, overIn};
 ghost use Rattle.machines.specs.Sure.{sureOf, numberIn, regionIn, machineFrom};
@@ -74,6 +75,13 @@ pub fn after_expr(s: &[u8], names: usize, at: usize) -> usize
     ensures { λ r. ⌜ ((ns : List Name) → length ns ≡ names → r ≡ endOf (exprIn ns (now (s .entry)) at)) ⌝ }
 {
     reached(then_expr(s, names, Skipped::To(at)))
+}
+
+pub fn after_port(s: &[u8], names: usize, at: usize) -> usize
+    requires { ⌜ length (now s) ≤ 65536 ⌝ }
+    ensures { λ r. ⌜ ((ns : List Name) → length ns ≡ names → r ≡ endOf (portIn ns (now (s .entry)) at)) ⌝ }
+{
+    reached(then_port(s, names, Skipped::To(at)))
 }
 
 pub fn after_equation(s: &[u8], names: usize, at: usize) -> usize

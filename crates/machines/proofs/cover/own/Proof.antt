@@ -39,11 +39,8 @@ loop-less c = search needs
 loop-again : tie.Need-loop-again Inv-loop μ-loop
 loop-again c = λ ns e. tells-went (givesT ns _ _) _||_ _ _ _ _ _ _ (c .before .before .loop-test .taken) (c .before .gives .ensures ns e) (c .either .ensures) (c .before .before .before .loop .inv ns e)
 
-after-transitions-requires : tie.Need-after-transitions-requires Inv-loop μ-loop
-after-transitions-requires c κs = search needs
-
 returns : tie.Need-returns Inv-loop μ-loop
-returns c = λ ns e. own-is ns _ _ _ _ _ _ _ (c .before .before .before .before .number .ensures) (c .before .before .before .number2 .ensures) (tells-done (givesT ns _ _) _||_ _ _ _ _ (c .before .loop-test .left) (c .before .before .loop .inv ns e)) (c .after-transitions .ensures ns e)
+returns c = λ ns e. own-is ns _ _ _ _ _ _ _ (c .before .before .before .number .ensures) (c .before .before .number2 .ensures) (tells-done (givesT ns _ _) _||_ _ _ _ _ (c .loop-test .left) (c .before .loop .inv ns e))
 
 pub own-spec : {M : Type 1} → statement M
 own-spec =
@@ -59,5 +56,4 @@ own-spec =
     sub-n
     loop-less
     loop-again
-    after-transitions-requires
     returns)

@@ -1,0 +1,63 @@
+use mathlib.Core.List.{List}
+use mathlib.Core.Path.{_≡_, refl, _∙_}
+use lib.ListN.{length}
+use borrow.Author.Needs.{needs}
+use Rattle.pack.specs.Names.{Name}
+use Rattle.machines.specs.Covers.{uncoveredT}
+use Rattle.machines.specs.Values.{givingFrom}
+use Rattle.machines.proofs.ValueLaws.{entered-from, giving-done, giving-found, giving-went}
+use Rattle.machines.proofs.values.entered.Statement.{statement}
+use Rattle.machines.proofs.values.entered.Tie as tie
+
+abbrev Inv-loop : tie.InvT-loop
+Inv-loop s names t x levels p n₀ g₀ n g = (ns : List Name) → length ns ≡ names → givingFrom t (uncoveredT ns s t x levels) n g ≡ givingFrom t (uncoveredT ns s t x levels) n₀ g₀
+
+abbrev μ-loop : tie.MeasureT-loop
+μ-loop s names t x levels p n₀ g₀ n g = n
+
+word-requires : tie.Need-word-requires Inv-loop μ-loop
+word-requires c κs = search needs
+
+inner-requires : tie.Need-inner-requires Inv-loop μ-loop
+inner-requires c κs = search needs
+
+loop-holds : tie.Need-loop-holds Inv-loop μ-loop
+loop-holds c = λ ns e. refl
+
+uncovered-region-requires : tie.Need-uncovered-region-requires Inv-loop μ-loop
+uncovered-region-requires c κs = search needs
+
+returns : tie.Need-returns Inv-loop μ-loop
+returns c = λ ns e. giving-found _ _ _ _ _ _ (c .before .before .loop-test .taken) (c .before .uncovered-region .ensures ns e) (c .if1 .taken) (c .before .before .before .loop .inv ns e) ∙ entered-from _ _ _ _ _ (c .before .before .before .before .before .word .ensures) (c .before .before .before .before .inner .ensures)
+
+word-requires-2 : tie.Need-word-requires-2 Inv-loop μ-loop
+word-requires-2 c κs = search needs
+
+sub-n : tie.Need-sub-n Inv-loop μ-loop
+sub-n c = search needs
+
+loop-less : tie.Need-loop-less Inv-loop μ-loop
+loop-less c = search needs
+
+loop-again : tie.Need-loop-again Inv-loop μ-loop
+loop-again c = λ ns e. giving-went _ _ _ _ _ _ _ (c .before .before .before .loop-test .taken) (c .before .before .uncovered-region .ensures ns e) (c .before .if1 .left) (c .word2 .ensures) (c .before .before .before .before .loop .inv ns e)
+
+returns-2 : tie.Need-returns-2 Inv-loop μ-loop
+returns-2 c = λ ns e. giving-done _ _ _ _ _ (c .loop-test .left) (c .before .loop .inv ns e) ∙ entered-from _ _ _ _ _ (c .before .before .before .word .ensures) (c .before .before .inner .ensures)
+
+pub entered-spec : {M : Type 1} → statement M
+entered-spec =
+    tie.close
+    (tie.spec
+    Inv-loop
+    μ-loop
+    word-requires
+    inner-requires
+    loop-holds
+    uncovered-region-requires
+    returns
+    word-requires-2
+    sub-n
+    loop-less
+    loop-again
+    returns-2)
