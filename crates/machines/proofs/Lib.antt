@@ -26,6 +26,7 @@ pub mod SectionExample
 pub mod RowLaws
 pub mod ValidLaws
 pub mod RepeatLaws
+pub mod JudgeLaws
 pub mod EnumLaws
 pub mod ChainLaws
 pub mod RegionLaws

@@ -14,7 +14,7 @@ use Rattle.pack.specs.Read.{optionalIn, portsIn, stateAt}
 use Rattle.pack.specs.Verdict.{offsetOf}
 use Rattle.machines.specs.declared.sure.Num.{Num}
 use Rattle.machines.specs.Sure.{numberIn}
-use Rattle.machines.specs.Tables.{initialIn, lenOf, machinesPlaced, namesPlaced, nextName, placedFrom, statesEnd}
+use Rattle.machines.specs.Tables.{outputsIn, initialIn, lenOf, machinesPlaced, namesPlaced, nextName, placedFrom, statesEnd}
 use Rattle.machines.proofs.SureLaws.{on}
 
 pub past-end : (t : List ℕ) (i : ℕ) → length t ≤ i → 0 ≡ getD t i 0
@@ -50,6 +50,10 @@ unfolding lenOf
 len-is s spots i at r e f = f ∙ ap (λ (y : ℕ). getD s y 0) e
 
 module _ (ns : List Name) (s : List ℕ) where
+  pub outputs-is : (at : ℕ) (o a : Skipped) (r : ℕ) → o ≡ onward (optionalIn ns s) (sk.To at) → a ≡ onward (portsIn ns s) o → r ≡ offsetOf a → r ≡ outputsIn ns s at
+  unfolding outputsIn
+  outputs-is at o a r x y z = z ∙ ap offsetOf (y ∙ ap (onward (portsIn ns s)) x)
+
   pub initial-is : (at : ℕ) (o a b c : Skipped) (r : ℕ) → o ≡ onward (optionalIn ns s) (sk.To at) → a ≡ onward (portsIn ns s) o → b ≡ onward (portsIn ns s) a → c ≡ onward (portsIn ns s) b → r ≡ offsetOf c → r ≡ initialIn ns s at
   unfolding initialIn
   initial-is at o a b c r x y z w v =

@@ -23,5 +23,6 @@ pub mod Values
 pub mod Checks
 pub mod Machines
 pub mod Sections
+pub mod Judging
 pub mod Judges
 pub mod Call

@@ -26,7 +26,10 @@ unfoldable pub lenOf : List ℕ → List ℕ → ℕ → ℕ
 lenOf s spots i = getD s (getD spots i 0) 0
 
 module _ (ns : List Name) (s : List ℕ) where
-  -- from a machine's owner to its initial state, and from there past its states
+  -- from a machine's owner to its outputs, to its initial state, and from there past its states
+  unfoldable pub outputsIn : ℕ → ℕ
+  outputsIn at = offsetOf (onward (portsIn ns s) (onward (optionalIn ns s) (sk.To at)))
+
   unfoldable pub initialIn : ℕ → ℕ
   initialIn at = offsetOf (onward (portsIn ns s) (onward (portsIn ns s) (onward (portsIn ns s) (onward (optionalIn ns s) (sk.To at)))))
 

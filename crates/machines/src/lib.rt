@@ -21,3 +21,5 @@ pub mod regions; // the equations of regions
 pub mod valid; // state names, initial states and targets
 pub mod repeats; // a name that stands twice
 pub mod values; // the values of outputs
+pub mod refusal; // a machine that was judged
+pub mod judge; // whether a machine is accepted

@@ -10,7 +10,7 @@ ghost use mathlib.Core.Path.{_≡_};
 ghost use Prim.Native.Nat.{_≤_};
 ghost use lib.ListN.{length, getD, set};
 ghost use Rattle.pack.specs.Names.{Name};
-ghost use Rattle.machines.specs.Tables.{initialIn, statesEnd, machinesPlaced, namesPlaced, nextName, lenOf};
+ghost use Rattle.machines.specs.Tables.{initialIn, outputsIn, statesEnd, machinesPlaced, namesPlaced, nextName, lenOf};
 
 pub fn entry(t: &[usize], i: usize) -> usize
     ensures { λ r. ⌜ r ≡ getD (now (t .entry)) i 0 ⌝ }
@@ -63,6 +63,15 @@ pub fn name_len(s: &[u8], spots: &[usize], i: usize) -> usize
 {
     let at = entry(spots, i);
     byte(s, at)
+}
+
+// From a machine's owner, past its inputs: where its outputs are.
+pub fn to_outputs(s: &[u8], names: usize, at: usize) -> usize
+    requires { ⌜ length (now s) ≤ 65536 ⌝ }
+    ensures { λ r. ⌜ ((ns : List Name) → length ns ≡ names → r ≡ outputsIn ns (now (s .entry)) at) ⌝ }
+{
+    let o = then_optional(s, names, Skipped::To(at));
+    reached(then_ports(s, names, o))
 }
 
 // From a machine's owner, past its ports: where its initial state is.

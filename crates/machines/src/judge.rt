@@ -1,0 +1,193 @@
+// Whether a machine is accepted, or why it is refused: resolving, then its states' names, initial states and targets,
+// then its outputs.
+use crate::cover::uncovered_region;
+use crate::lay::lay_machine;
+use crate::refusal::Called;
+use crate::refusal::Judged;
+use crate::repeats::repeated_name;
+use crate::rows::word;
+use crate::sure::after_port;
+use crate::sure::number;
+use crate::table::byte;
+use crate::table::entry;
+use crate::table::to_initial;
+use crate::table::to_outputs;
+use crate::valid::Checked;
+use crate::valid::check_region;
+use crate::walk::Walked;
+use crate::walk::walk_machine;
+use pack::record::Pack;
+ghost use mathlib.Core.List.{List};
+ghost use mathlib.Core.Path.{_≡_};
+ghost use Prim.Native.Nat.{_≤_};
+ghost use lib.ListN.{length};
+ghost use Rattle.pack.specs.Names.{Name};
+ghost use Rattle.machines.specs.Heads.{HeadsRight};
+ghost use Rattle.machines.specs.Lays.{board};
+ghost use Rattle.machines.specs.Judging.{noName, named as namedOf, refusedBy, stateCalled, calledAt, againCalled, outputsJ, outputsAt, checkedJ, laidJ, judgeAt, boardAt};
+
+fn no_name() -> Called
+    ensures { λ r. ⌜ r ≡ noName ⌝ }
+{
+    Called {
+        letter: 0,
+        letters: 0,
+        name: 65535,
+    }
+}
+
+fn named(x: usize) -> Called
+    ensures { λ r. ⌜ r ≡ namedOf x ⌝ }
+{
+    Called {
+        letter: 0,
+        letters: 0,
+        name: x,
+    }
+}
+
+fn refused(kind: usize, second: Called, third: Called) -> Judged
+    ensures { λ r. ⌜ r ≡ refusedBy kind second third ⌝ }
+{
+    Judged {
+        kind,
+        regions: 0,
+        second,
+        third,
+    }
+}
+
+// The name of the state at the word p.
+fn state_called(t: &[usize], p: usize) -> Called
+    ensures { λ r. ⌜ r ≡ stateCalled (now (t .entry)) p ⌝ }
+{
+    Called {
+        letter: word(t, p, 2),
+        letters: word(t, p, 3),
+        name: 65535,
+    }
+}
+
+// The pack's name x in the region at the word q.
+fn called_in(t: &[usize], q: usize, x: usize) -> Called
+    ensures { λ r. ⌜ r ≡ calledAt (now (t .entry)) q x ⌝ }
+{
+    Called {
+        letter: word(t, q, 2),
+        letters: word(t, q, 3),
+        name: x,
+    }
+}
+
+// The name whose length byte stands at d, which is below 2³².
+fn again_called(lets: &[u8], d: usize) -> Called
+    ensures { λ r. ⌜ r ≡ againCalled (now (lets .entry)) d ⌝ }
+{
+    let n = byte(lets, d);
+    if 4294967296 <= d {
+        return no_name();
+    }
+    Called {
+        letter: d + 1,
+        letters: n,
+        name: 65535,
+    }
+}
+
+// The outputs of a machine that is laid out, `count` from the offset `from` on: the first that a state does not give.
+fn judge_outputs(s: &[u8], names: usize, t: &[usize], count: usize, from: usize, regions: usize) -> Judged
+    requires { ⌜ length (now s) ≤ 65536 ⌝ }
+    ensures { λ r. ⌜ ((ns : List Name) → length ns ≡ names → r ≡ outputsJ ns (now (s .entry)) (now (t .entry)) regions count from) ⌝ }
+{
+    let mut n = count;
+    let mut p = from;
+    while 0 < n {
+        let x = number(s, p);
+        let m = uncovered_region(s, names, t, x.value, Pack::LEVELS, 0);
+        if m != 0 {
+            return refused(4, named(x.value), state_called(t, m));
+        }
+        p = after_port(s, names, p);
+        n = n - 1;
+    }
+    Judged {
+        kind: 0,
+        regions,
+        second: no_name(),
+        third: no_name(),
+    }
+}
+
+// What checking came to, and then the outputs, whose count stands at `outputs`.
+fn judge_checked(s: &[u8], names: usize, t: &[usize], c: Checked, outputs: usize, regions: usize) -> Judged
+    requires { ⌜ length (now s) ≤ 65536 ⌝ }
+    ensures { λ r. ⌜ ((ns : List Name) → length ns ≡ names → r ≡ checkedJ ns (now (s .entry)) (now (t .entry)) c outputs regions) ⌝ }
+{
+    match c {
+        Checked::Fine => {
+            let k = number(s, outputs);
+            judge_outputs(s, names, t, k.value, k.next, regions)
+        }
+        Checked::Initial(q) => refused(2, called_in(t, q, entry(t, q)), no_name()),
+        Checked::Target {
+            state,
+            region,
+            name,
+        } => refused(3, state_called(t, state), called_in(t, region, name)),
+    }
+}
+
+// A machine that is laid out in `letters` letters and so many regions.
+fn judge_laid(
+    s: &[u8],
+    names: usize,
+    t: &[usize],
+    lets: &[u8],
+    letters: usize,
+    regions: usize,
+    outputs: usize,
+) -> Judged
+    requires { ⌜ length (now s) ≤ 65536 ⌝ }
+    ensures { λ r. ⌜ ((ns : List Name) → length ns ≡ names → r ≡ laidJ ns (now (s .entry)) (now (t .entry)) (now (lets .entry)) letters regions outputs) ⌝ }
+{
+    if entry(t, 6) == 0 {
+        return refused(1, no_name(), no_name());
+    }
+    let d = repeated_name(lets, letters);
+    if d < letters {
+        return refused(5, again_called(lets, d), no_name());
+    }
+    let c = check_region(s, names, t, Pack::LEVELS, 0);
+    judge_checked(s, names, t, c, outputs, regions)
+}
+
+// The machine at the offset `at`. Where it resolves, it is then laid out in the tables.
+pub fn judge(
+    s: &[u8],
+    names: usize,
+    spots: &[usize],
+    to: &[usize],
+    heads: &[u32],
+    t: &mut [usize],
+    reg: &mut [usize],
+    lets: &mut [u8],
+    at: usize,
+) -> Judged
+    requires { ⌜ (length (now s) ≤ 65536) × ((ns : List Name) → length ns ≡ names → HeadsRight ns (now s) (now spots) (now heads)) ⌝ }
+    ensures { λ r. ⌜ ((ns : List Name) → length ns ≡ names → r ≡ judgeAt ns (now (s .entry)) (now (spots .entry)) (now (to .entry)) at (now (t .entry)) (now (reg .entry)) (now (lets .entry))) ⌝ }
+    ensures { λ r. ⌜ ((ns : List Name) → length ns ≡ names → now (lets .exit) ≡ boardAt ns (now (s .entry)) (now (spots .entry)) (now (to .entry)) at (now (t .entry)) (now (reg .entry)) (now (lets .entry)) .lets) ⌝ }
+{
+    let m = number(s, at);
+    let i = to_initial(s, names, m.next);
+    let w = walk_machine(s, names, spots, to, heads, m.value, i);
+    match w {
+        Walked::Cycle(n) => refused(7, named(n), no_name()),
+        Walked::Unknown { state, name } => refused(6, named(state), named(name)),
+        Walked::Large => refused(17, no_name(), no_name()),
+        Walked::Went(_, _, _) => {
+            let l = lay_machine(s, names, spots, to, t, reg, lets, i);
+            let o = to_outputs(s, names, m.next);
+            judge_laid(s, names, t, lets, l.letters, l.regions, o)
+        }
+    }
+}
