@@ -37,9 +37,9 @@ module _ (ns : List Name) (fresh : Fresh [] ns) (legal : All LegalName ns) (few 
   unfolding render putItem sliceOf
   copied-raw a b e h z = sym (copied-expr ns fresh legal s by few a e b h z)
 
-  pub name-number : (x : ℕ) → x < length ns → (z : State) → puts (two x) z ≡ putName (enc ns) (nameAt ns x) z
+  pub numbered : (x : ℕ) → x < length ns → (z : State) → puts (two x) z ≡ putName (enc ns) (nameAt ns x) z
   unfolding render putItem code Each
-  name-number x h z =
+  numbered x h z =
       let p = place-at-name ns x fresh h in
       ap (λ (y : ℕ). puts (two y) z) (sym p) ∙ ap (λ (l : List ℕ). puts l z) (sym (append-nil (two (place ns (nameAt ns x)))))
       ∙ sym (render-known ns (nm (nameAt ns x) ∷ []) z legal (subst (λ (y : ℕ). y < length ns) (sym p) h, tt))
@@ -59,5 +59,5 @@ module _ (ns : List Name) (fresh : Fresh [] ns) (legal : All LegalName ns) (few 
     pub machine-equations : (x : Machine) (q j at u : ℕ) → HeldR ns s t reg lets 0 0 8 1 0 0 (rCons (x .initial) true (x .states) rNil) q j → portsIn ns s at ≡ value (x .outputs) u → refusalOf x ≡ none
         → Alike (enc ns) (regionsT s spots t lets ns reg 0 (suc (sizeS (x .states))) ++ portOutputsT s t lets ns at) (each equationItems (equationsOf x))
     machine-equations x q j at u h e c = λ z.
-        alike-append (enc ns) _ _ _ _ (equations-machine ns s spots t reg lets (enc ns) named-spot copied-raw x q j h) (outputs-machine ns s spots t reg lets (enc ns) named-spot copied-raw name-number fresh x q j at u h e (accepted x c)) z
+        alike-append (enc ns) _ _ _ _ (equations-machine ns s spots t reg lets (enc ns) named-spot copied-raw x q j h) (outputs-machine ns s spots t reg lets (enc ns) named-spot copied-raw numbered fresh x q j at u h e (accepted x c)) z
         ∙ ap (λ (is : List Item). render (enc ns) is z) (sym (equations-split x))
