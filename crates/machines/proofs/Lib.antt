@@ -31,3 +31,5 @@ pub mod EnumsEmitted
 pub mod ChainsEmitted
 pub mod EquationsEmitted
 pub mod EmitExample
+pub mod Overwriting
+pub mod EntryLaws

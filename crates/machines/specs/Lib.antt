@@ -17,6 +17,7 @@ pub mod Lower
 pub mod Locals
 pub mod Equations
 pub mod Emits
+pub mod Entries
 pub mod Checks
 pub mod Machines
 pub mod Sections

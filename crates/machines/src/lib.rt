@@ -16,3 +16,5 @@ pub mod qualified; // names as they are called in a region
 pub mod chains; // the next state of a region
 pub mod regions; // the equations of regions
 pub mod valid; // state names, initial states and targets
+pub mod refusal; // a machine that was judged
+pub mod report; // the report of refused machines
