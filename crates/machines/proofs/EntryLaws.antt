@@ -1,5 +1,5 @@
 -- Laws of the entry of a refused machine.
-use Prim.Native.Nat.{ℕ, suc, _+_, _<_, _≤_, _%_}
+use Prim.Native.Nat.{ℕ, _+_, _<_, _≤_, _%_}
 use native.Mathlib.Nat.{mod-eq-of-lt}
 use native.Mathlib.Omega.{arith}
 use mathlib.Core.List.{List, [], _∷_, _++_, append-assoc, append-nil}
@@ -12,7 +12,7 @@ use Rattle.wire.specs.Lists.{All}
 use Rattle.pack.specs.Names.{Name}
 use Rattle.pack.specs.Outcome.{overwritten}
 use Rattle.pack.specs.RawNames.{rawName}
-use Rattle.pack.specs.Report.{Refusal, entries}
+use Rattle.pack.specs.Report.{entries}
 use Rattle.pack.specs.Write.{enc}
 use Rattle.machines.specs.declared.refusal.Called.{Called}
 use Rattle.machines.specs.declared.refusal.Judged.{Judged}
@@ -53,7 +53,7 @@ slice-most : (l : List ℕ) (a n : ℕ) → length (sliceOf l a n) ≤ length l
 unfolding sliceOf
 slice-most l a n = omega (arith, length-take n (drop a l), length-drop a l)
 
-pub part-most : (l x : List ℕ) (a n : ℕ) → x ≡ sliceOf l a n → length x ≤ length l
+part-most : (l x : List ℕ) (a n : ℕ) → x ≡ sliceOf l a n → length x ≤ length l
 part-most l x a n e = rw e (slice-most l a n)
 
 pub own-most : (s spots x : List ℕ) (i : ℕ) → x ≡ packName s spots i → length x ≤ length s
@@ -85,7 +85,7 @@ inside-put d e f g p n at b c k h l u x v y z =
     let a = over-then d e f o (prefixOf p) at b h u x y in
     let i : c ≡ at + length (o ++ prefixOf p) = omega (arith, length-append o (prefixOf p)) in
     let m : k + length n ≡ length (prefixOf p ++ n) = omega (arith, length-append (prefixOf p) n) in
-    over-as d g _ _ at (over-then d f g (o ++ prefixOf p) n at c h i a z) (ap (λ (q : ℕ). (q % 256) ∷ (prefixOf p ++ n)) m)
+    over-as d g _ _ at (over-then d f g (o ++ prefixOf p) n at c h i a z) (ap (λ (q : ℕ). (q % 256) ∷ (prefixOf p ++ n)) (sym m))
 
 -- names one after the other
 names-append : (xs ys : List Name) → namesBytes (xs ++ ys) ≡ namesBytes xs ++ namesBytes ys
@@ -147,22 +147,22 @@ module _ (s spots lets : List ℕ) where
   called-fits c k e = rw e (called-most c)
 
   -- an entry in the order in which it is written
-  pub entry-parts : (m : ℕ) (j : Judged) (n : Name) → n ≡ packName s spots m
-      → ((j .kind % 256 ∷ []) ++ nameBytes n) ++ namesBytes (calledOf s spots lets (j .second)) ++ namesBytes (calledOf s spots lets (j .third)) ≡ entryBytes s spots lets m j
+  entry-parts : (m : ℕ) (j : Judged) (n : Name) → n ≡ packName s spots m
+      → entryBytes s spots lets m j ≡ (j .kind % 256 ∷ []) ++ nameBytes n ++ namesBytes (calledOf s spots lets (j .second)) ++ namesBytes (calledOf s spots lets (j .third))
   unfolding entryBytes namesOf namesBytes
   entry-parts m j n e =
       let k = j .kind % 256 in
       let own = packName s spots m in
       let b = calledOf s spots lets (j .second) in
       let c = calledOf s spots lets (j .third) in
-      ap (λ (x : Name). ((k ∷ []) ++ nameBytes x) ++ namesBytes b ++ namesBytes c) e ∙ ap (λ (r : List ℕ). k ∷ r) (append-assoc (nameBytes own) (namesBytes b) (namesBytes c) ∙ ap (λ (r : List ℕ). nameBytes own ++ r) (sym (names-append b c)))
+      ap (λ (r : List ℕ). k ∷ r) (ap (λ (r : List ℕ). nameBytes own ++ r) (names-append b c) ∙ sym (append-assoc (nameBytes own) (namesBytes b) (namesBytes c))) ∙ ap (λ (x : Name). (k ∷ []) ++ nameBytes x ++ namesBytes b ++ namesBytes c) (sym e)
 
   pub entry-length : (m : ℕ) (j : Judged) (n : Name) → n ≡ packName s spots m
       → length (entryBytes s spots lets m j) ≡ 2 + length n + length (namesBytes (calledOf s spots lets (j .second))) + length (namesBytes (calledOf s spots lets (j .third)))
   entry-length m j n e =
       let b = namesBytes (calledOf s spots lets (j .second)) in
       let c = namesBytes (calledOf s spots lets (j .third)) in
-      ap length (sym (entry-parts m j n e)) ∙ omega (arith, parts-length (j .kind % 256 ∷ []) (nameBytes n) b c, name-length n)
+      ap length (entry-parts m j n e) ∙ omega (arith, parts-length (j .kind % 256 ∷ []) (nameBytes n) b c, name-length n)
 
   pub entry-counted : (m : ℕ) (j : Judged) (n : Name) (a b : ℕ) → n ≡ packName s spots m
       → a ≡ length (namesBytes (calledOf s spots lets (j .second))) → b ≡ length (namesBytes (calledOf s spots lets (j .third)))

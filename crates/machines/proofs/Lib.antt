@@ -33,3 +33,4 @@ pub mod EquationsEmitted
 pub mod EmitExample
 pub mod Overwriting
 pub mod EntryLaws
+pub mod EntryExample

@@ -3,35 +3,33 @@ use Prim.Native.Nat.{ℕ, _+_, _≤_}
 use native.Mathlib.Nat.{add-zero, zero-add}
 use native.Mathlib.Omega.{arith}
 use mathlib.Core.List.{List, [], _++_, append-assoc}
-use mathlib.Core.Path.{_≡_, refl, sym, subst, ap, _∙_}
+use mathlib.Core.Path.{_≡_, sym, subst, ap, _∙_}
 use lib.ListN.{length, take, drop, length-append, take-append-drop}
 use lib.Seq.{length-take-le, take-append-seam, drop-append-add, drop-drop}
 use Rattle.pack.specs.Outcome.{begins, overwritten}
 
--- nothing is put; something at the start
-pub over-none : (d : List ℕ) (at : ℕ) → overwritten at [] d ≡ d
-unfolding overwritten
-over-none d at = rw add-zero (take-append-drop at d)
-
+-- at the start
 pub over-start : (xs d : List ℕ) → overwritten 0 xs d ≡ begins xs d
 unfolding overwritten begins
 over-start xs d = rw zero-add
 
--- the same bytes, otherwise written
-pub over-as : (d e xs ys : List ℕ) (at : ℕ) → e ≡ overwritten at xs d → xs ≡ ys → e ≡ overwritten at ys d
-over-as d e xs ys at p q = p ∙ ap (λ (r : List ℕ). overwritten at r d) q
+-- nothing is put
+over-none : (d : List ℕ) (at : ℕ) → overwritten at [] d ≡ d
+unfolding overwritten
+over-none d at = rw add-zero (take-append-drop at d)
 
+-- the same bytes, otherwise written: where they fit, what the buffer holds, and where they end
 pub room-as : (xs ys : List ℕ) (at n : ℕ) → at + length xs ≤ n → xs ≡ ys → at + length ys ≤ n
 room-as xs ys at n h q = subst (λ (r : List ℕ). at + length r ≤ n) q h
 
-pub end-as : (xs ys : List ℕ) (at r : ℕ) → r ≡ at + length xs → xs ≡ ys → r ≡ at + length ys
-end-as xs ys at r p q = p ∙ ap (λ (l : List ℕ). at + length l) q
+pub over-as : (d e xs ys : List ℕ) (at : ℕ) → e ≡ overwritten at ys d → xs ≡ ys → e ≡ overwritten at xs d
+over-as d e xs ys at p q = p ∙ ap (λ (r : List ℕ). overwritten at r d) (sym q)
 
-pub end-nothing : (xs : List ℕ) (at : ℕ) → xs ≡ [] → at ≡ at + length xs
-end-nothing xs at e = end-as [] xs at at (sym (add-zero at)) (sym e)
+pub put-as : (d e xs ys : List ℕ) (at r : ℕ) → (r ≡ at + length ys) × (e ≡ overwritten at ys d) → xs ≡ ys → (r ≡ at + length xs) × (e ≡ overwritten at xs d)
+put-as d e xs ys at r h q = (h .0 ∙ ap (λ (l : List ℕ). at + length l) (sym q), over-as d e xs ys at (h .1) q)
 
-pub over-nothing : (d xs : List ℕ) (at : ℕ) → xs ≡ [] → d ≡ overwritten at xs d
-over-nothing d xs at e = over-as d d [] xs at (sym (over-none d at)) (sym e)
+pub put-none : (d xs : List ℕ) (at : ℕ) → xs ≡ [] → (at ≡ at + length xs) × (d ≡ overwritten at xs d)
+put-none d xs at q = put-as d d xs [] at at (sym (add-zero at), sym (over-none d at)) q
 
 -- a run after a front that is n long
 after-front : (p ys d : List ℕ) (n : ℕ) → length p ≡ n → overwritten n ys (p ++ drop n d) ≡ p ++ (ys ++ drop (n + length ys) d)

@@ -14,7 +14,7 @@ use Rattle.machines.specs.Emits.{packName}
 unfoldable pub nameBytes : Name → List ℕ
 nameBytes n = (length n % 256) ∷ n
 
--- "the error's names, each after its length byte"
+-- all names of an error, as the section on the report has them
 unfoldable pub namesBytes : List Name → List ℕ
 namesBytes [] = []
 namesBytes (n ∷ ns) = nameBytes n ++ namesBytes ns

@@ -1,4 +1,5 @@
 // A machine that was judged.
+
 // A name in a refusal: `letters` letters of the layout from `letter` on; or the pack's name, in a region whose names
 // have these letters and `_` in front. The name is 65535 where there is none.
 pub struct Called {

@@ -1,5 +1,5 @@
 // The report of refused machines. A caller's buffer is written only where it holds all of it, so entries are first
-// counted and then written.
+// counted and then written. Counting bounds what it is lent, so that no sum wraps.
 use crate::refusal::Called;
 use crate::refusal::Judged;
 use crate::rows::pack_name;

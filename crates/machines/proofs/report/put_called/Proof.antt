@@ -1,5 +1,4 @@
-use mathlib.Core.Path.{sym}
-use Rattle.machines.proofs.Overwriting.{end-as, end-nothing, over-as, over-nothing, room-as}
+use Rattle.machines.proofs.Overwriting.{put-as, put-none, room-as}
 use Rattle.machines.proofs.EntryLaws.{called-inside, called-letters, called-none}
 use borrow.Author.Needs.{needs}
 use Rattle.machines.proofs.report.put_called.Statement.{statement}
@@ -9,7 +8,7 @@ part-requires : tie.Need-part-requires
 part-requires c κs = search needs
 
 returns : tie.Need-returns
-returns c = (end-nothing _ _ (called-none _ _ _ _ (c .before .if1 .taken) (c .if2 .taken)), over-nothing _ _ _ (called-none _ _ _ _ (c .before .if1 .taken) (c .if2 .taken)))
+returns c = put-none _ _ _ (called-none _ _ _ _ (c .before .if1 .taken) (c .if2 .taken))
 
 put-name-requires : tie.Need-put-name-requires
 put-name-requires c κs = room-as _ _ _ _ (c .before .before .before .before .before .before .before .before .pre) (called-letters _ _ _ _ _ (c .before .before .if1 .taken) (c .before .if2 .left) (c .before .before .before .part .ensures))
@@ -18,7 +17,7 @@ same-length : tie.Need-same-length
 same-length c = search needs
 
 returns-2 : tie.Need-returns-2
-returns-2 c = (end-as _ _ _ _ (c .before .before .put-name .ensures .0) (sym (called-letters _ _ _ _ _ (c .before .before .before .before .before .if1 .taken) (c .before .before .before .before .if2 .left) (c .before .before .before .before .before .before .part .ensures))), over-as _ _ _ _ _ (c .before .before .put-name .ensures .1) (sym (called-letters _ _ _ _ _ (c .before .before .before .before .before .if1 .taken) (c .before .before .before .before .if2 .left) (c .before .before .before .before .before .before .part .ensures))))
+returns-2 c = put-as _ _ _ _ _ _ (c .before .before .put-name .ensures) (called-letters _ _ _ _ _ (c .before .before .before .before .before .if1 .taken) (c .before .before .before .before .if2 .left) (c .before .before .before .before .before .before .part .ensures))
 
 pack-name-requires : tie.Need-pack-name-requires
 pack-name-requires c κs = search needs
@@ -30,7 +29,7 @@ same-length-2 : tie.Need-same-length-2
 same-length-2 c = search needs
 
 returns-3 : tie.Need-returns-3
-returns-3 c = (end-as _ _ _ _ (c .before .before .put-inside .ensures .0) (sym (called-inside _ _ _ _ _ _ (c .before .before .before .before .before .if1 .left) (c .before .before .before .before .before .before .part .ensures) (c .before .before .before .before .pack-name .ensures))), over-as _ _ _ _ _ (c .before .before .put-inside .ensures .1) (sym (called-inside _ _ _ _ _ _ (c .before .before .before .before .before .if1 .left) (c .before .before .before .before .before .before .part .ensures) (c .before .before .before .before .pack-name .ensures))))
+returns-3 c = put-as _ _ _ _ _ _ (c .before .before .put-inside .ensures) (called-inside _ _ _ _ _ _ (c .before .before .before .before .before .if1 .left) (c .before .before .before .before .before .before .part .ensures) (c .before .before .before .before .pack-name .ensures))
 
 pub put-called-spec : {M : Type 1} → statement M
 put-called-spec =
