@@ -54,3 +54,6 @@ pub mod Counted
 pub mod Longest
 pub mod WalkedLaid
 pub mod Instance
+pub mod Overwriting
+pub mod EntryLaws
+pub mod EntryExample

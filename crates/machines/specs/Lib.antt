@@ -20,6 +20,7 @@ pub mod Locals
 pub mod Equations
 pub mod Emits
 pub mod Values
+pub mod Entries
 pub mod Checks
 pub mod Machines
 pub mod Sections

@@ -23,3 +23,4 @@ pub mod repeats; // a name that stands twice
 pub mod values; // the values of outputs
 pub mod refusal; // a machine that was judged
 pub mod judge; // whether a machine is accepted
+pub mod report; // the report of refused machines

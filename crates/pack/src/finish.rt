@@ -18,7 +18,7 @@ pub struct Outcome {
 }
 
 // Copies src over what dst holds from `at` on, and says where it ends.
-fn append(src: &[u8], dst: &mut [u8], at: usize) -> usize
+pub fn append(src: &[u8], dst: &mut [u8], at: usize) -> usize
     requires { ⌜ at + length (now src) ≤ length (now dst) ⌝ }
     ensures { λ r. ⌜ r ≡ at + length (now (src .entry)) ⌝ }
     ensures { λ r. ⌜ now (dst .exit) ≡ overwritten at (now (src .entry)) (now (dst .entry)) ⌝ }
