@@ -3,7 +3,6 @@ pub mod Standing
 pub mod SureLaws
 pub mod TableLaws
 pub mod WalkLaws
-pub mod HeadLaws
 pub mod CoverLaws
 pub mod SpellLaws
 pub mod LayLaws

@@ -8,7 +8,6 @@ pub mod Tables
 pub mod Paths
 pub mod Walks
 pub mod Same
-pub mod Heads
 pub mod Covers
 pub mod Laid
 pub mod Lays

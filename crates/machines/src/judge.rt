@@ -22,7 +22,6 @@ ghost use mathlib.Core.Path.{_≡_};
 ghost use Prim.Native.Nat.{_≤_};
 ghost use lib.ListN.{length};
 ghost use Rattle.pack.specs.Names.{Name};
-ghost use Rattle.machines.specs.Heads.{HeadsRight};
 ghost use Rattle.machines.specs.Lays.{board};
 ghost use Rattle.machines.specs.Judging.{noName, named as namedOf, refusedBy, stateCalled, calledAt, againCalled, outputsJ, outputsAt, checkedJ, laidJ, judgeAt, boardAt};
 
@@ -167,19 +166,18 @@ pub fn judge(
     names: usize,
     spots: &[usize],
     to: &[usize],
-    heads: &[u32],
     t: &mut [usize],
     reg: &mut [usize],
     lets: &mut [u8],
     at: usize,
 ) -> Judged
-    requires { ⌜ (length (now s) ≤ 65536) × ((ns : List Name) → length ns ≡ names → HeadsRight ns (now s) (now spots) (now heads)) ⌝ }
+    requires { ⌜ length (now s) ≤ 65536 ⌝ }
     ensures { λ r. ⌜ ((ns : List Name) → length ns ≡ names → r ≡ judgeAt ns (now (s .entry)) (now (spots .entry)) (now (to .entry)) at (now (t .entry)) (now (reg .entry)) (now (lets .entry))) ⌝ }
     ensures { λ r. ⌜ ((ns : List Name) → length ns ≡ names → now (lets .exit) ≡ boardAt ns (now (s .entry)) (now (spots .entry)) (now (to .entry)) at (now (t .entry)) (now (reg .entry)) (now (lets .entry)) .lets) ⌝ }
 {
     let m = number(s, at);
     let i = to_initial(s, names, m.next);
-    let w = walk_machine(s, names, spots, to, heads, m.value, i);
+    let w = walk_machine(s, names, spots, to, m.value, i);
     match w {
         Walked::Cycle(n) => refused(7, named(n), no_name()),
         Walked::Unknown { state, name } => refused(6, named(state), named(name)),

@@ -1,6 +1,6 @@
 // Resolving a machine on the pack's bytes: a state's regions, then its refinement by going to the machine's place.
 // No tree is made. Of names only the longest length is kept, which decides whether qualified names fit.
-use crate::heads::head_of;
+use crate::heads::head;
 use crate::heads::most;
 use crate::path::Path;
 use crate::path::on_path;
@@ -17,7 +17,6 @@ ghost use mathlib.Core.Path.{_≡_};
 ghost use Prim.Native.Nat.{_≤_};
 ghost use lib.ListN.{length};
 ghost use Rattle.pack.specs.Names.{Name};
-ghost use Rattle.machines.specs.Heads.{HeadsRight};
 ghost use Rattle.machines.specs.Walks.{lenAt, enterW, qualifyOf, stateW, walk as walkIn, machineW};
 
 // What walking came to: the offset after, how many states so far, the longest name's length; or why it stopped.
@@ -70,19 +69,18 @@ fn walk_state(
     names: usize,
     spots: &[usize],
     to: &[usize],
-    heads: &[u32],
     levels: usize,
     p: Path,
     at: usize,
     count: usize,
 ) -> Walked
-    requires { ⌜ (length (now s) ≤ 65536) × ((ns : List Name) → length ns ≡ names → HeadsRight ns (now s) (now spots) (now heads)) ⌝ }
+    requires { ⌜ length (now s) ≤ 65536 ⌝ }
     ensures { λ r. ⌜ ((ns : List Name) → length ns ≡ names → r ≡ stateW ns (now (s .entry)) (now (spots .entry)) (now (to .entry)) (walkIn ns (now (s .entry)) (now (spots .entry)) (now (to .entry)) levels) p at count) ⌝ }
 {
     if Pack::STATES <= count {
         return Walked::Large;
     }
-    let h = head_of(s, names, spots, heads, at);
+    let h = head(s, names, spots, at);
     let t = number(s, h.next);
     let mut n = t.value;
     let mut o = t.next;
@@ -90,7 +88,7 @@ fn walk_state(
     let mut a = h.value;
     while 0 < n {
         let g = region(s, o);
-        let e = walk_states(s, names, spots, to, heads, levels, p, g.value, g.next, c);
+        let e = walk_states(s, names, spots, to, levels, p, g.value, g.next, c);
         let Walked::Went(next, states, longest) = e else {
             return e;
         };
@@ -109,7 +107,7 @@ fn walk_state(
         return d;
     };
     let q = pushed(p, f.value);
-    let y = walk_states(s, names, spots, to, heads, levels, q, k, b, c);
+    let y = walk_states(s, names, spots, to, levels, q, k, b, c);
     let Walked::Went(_, j, w) = y else {
         return y;
     };
@@ -122,14 +120,13 @@ fn walk_states(
     names: usize,
     spots: &[usize],
     to: &[usize],
-    heads: &[u32],
     levels: usize,
     p: Path,
     count: usize,
     at: usize,
     done: usize,
 ) -> Walked
-    requires { ⌜ (length (now s) ≤ 65536) × ((ns : List Name) → length ns ≡ names → HeadsRight ns (now s) (now spots) (now heads)) ⌝ }
+    requires { ⌜ length (now s) ≤ 65536 ⌝ }
     ensures { λ r. ⌜ ((ns : List Name) → length ns ≡ names → r ≡ walkIn ns (now (s .entry)) (now (spots .entry)) (now (to .entry)) levels p count at done) ⌝ }
 {
     if levels == 0 {
@@ -140,7 +137,7 @@ fn walk_states(
     let mut c = done;
     let mut a: usize = 0;
     while 0 < n {
-        let e = walk_state(s, names, spots, to, heads, levels - 1, p, o, c);
+        let e = walk_state(s, names, spots, to, levels - 1, p, o, c);
         let Walked::Went(next, states, longest) = e else {
             return e;
         };
@@ -158,11 +155,10 @@ pub fn walk_machine(
     names: usize,
     spots: &[usize],
     to: &[usize],
-    heads: &[u32],
     m: usize,
     at: usize,
 ) -> Walked
-    requires { ⌜ (length (now s) ≤ 65536) × ((ns : List Name) → length ns ≡ names → HeadsRight ns (now s) (now spots) (now heads)) ⌝ }
+    requires { ⌜ length (now s) ≤ 65536 ⌝ }
     ensures { λ r. ⌜ ((ns : List Name) → length ns ≡ names → r ≡ machineW ns (now (s .entry)) (now (spots .entry)) (now (to .entry)) m at) ⌝ }
 {
     let k = machine(s, at);
@@ -171,7 +167,6 @@ pub fn walk_machine(
         names,
         spots,
         to,
-        heads,
         Pack::LEVELS,
         start(m),
         k.value,

@@ -18,7 +18,7 @@ use Rattle.machines.proofs.walk.+walk_state+walk_states.Lts-walk_state 
 use Rattle.machines.proofs.walk.walk_states.Reads as walk-states
 use Rattle.machines.proofs.walk.walk_states.Kinds as walk-states-kinds
 use Rattle.machines.proofs.walk.+walk_state+walk_states.Lts-walk_states as walk-states-lts
-use Rattle.machines.proofs.heads.head_of.Reads as head-of-reads
+use Rattle.machines.proofs.heads.head.Reads as head-reads
 use Rattle.machines.proofs.heads.most.Reads as most-reads
 use Rattle.machines.proofs.path.pushed.Reads as pushed-reads
 use Rattle.machines.proofs.sure.number.Reads as number-reads
@@ -30,42 +30,42 @@ use Rattle.machines.proofs.walk.qualify.Reads as qualify-reads
 use Rattle.machines.proofs.walk.+walk_state+walk_states.{statement}
 use Rattle.machines.proofs.walk.+walk_state+walk_states.Tie.{close}
 
-abbrev μ-walk-state : Measures 4 walk-state-kinds.ps ℕ
-μ-walk-state κs a = a .1 .1 .1 .1 .1 .0 + a .1 .1 .1 .1 .1 .0 + 1
+abbrev μ-walk-state : Measures 3 walk-state-kinds.ps ℕ
+μ-walk-state κs a = a .1 .1 .1 .1 .0 + a .1 .1 .1 .1 .0 + 1
 
-abbrev μ-walk-states : Measures 4 walk-states-kinds.ps ℕ
-μ-walk-states κs a = a .1 .1 .1 .1 .1 .0 + a .1 .1 .1 .1 .1 .0
+abbrev μ-walk-states : Measures 3 walk-states-kinds.ps ℕ
+μ-walk-states κs a = a .1 .1 .1 .1 .0 + a .1 .1 .1 .1 .0
 
-abbrev walk-state-at : ℕ → In 4 walk-state-kinds.ps
+abbrev walk-state-at : ℕ → In 3 walk-state-kinds.ps
 walk-state-at t =
-    and 4 walk-state-kinds.ps (is 4 walk-state-kinds.ps μ-walk-state t) walk-state.Pre
+    and 3 walk-state-kinds.ps (is 3 walk-state-kinds.ps μ-walk-state t) walk-state.Pre
 
-abbrev walk-state-below : ℕ → In 4 walk-state-kinds.ps
+abbrev walk-state-below : ℕ → In 3 walk-state-kinds.ps
 walk-state-below t =
-    and 4 walk-state-kinds.ps (falls 4 walk-state-kinds.ps _<_ μ-walk-state t) walk-state.Pre
+    and 3 walk-state-kinds.ps (falls 3 walk-state-kinds.ps _<_ μ-walk-state t) walk-state.Pre
 
-abbrev walk-states-at : ℕ → In 4 walk-states-kinds.ps
+abbrev walk-states-at : ℕ → In 3 walk-states-kinds.ps
 walk-states-at t =
-    and 4 walk-states-kinds.ps (is 4 walk-states-kinds.ps μ-walk-states t) walk-states.Pre
+    and 3 walk-states-kinds.ps (is 3 walk-states-kinds.ps μ-walk-states t) walk-states.Pre
 
-abbrev walk-states-below : ℕ → In 4 walk-states-kinds.ps
+abbrev walk-states-below : ℕ → In 3 walk-states-kinds.ps
 walk-states-below t =
-    and 4 walk-states-kinds.ps (falls 4 walk-states-kinds.ps _<_ μ-walk-states t) walk-states.Pre
+    and 3 walk-states-kinds.ps (falls 3 walk-states-kinds.ps _<_ μ-walk-states t) walk-states.Pre
 
 abbrev walk-state-calls : ℕ → walk-state-lts.Claims
-walk-state-calls t = (head-of-reads.Asked, head-of-reads.Learnt, number-reads.Asked, number-reads.Learnt, region-reads.Asked, region-reads.Learnt, walk-states-below t, walk-states.Post, len-at-reads.Asked, len-at-reads.Learnt, most-reads.Asked, most-reads.Learnt, enter-reads.Asked, enter-reads.Learnt, pushed-reads.Asked, pushed-reads.Learnt, name-len-reads.Asked, name-len-reads.Learnt, qualify-reads.Asked, qualify-reads.Learnt)
+walk-state-calls t = (head-reads.Asked, head-reads.Learnt, number-reads.Asked, number-reads.Learnt, region-reads.Asked, region-reads.Learnt, walk-states-below t, walk-states.Post, len-at-reads.Asked, len-at-reads.Learnt, most-reads.Asked, most-reads.Learnt, enter-reads.Asked, enter-reads.Learnt, pushed-reads.Asked, pushed-reads.Learnt, name-len-reads.Asked, name-len-reads.Learnt, qualify-reads.Asked, qualify-reads.Learnt)
 
 abbrev walk-state-Inv-loop : walk-state-lts.InvT-loop
-walk-state-Inv-loop s names spots to heads levels p at count n₀ o₀ c₀ a₀ n o c a = (ns : List Name) → length ns ≡ names → rounds (regionW ns s spots to (walk ns s spots to levels) p) n o c a ≡ rounds (regionW ns s spots to (walk ns s spots to levels) p) n₀ o₀ c₀ a₀
+walk-state-Inv-loop s names spots to levels p at count n₀ o₀ c₀ a₀ n o c a = (ns : List Name) → length ns ≡ names → rounds (regionW ns s spots to (walk ns s spots to levels) p) n o c a ≡ rounds (regionW ns s spots to (walk ns s spots to levels) p) n₀ o₀ c₀ a₀
 
 abbrev walk-state-μ-loop : walk-state-lts.MeasureT-loop
-walk-state-μ-loop s names spots to heads levels p at count n₀ o₀ c₀ a₀ n o c a = n
+walk-state-μ-loop s names spots to levels p at count n₀ o₀ c₀ a₀ n o c a = n
 
 walk-state-returns : (t : ℕ) → walk-state-lts.Need-returns (walk-state-calls t) (walk-state-at t) walk-state.Post walk-state-Inv-loop walk-state-μ-loop
 walk-state-returns t c = λ ns e. state-large ns _ _ _ _ _ _ _ (c .if1 .taken)
 
-walk-state-head-of-requires : (t : ℕ) → walk-state-lts.Need-head-of-requires (walk-state-calls t) (walk-state-at t) walk-state.Post walk-state-Inv-loop walk-state-μ-loop
-walk-state-head-of-requires t c κs = c .before .before .before .before .before .pre .1
+walk-state-head-requires : (t : ℕ) → walk-state-lts.Need-head-requires (walk-state-calls t) (walk-state-at t) walk-state.Post walk-state-Inv-loop walk-state-μ-loop
+walk-state-head-requires t c κs = c .before .before .before .before .pre .1
 
 walk-state-number-requires : (t : ℕ) → walk-state-lts.Need-number-requires (walk-state-calls t) (walk-state-at t) walk-state.Post walk-state-Inv-loop walk-state-μ-loop
 walk-state-number-requires t c κs = search needs
@@ -80,13 +80,13 @@ walk-state-region-requires : (t : ℕ) → walk-state-lts.Need-region-requires (
 walk-state-region-requires t c κs = search needs
 
 walk-state-walk-states-requires : (t : ℕ) → walk-state-lts.Need-walk-states-requires (walk-state-calls t) (walk-state-at t) walk-state.Post walk-state-Inv-loop walk-state-μ-loop
-walk-state-walk-states-requires t c κs = (omega (arith, c .before .before .before .before .before .before .before .before .before .before .pre .0), c .before .before .before .before .before .before .before .before .before .before .pre .1)
+walk-state-walk-states-requires t c κs = (omega (arith, c .before .before .before .before .before .before .before .before .before .pre .0), c .before .before .before .before .before .before .before .before .before .pre .1)
 
 walk-state-enum-known-e : (t : ℕ) → walk-state-lts.Need-enum-known-e (walk-state-calls t) (walk-state-at t) walk-state.Post walk-state-Inv-loop walk-state-μ-loop
 walk-state-enum-known-e t c = search needs
 
 walk-state-returns-2 : (t : ℕ) → walk-state-lts.Need-returns-2 (walk-state-calls t) (walk-state-at t) walk-state.Post walk-state-Inv-loop walk-state-μ-loop
-walk-state-returns-2 t c = λ ns e. state-on ns _ _ _ _ _ _ _ _ _ _ (c .before .before .before .before .before .before .before .if1 .left) (c .before .before .before .before .before .before .head-of .ensures ns e) (c .before .before .before .before .before .number .ensures)
+walk-state-returns-2 t c = λ ns e. state-on ns _ _ _ _ _ _ _ _ _ _ (c .before .before .before .before .before .before .before .if1 .left) (c .before .before .before .before .before .before .head .ensures ns e) (c .before .before .before .before .before .number .ensures)
     (stopped _ _ _ (c .match .keys2) (rounds-stopped _ _ _ _ _ _ _ (c .before .before .before .loop-test .taken) (c .match .keys2) (region-on ns _ _ _ _ _ _ _ _ _ (c .before .before .region .ensures) (stopped _ _ _ (c .match .keys2) (c .before .walk-states .ensures ns e))) (c .before .before .before .before .loop .inv ns e)))
 
 walk-state-len-at-requires : (t : ℕ) → walk-state-lts.Need-len-at-requires (walk-state-calls t) (walk-state-at t) walk-state.Post walk-state-Inv-loop walk-state-μ-loop
@@ -113,7 +113,7 @@ walk-state-number-requires-2 : (t : ℕ) → walk-state-lts.Need-number-requires
 walk-state-number-requires-2 t c κs = search needs
 
 walk-state-returns-3 : (t : ℕ) → walk-state-lts.Need-returns-3 (walk-state-calls t) (walk-state-at t) walk-state.Post walk-state-Inv-loop walk-state-μ-loop
-walk-state-returns-3 t c = λ ns e. state-on ns _ _ _ _ _ _ _ _ _ _ (c .before .before .before .before .before .before .before .if1 .left) (c .before .before .before .before .before .before .head-of .ensures ns e) (c .before .before .before .before .before .number .ensures)
+walk-state-returns-3 t c = λ ns e. state-on ns _ _ _ _ _ _ _ _ _ _ (c .before .before .before .before .before .before .before .if1 .left) (c .before .before .before .before .before .before .head .ensures ns e) (c .before .before .before .before .before .number .ensures)
     (went-on _ _ _ _ _ _ _ refl (rounds-done _ _ _ _ _ _ (c .before .before .before .loop-test .left) (c .before .before .before .before .loop .inv ns e)) (on (numberIn _ _) _ _ _ refl (refine-plain ns _ _ _ _ _ _ _ _ _ _ (c .before .before .number2 .ensures) (c .if2 .taken))))
 
 walk-state-number-requires-3 : (t : ℕ) → walk-state-lts.Need-number-requires-3 (walk-state-calls t) (walk-state-at t) walk-state.Post walk-state-Inv-loop walk-state-μ-loop
@@ -126,7 +126,7 @@ walk-state-enum-known-d : (t : ℕ) → walk-state-lts.Need-enum-known-d (walk-s
 walk-state-enum-known-d t c = search needs
 
 walk-state-returns-4 : (t : ℕ) → walk-state-lts.Need-returns-4 (walk-state-calls t) (walk-state-at t) walk-state.Post walk-state-Inv-loop walk-state-μ-loop
-walk-state-returns-4 t c = λ ns e. state-on ns _ _ _ _ _ _ _ _ _ _ (c .before .before .before .before .before .before .before .before .before .before .if1 .left) (c .before .before .before .before .before .before .before .before .before .head-of .ensures ns e) (c .before .before .before .before .before .before .before .before .number .ensures)
+walk-state-returns-4 t c = λ ns e. state-on ns _ _ _ _ _ _ _ _ _ _ (c .before .before .before .before .before .before .before .before .before .before .if1 .left) (c .before .before .before .before .before .before .before .before .before .head .ensures ns e) (c .before .before .before .before .before .before .before .before .number .ensures)
     (went-on _ _ _ _ _ _ _ refl (rounds-done _ _ _ _ _ _ (c .before .before .before .before .before .before .loop-test .left) (c .before .before .before .before .before .before .before .loop .inv ns e)) (on _ _ _ _ (c .before .before .number3 .ensures)
     (refine-into ns _ _ _ _ _ _ _ _ _ _ _ (c .before .before .before .before .before .number2 .ensures) (c .before .before .before .if2 .left) (stopped _ _ _ (c .match2 .keys2) (c .before .enter .ensures)))))
 
@@ -134,13 +134,13 @@ walk-state-pushed-requires : (t : ℕ) → walk-state-lts.Need-pushed-requires (
 walk-state-pushed-requires t c κs = search needs
 
 walk-state-walk-states-requires-2 : (t : ℕ) → walk-state-lts.Need-walk-states-requires-2 (walk-state-calls t) (walk-state-at t) walk-state.Post walk-state-Inv-loop walk-state-μ-loop
-walk-state-walk-states-requires-2 t c κs = (omega (arith, c .before .before .before .before .before .before .before .before .before .before .before .before .before .before .before .before .before .before .pre .0), c .before .before .before .before .before .before .before .before .before .before .before .before .before .before .before .before .before .before .pre .1)
+walk-state-walk-states-requires-2 t c κs = (omega (arith, c .before .before .before .before .before .before .before .before .before .before .before .before .before .before .before .before .before .pre .0), c .before .before .before .before .before .before .before .before .before .before .before .before .before .before .before .before .before .pre .1)
 
 walk-state-enum-known-y : (t : ℕ) → walk-state-lts.Need-enum-known-y (walk-state-calls t) (walk-state-at t) walk-state.Post walk-state-Inv-loop walk-state-μ-loop
 walk-state-enum-known-y t c = search needs
 
 walk-state-returns-5 : (t : ℕ) → walk-state-lts.Need-returns-5 (walk-state-calls t) (walk-state-at t) walk-state.Post walk-state-Inv-loop walk-state-μ-loop
-walk-state-returns-5 t c = λ ns e. state-on ns _ _ _ _ _ _ _ _ _ _ (c .before .before .before .before .before .before .before .before .before .before .before .before .before .before .before .if1 .left) (c .before .before .before .before .before .before .before .before .before .before .before .before .before .before .head-of .ensures ns e) (c .before .before .before .before .before .before .before .before .before .before .before .before .before .number .ensures)
+walk-state-returns-5 t c = λ ns e. state-on ns _ _ _ _ _ _ _ _ _ _ (c .before .before .before .before .before .before .before .before .before .before .before .before .before .before .before .if1 .left) (c .before .before .before .before .before .before .before .before .before .before .before .before .before .before .head .ensures ns e) (c .before .before .before .before .before .before .before .before .before .before .before .before .before .number .ensures)
     (went-on _ _ _ _ _ _ _ refl (rounds-done _ _ _ _ _ _ (c .before .before .before .before .before .before .before .before .before .before .before .loop-test .left) (c .before .before .before .before .before .before .before .before .before .before .before .before .loop .inv ns e)) (on _ _ _ _ (c .before .before .before .before .before .before .before .number3 .ensures)
     (refine-into ns _ _ _ _ _ _ _ _ _ _ _ (c .before .before .before .before .before .before .before .before .before .before .number2 .ensures) (c .before .before .before .before .before .before .before .before .if2 .left) (went-on _ _ _ _ _ _ _ (c .before .before .before .before .d .given .1) (c .before .before .before .before .before .before .enter .ensures)
     (stopped _ _ _ (c .match3 .keys2) (moved (walk ns _ _ _ _) _ _ _ _ _ _ (c .before .walk-states2 .ensures ns e) (c .before .before .pushed .ensures)))))))
@@ -155,7 +155,7 @@ walk-state-qualify-requires : (t : ℕ) → walk-state-lts.Need-qualify-requires
 walk-state-qualify-requires t c κs = search needs
 
 walk-state-returns-6 : (t : ℕ) → walk-state-lts.Need-returns-6 (walk-state-calls t) (walk-state-at t) walk-state.Post walk-state-Inv-loop walk-state-μ-loop
-walk-state-returns-6 t c = λ ns e. state-on ns _ _ _ _ _ _ _ _ _ _ (c .before .before .before .before .before .before .before .before .before .before .before .before .before .before .before .before .before .before .before .before .if1 .left) (c .before .before .before .before .before .before .before .before .before .before .before .before .before .before .before .before .before .before .before .head-of .ensures ns e) (c .before .before .before .before .before .before .before .before .before .before .before .before .before .before .before .before .before .before .number .ensures)
+walk-state-returns-6 t c = λ ns e. state-on ns _ _ _ _ _ _ _ _ _ _ (c .before .before .before .before .before .before .before .before .before .before .before .before .before .before .before .before .before .before .before .before .if1 .left) (c .before .before .before .before .before .before .before .before .before .before .before .before .before .before .before .before .before .before .before .head .ensures ns e) (c .before .before .before .before .before .before .before .before .before .before .before .before .before .before .before .before .before .before .number .ensures)
     (went-on _ _ _ _ _ _ _ refl (rounds-done _ _ _ _ _ _ (c .before .before .before .before .before .before .before .before .before .before .before .before .before .before .before .before .loop-test .left) (c .before .before .before .before .before .before .before .before .before .before .before .before .before .before .before .before .before .loop .inv ns e)) (on _ _ _ _ (c .before .before .before .before .before .before .before .before .before .before .before .before .number3 .ensures)
     (refine-into ns _ _ _ _ _ _ _ _ _ _ _ (c .before .before .before .before .before .before .before .before .before .before .before .before .before .before .before .number2 .ensures) (c .before .before .before .before .before .before .before .before .before .before .before .before .before .if2 .left) (went-on _ _ _ _ _ _ _ (c .before .before .before .before .before .before .before .before .before .d .given .1) (c .before .before .before .before .before .before .before .before .before .before .before .enter .ensures)
     (went-on _ _ _ _ _ _ _ (c .before .before .before .before .y .given .1) (moved (walk ns _ _ _ _) _ _ _ _ _ _ (c .before .before .before .before .before .before .walk-states2 .ensures ns e) (c .before .before .before .before .before .before .before .pushed .ensures))
@@ -165,10 +165,10 @@ abbrev walk-states-calls : ℕ → walk-states-lts.Claims
 walk-states-calls t = (walk-state-below t, walk-state.Post, most-reads.Asked, most-reads.Learnt)
 
 abbrev walk-states-Inv-loop : walk-states-lts.InvT-loop
-walk-states-Inv-loop s names spots to heads levels p count at done n₀ o₀ c₀ a₀ n o c a = (ns : List Name) → length ns ≡ names → rounds (stateW ns s spots to (walk ns s spots to (levels - 1)) p) n o c a ≡ rounds (stateW ns s spots to (walk ns s spots to (levels - 1)) p) count at done 0
+walk-states-Inv-loop s names spots to levels p count at done n₀ o₀ c₀ a₀ n o c a = (ns : List Name) → length ns ≡ names → rounds (stateW ns s spots to (walk ns s spots to (levels - 1)) p) n o c a ≡ rounds (stateW ns s spots to (walk ns s spots to (levels - 1)) p) count at done 0
 
 abbrev walk-states-μ-loop : walk-states-lts.MeasureT-loop
-walk-states-μ-loop s names spots to heads levels p count at done n₀ o₀ c₀ a₀ n o c a = n
+walk-states-μ-loop s names spots to levels p count at done n₀ o₀ c₀ a₀ n o c a = n
 
 walk-states-returns : (t : ℕ) → walk-states-lts.Need-returns (walk-states-calls t) (walk-states-at t) walk-states.Post walk-states-Inv-loop walk-states-μ-loop
 walk-states-returns t c = λ ns e. walk-none ns _ _ _ _ _ _ _ _ (c .if1 .taken)
@@ -180,7 +180,7 @@ walk-states-sub-walk-state : (t : ℕ) → walk-states-lts.Need-sub-walk-state (
 walk-states-sub-walk-state t c = omega (arith, c .before .before .if1 .left)
 
 walk-states-walk-state-requires : (t : ℕ) → walk-states-lts.Need-walk-state-requires (walk-states-calls t) (walk-states-at t) walk-states.Post walk-states-Inv-loop walk-states-μ-loop
-walk-states-walk-state-requires t c κs = (omega (arith, c .before .before .if1 .left, c .before .before .before .before .before .before .before .pre .0), c .before .before .before .before .before .before .before .pre .1)
+walk-states-walk-state-requires t c κs = (omega (arith, c .before .before .if1 .left, c .before .before .before .before .before .before .pre .0), c .before .before .before .before .before .before .pre .1)
 
 walk-states-enum-known-e : (t : ℕ) → walk-states-lts.Need-enum-known-e (walk-states-calls t) (walk-states-at t) walk-states.Post walk-states-Inv-loop walk-states-μ-loop
 walk-states-enum-known-e t c = search needs
@@ -210,7 +210,7 @@ pub +walk-state+walk-states-spec : {M : Type 1} → statement M
     walk-state-Inv-loop
     walk-state-μ-loop
     (walk-state-returns t)
-    (walk-state-head-of-requires t)
+    (walk-state-head-requires t)
     (walk-state-number-requires t)
     (walk-state-add-c t)
     (walk-state-loop-holds t)
