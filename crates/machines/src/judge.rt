@@ -94,7 +94,14 @@ fn again_called(lets: &[u8], d: usize) -> Called
 }
 
 // The outputs of a machine that is laid out, `count` from the offset `from` on: the first that a state does not give.
-fn judge_outputs(s: &[u8], names: usize, t: &[usize], count: usize, from: usize, regions: usize) -> Judged
+fn judge_outputs(
+    s: &[u8],
+    names: usize,
+    t: &[usize],
+    count: usize,
+    from: usize,
+    regions: usize,
+) -> Judged
     requires { ⌜ length (now s) ≤ 65536 ⌝ }
     ensures { λ r. ⌜ ((ns : List Name) → length ns ≡ names → r ≡ outputsJ ns (now (s .entry)) (now (t .entry)) regions count from) ⌝ }
 {
@@ -118,7 +125,14 @@ fn judge_outputs(s: &[u8], names: usize, t: &[usize], count: usize, from: usize,
 }
 
 // What checking came to, and then the outputs, whose count stands at `outputs`.
-fn judge_checked(s: &[u8], names: usize, t: &[usize], c: Checked, outputs: usize, regions: usize) -> Judged
+fn judge_checked(
+    s: &[u8],
+    names: usize,
+    t: &[usize],
+    c: Checked,
+    outputs: usize,
+    regions: usize,
+) -> Judged
     requires { ⌜ length (now s) ≤ 65536 ⌝ }
     ensures { λ r. ⌜ ((ns : List Name) → length ns ≡ names → r ≡ checkedJ ns (now (s .entry)) (now (t .entry)) c outputs regions) ⌝ }
 {
