@@ -48,3 +48,5 @@ pub mod Counted
 pub mod Longest
 pub mod WalkedLaid
 pub mod Instance
+pub mod BroughtLaws
+pub mod BroughtItems

@@ -102,13 +102,13 @@ module _ (ns : List Name) (s t reg lets : List ℕ) (fresh : Fresh [] ns) (m : N
   among-link {pre} x (sCons full es ts rs rest) lt (lMore {nm} {n} {p} row d to f sl ms rg st) =
       let v = name-number ns s _ nm (d .to-equations) (d .name) in
       let e : eqb (numberIn s (getD t p 0) .value) x ≡ eqName (pre ++ nameAt ns x) full =
-          ap (λ y. eqb (numberIn s y .value) x) (row .drawn)
-          ∙ ap (λ y. eqb (y .value) x) (number-num s _ (v .i) (d .to-equations) (v .is))
-          ∙ sym (alone ns fresh x (v .i) lt (v .small))
-          ∙ ap (λ y. eqName y (nameAt ns x)) (v .named)
-          ∙ eqName-turn nm (nameAt ns x)
-          ∙ sym (eqName-under pre (nameAt ns x) nm)
-          ∙ ap (eqName (pre ++ nameAt ns x)) (sym f) in
+      ap (λ y. eqb (numberIn s y .value) x) (row .drawn)
+      ∙ ap (λ y. eqb (y .value) x) (number-num s _ (v .i) (d .to-equations) (v .is))
+      ∙ sym (alone ns fresh x (v .i) lt (v .small))
+      ∙ ap (λ y. eqName y (nameAt ns x)) (v .named)
+      ∙ eqName-turn nm (nameAt ns x)
+      ∙ sym (eqName-under pre (nameAt ns x) nm)
+      ∙ ap (eqName (pre ++ nameAt ns x)) (sym f) in
       (λ k. e k || (ap (λ y. amongT s t x n y) (row .after) ∙ among-link x rest lt st) k)
 
   -- where a state is there, the region has states
@@ -132,11 +132,11 @@ module _ (ns : List Name) (s t reg lets : List ℕ) (fresh : Fresh [] ns) (m : N
         let tg : nameAt ns (v .i) ≡ x .target = v .named ∙ ap (λ (y : Transition). y .target) (c .2) in
         let h : hasT s t q (v .i) ≡ member (pre ++ x .target) all = has (v .i) (v .small) ∙ ap (λ y. member (pre ++ y) all) tg in
         let k : movesChecked ns s t q p (suc n) o ≡ cond (member (pre ++ x .target) all) (movesChecked ns s t q p n (a .0)) (ck.Target p q (v .i)) =
-            ap (λ y. with (numberIn s y) (λ i w. cond (hasT s t q i) (movesChecked ns s t q p n w) (ck.Target p q i))) (end-to (exprIn ns s o) (b .0) (b .1) (b .2))
-            ∙ number-to s (b .1) (v .i) (a .0) (λ i w. cond (hasT s t q i) (movesChecked ns s t q p n w) (ck.Target p q i)) (v .is)
-            ∙ ap (λ y. cond y (movesChecked ns s t q p n (a .0)) (ck.Target p q (v .i))) h in
+        ap (λ y. with (numberIn s y) (λ i w. cond (hasT s t q i) (movesChecked ns s t q p n w) (ck.Target p q i))) (end-to (exprIn ns s o) (b .0) (b .1) (b .2))
+        ∙ number-to s (b .1) (v .i) (a .0) (λ i w. cond (hasT s t q i) (movesChecked ns s t q p n w) (ck.Target p q i)) (v .is)
+        ∙ ap (λ y. cond y (movesChecked ns s t q p n (a .0)) (ck.Target p q (v .i))) h in
         subst (λ y. Tells ns t lets m y (elim (member (pre ++ x .target) all) [ true ↦ badTarget m (lettersAt t lets p) all (prefixTransitions pre ts) | false ↦ some (unknownTarget m (lettersAt t lets p) (pre ++ x .target)) ])) (sym k)
-            (go _ (v .i) (member (pre ++ x .target) all) (moves-link p n (a .0) ts z (a .2)) (ap (λ y. y ++ nameAt ns (v .i)) called ∙ ap (λ y. pre ++ y) tg))
+        (go _ (v .i) (member (pre ++ x .target) all) (moves-link p n (a .0) ts z (a .2)) (ap (λ y. y ++ nameAt ns (v .i)) called ∙ ap (λ y. pre ++ y) tg))
       where
         go : (c : Checked) (i : ℕ) (b : Bool) → Tells ns t lets m c (badTarget m (lettersAt t lets p) all (prefixTransitions pre ts)) → prefixOf (lettersAt t lets q) ++ nameAt ns i ≡ pre ++ x .target
             → Tells ns t lets m (cond b c (ck.Target p q i)) (elim b [ true ↦ badTarget m (lettersAt t lets p) all (prefixTransitions pre ts) | false ↦ some (unknownTarget m (lettersAt t lets p) (pre ++ x .target)) ])
@@ -149,7 +149,7 @@ module _ (ns : List Name) (s t reg lets : List ℕ) (fresh : Fresh [] ns) (m : N
     targets-link p tr z ts tts full r c l e =
         let b = bind-value (u16 s tr) _ ts z c in
         let a : targetsT ns s t q p ≡ movesChecked ns s t q p (b .0) (b .1) =
-            ap (λ y. with (numberIn s y) (λ k o. movesChecked ns s t q p k o)) r ∙ number-to s tr (b .0) (b .1) (λ k o. movesChecked ns s t q p k o) (b .2) in
+        ap (λ y. with (numberIn s y) (λ k o. movesChecked ns s t q p k o)) r ∙ number-to s tr (b .0) (b .1) (λ k o. movesChecked ns s t q p k o) (b .2) in
         subst (λ y. Tells ns t lets m y (badTarget m full all tts)) (sym a)
         (subst (λ y. Tells ns t lets m (movesChecked ns s t q p (b .0) (b .1)) (badTarget m y all tts)) l
         (subst (λ y. Tells ns t lets m (movesChecked ns s t q p (b .0) (b .1)) (badTarget m (lettersAt t lets p) all y)) (sym e) (moves-link p (b .0) (b .1) ts z (b .3))))

@@ -22,5 +22,7 @@ pub mod Emits
 pub mod Checks
 pub mod Machines
 pub mod Sections
+pub mod Shown
+pub mod Brought
 pub mod Judges
 pub mod Call

@@ -20,3 +20,7 @@ pub mod chains; // the next state of a region
 pub mod regions; // the equations of regions
 pub mod valid; // state names, initial states and targets
 pub mod repeats; // a name that stands twice
+pub mod bringing; // what machines bring to nodes, counted
+pub mod nodes; // nodes as they stand
+pub mod brought; // the locals that machines bring to a node
+pub mod origins; // the origins of machines with an owner

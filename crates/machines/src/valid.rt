@@ -76,14 +76,7 @@ fn check_targets(s: &[u8], names: usize, t: &[usize], q: usize, p: usize) -> Che
 }
 
 // A state: its targets, then its regions.
-fn check_state(
-    s: &[u8],
-    names: usize,
-    t: &[usize],
-    levels: usize,
-    q: usize,
-    p: usize,
-) -> Checked
+fn check_state(s: &[u8], names: usize, t: &[usize], levels: usize, q: usize, p: usize) -> Checked
     requires { ⌜ length (now s) ≤ 65536 ⌝ }
     ensures { λ r. ⌜ ((ns : List Name) → length ns ≡ names → r ≡ checkedState ns (now (s .entry)) (now (t .entry)) (checkedRegion ns (now (s .entry)) (now (t .entry)) levels) q p) ⌝ }
 {
