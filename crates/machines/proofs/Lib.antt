@@ -56,3 +56,5 @@ pub mod Instance
 pub mod Overwriting
 pub mod EntryLaws
 pub mod EntryExample
+pub mod BroughtLaws
+pub mod BroughtItems

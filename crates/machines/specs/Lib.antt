@@ -24,5 +24,7 @@ pub mod Checks
 pub mod Machines
 pub mod Sections
 pub mod Judging
+pub mod Shown
+pub mod Brought
 pub mod Judges
 pub mod Call

@@ -24,3 +24,7 @@ pub mod values; // the values of outputs
 pub mod refusal; // a machine that was judged
 pub mod judge; // whether a machine is accepted
 pub mod report; // the report of refused machines
+pub mod bringing; // what machines bring to nodes, counted
+pub mod nodes; // nodes as they stand
+pub mod brought; // the locals that machines bring to a node
+pub mod origins; // the origins of machines with an owner

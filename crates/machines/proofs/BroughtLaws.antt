@@ -1,0 +1,133 @@
+-- Laws for the code that counts what machines bring, step by step.
+use Prim.Native.Nat.{ℕ, zero, suc, _+_, _*_, _-_, _<_, _≤_}
+use native.Mathlib.Numerals.{add-one}
+use native.Mathlib.Omega.{arith}
+use mathlib.Core.List.{List, [], _∷_, _++_}
+use mathlib.Core.Bool.{Bool, cond}
+use mathlib.Core.Path.{_≡_, refl, sym, ap, subst, _∙_}
+use lib.ListN.{length, getD}
+use borrow.Author.Tests.{eq-eqb, ne-eqb, lt-ltb, le-ltb}
+use Rattle.wire.specs.Code.{onward}
+use Rattle.wire.specs.Writer.{State}
+use Rattle.wire.specs.declared.answer.Skipped.{Skipped}
+use Rattle.wire.specs.declared.answer.Skipped.the-variants as sk
+use Rattle.pack.specs.Limits.{absent}
+use Rattle.pack.specs.Names.{Name}
+use Rattle.pack.specs.Read.{optionalIn, portsIn}
+use Rattle.pack.specs.Verdict.{offsetOf}
+use Rattle.pack.specs.Write.{Item}
+use Rattle.pack.specs.Intern.{render}
+use Rattle.pack.proofs.Interns.{render-append}
+use Rattle.machines.specs.declared.sure.Num.{Num}
+use Rattle.machines.specs.Stands.{endOf}
+use Rattle.machines.specs.Sure.{numberIn}
+use Rattle.machines.specs.Brought.{bringsEquationsT, bringsLocalsT, eachT, equationCountT, localCountT, localsIn, madeOf, outputsIn, ownedT, regionsT, smallOf, totalT}
+use Rattle.machines.proofs.SureLaws.{on}
+
+total-step : (f : ℕ → ℕ) (m i : ℕ) → totalT f (suc m) i ≡ f i + totalT f m (suc i)
+unfolding totalT
+total-step f m i = refl
+
+each-step : (f : ℕ → List Item) (m i : ℕ) → eachT f (suc m) i ≡ f i ++ eachT f m (suc i)
+unfolding eachT
+each-step f m i = refl
+
+-- a loop that sums up: one more, and the end
+pub total-more : (f : ℕ → ℕ) (n i c d z : ℕ) → i < n → d ≡ f i → c + totalT f (n - i) i ≡ z → (c + d) + totalT f (n - (i + 1)) (i + 1) ≡ z
+total-more f n i c d z l e h = go (n - (i + 1)) refl
+  where
+    go : (m : ℕ) → n - (i + 1) ≡ m → (c + d) + totalT f (n - (i + 1)) (i + 1) ≡ z
+    go m g =
+        let k : n - i ≡ suc m = omega arith in
+        let a : totalT f (n - i) i ≡ totalT f (suc m) i = ap (λ y. totalT f y i) k in
+        let b : totalT f (n - (i + 1)) (i + 1) ≡ totalT f m (suc i) = ap (λ y. totalT f y (i + 1)) g ∙ ap (totalT f m) (add-one i) in
+        omega (arith, total-step f m i)
+
+pub total-done : (f : ℕ → ℕ) (n i c z : ℕ) → n ≤ i → c + totalT f (n - i) i ≡ z → c ≡ z
+unfolding totalT
+total-done f n i c z l h = let k : n - i ≡ 0 = omega arith in let a : totalT f (n - i) i ≡ 0 = ap (λ y. totalT f y i) k in omega arith
+
+pub total-start : (f : ℕ → ℕ) (n : ℕ) → 0 + totalT f (n - 0) 0 ≡ totalT f n 0
+total-start f n = let k : n - 0 ≡ n = omega arith in let a : totalT f (n - 0) 0 ≡ totalT f n 0 = ap (λ y. totalT f y 0) k in omega arith
+
+-- a loop that writes items: one more, and the end
+pub each-more : (old : List ℕ) (f : ℕ → List Item) (n i : ℕ) (s t z : State) → i < n → t ≡ render old (f i) s → render old (eachT f (n - i) i) s ≡ z → render old (eachT f (n - (i + 1)) (i + 1)) t ≡ z
+each-more old f n i s t z l e h = go (n - (i + 1)) refl
+  where
+    go : (m : ℕ) → n - (i + 1) ≡ m → render old (eachT f (n - (i + 1)) (i + 1)) t ≡ z
+    go m g =
+        let k : n - i ≡ suc m = omega arith in
+        ap (λ y. render old (eachT f y (i + 1)) t) g
+        ∙ ap (λ y. render old (eachT f m y) t) (add-one i)
+        ∙ ap (render old (eachT f m (suc i))) e
+        ∙ sym (render-append old (f i) (eachT f m (suc i)) s)
+        ∙ ap (λ (y : List Item). render old y s) (sym (each-step f m i))
+        ∙ ap (λ y. render old (eachT f y i) s) (sym k)
+        ∙ h
+
+pub each-done : (old : List ℕ) (f : ℕ → List Item) (n i : ℕ) (s z : State) → n ≤ i → render old (eachT f (n - i) i) s ≡ z → s ≡ z
+unfolding eachT render
+each-done old f n i s z l h = let k : n - i ≡ 0 = omega arith in ap (λ y. render old (eachT f y i) s) (sym k) ∙ h
+
+pub each-start : (old : List ℕ) (f : ℕ → List Item) (n : ℕ) (s : State) → render old (eachT f (n - 0) 0) s ≡ render old (eachT f n 0) s
+each-start old f n s = let k : n - 0 ≡ n = omega arith in ap (λ y. render old (eachT f y 0) s) k
+
+-- counts
+pub small-is : (k : ℕ) → k < 65536 → k ≡ smallOf k
+unfolding smallOf
+small-is k h = rw (lt-ltb k 65536 h)
+
+pub large-is : (k : ℕ) → 65536 ≤ k → 0 ≡ smallOf k
+unfolding smallOf
+large-is k h = rw (le-ltb k 65536 h)
+
+pub made-is : (k own a b : ℕ) → a ≡ smallOf k - 1 → b ≡ smallOf own → 2 + 3 * a + b ≡ madeOf k own
+unfolding madeOf
+made-is k own a b e f = rw (e, f)
+
+pub regions-is : (regs : List ℕ) (i e r : ℕ) → e ≡ getD regs i 0 → r ≡ smallOf e → r ≡ regionsT regs i
+unfolding regionsT
+regions-is regs i e r a b = b ∙ ap smallOf a
+
+module _ (s mats : List ℕ) (i a : ℕ) (m o : Num) (e : a ≡ getD mats i 0) (f : m ≡ numberIn s a) (g : o ≡ numberIn s (m .next)) where
+  pub owned-not : o .value ≡ 65535 → 0 ≡ ownedT s mats i
+  unfolding ownedT absent
+  owned-not h = on m _ _ 0 (f ∙ ap (numberIn s) e) (on o _ _ 0 g (rw (eq-eqb (o .value) 65535 h)))
+
+  pub owned-yes : (o .value ≡ 65535 → ⊥) → 1 ≡ ownedT s mats i
+  unfolding ownedT absent
+  owned-yes h = on m _ _ 1 (f ∙ ap (numberIn s) e) (on o _ _ 1 g (rw (ne-eqb (o .value) 65535 h)))
+
+module _ (ns : List Name) (s : List ℕ) where
+  pub outputs-is : (at : ℕ) (o a : Skipped) (r : ℕ) → o ≡ onward (optionalIn ns s) (sk.To at) → a ≡ onward (portsIn ns s) o → r ≡ offsetOf a → r ≡ outputsIn ns s at
+  unfolding outputsIn
+  outputs-is at o a r x y z = z ∙ ap offsetOf (y ∙ ap (onward (portsIn ns s)) x)
+
+  pub locals-is : (at : ℕ) (m : Num) (o r : ℕ) → m ≡ numberIn s at → o ≡ outputsIn ns s (m .next) → r ≡ endOf (portsIn ns s o) → r ≡ localsIn ns s at
+  unfolding localsIn
+  locals-is at m o r x y z = on m _ _ r x (z ∙ ap (λ k. endOf (portsIn ns s k)) y)
+
+  pub equations-are : (at k : ℕ) (m : Num) (a : ℕ) (o : Num) (r : ℕ) → m ≡ numberIn s at → a ≡ outputsIn ns s (m .next) → o ≡ numberIn s a → r ≡ madeOf k (o .value) → r ≡ equationCountT ns s at k
+  unfolding equationCountT
+  equations-are at k m a o r x y z w = on m _ _ r x (on o _ _ r (z ∙ ap (numberIn s) y) w)
+
+  pub locals-are : (at k a : ℕ) (l : Num) (r : ℕ) → a ≡ localsIn ns s at → l ≡ numberIn s a → r ≡ madeOf k (l .value) → r ≡ localCountT ns s at k
+  unfolding localCountT
+  locals-are at k a l r x y z = on l _ _ r (y ∙ ap (numberIn s) x) z
+
+  module _ (mats ats regs : List ℕ) (k i a m r : ℕ) (ea : a ≡ getD ats i 0) (em : m ≡ getD mats i 0) (er : r ≡ getD regs i 0) where
+    pub brings-equations : (c : ℕ) → a ≡ k → c ≡ equationCountT ns s m r → c ≡ bringsEquationsT ns s mats ats regs k i
+    unfolding bringsEquationsT
+    brings-equations c h e = rw (← ea, eq-eqb a k h, ← em, ← er) e
+
+    pub brings-no-equations : (a ≡ k → ⊥) → 0 ≡ bringsEquationsT ns s mats ats regs k i
+    unfolding bringsEquationsT
+    brings-no-equations h = rw (← ea, ne-eqb a k h)
+
+    pub brings-locals : (c : ℕ) → a ≡ k → c ≡ localCountT ns s m r → c ≡ bringsLocalsT ns s mats ats regs k i
+    unfolding bringsLocalsT
+    brings-locals c h e = rw (← ea, eq-eqb a k h, ← em, ← er) e
+
+    pub brings-no-locals : (a ≡ k → ⊥) → 0 ≡ bringsLocalsT ns s mats ats regs k i
+    unfolding bringsLocalsT
+    brings-no-locals h = rw (← ea, ne-eqb a k h)

@@ -1,0 +1,108 @@
+-- What machines bring to nodes, as the code counts and writes it: by the tables, with the machines' own parts as they stand in the bytes.
+use Prim.Native.Nat.{ℕ, zero, suc, _+_, _*_, _-_}
+use mathlib.Core.List.{List, [], _∷_, _++_}
+use mathlib.Core.Bool.{cond}
+use lib.ListN.{getD}
+use lib.Dec.{eqb, ltb}
+use Rattle.wire.specs.Bytes.{two}
+use Rattle.wire.specs.Code.{onward}
+use Rattle.wire.specs.declared.answer.Skipped.the-variants as sk
+use Rattle.pack.specs.Limits.{absent}
+use Rattle.pack.specs.Names.{Name}
+use Rattle.pack.specs.Read.{equationsIn, optionalIn, portsIn}
+use Rattle.pack.specs.Verdict.{offsetOf}
+use Rattle.pack.specs.Write.{Item, each, portItems, raw}
+use Rattle.machines.specs.Stands.{endOf}
+use Rattle.machines.specs.Sure.{byteIn, numberIn, with}
+use Rattle.machines.specs.Laid.{sliceOf}
+use Rattle.machines.specs.Lower.{regionLocals}
+use Rattle.machines.specs.Locals.{innerLocals}
+use Rattle.machines.specs.Emits.{packName}
+
+-- a sum over n indexes from i on; items of n indexes from i on
+unfoldable pub totalT : (ℕ → ℕ) → ℕ → ℕ → ℕ
+totalT f zero i = 0
+totalT f (suc n) i = f i + totalT f n (suc i)
+
+unfoldable pub eachT : (ℕ → List Item) → ℕ → ℕ → List Item
+eachT f zero i = []
+eachT f (suc n) i = f i ++ eachT f n (suc i)
+
+-- counts of a pack are below 65,536: nothing larger is looked at
+unfoldable pub smallOf : ℕ → ℕ
+smallOf k = cond (ltb k 65536) k 0
+
+-- two for the top one of k regions, three for each other one, and `own` more
+unfoldable pub madeOf : ℕ → ℕ → ℕ
+madeOf k own = (2 + 3 * (smallOf k - 1)) + smallOf own
+
+-- the regions of the machine of index i
+unfoldable pub regionsT : List ℕ → ℕ → ℕ
+regionsT regs i = smallOf (getD regs i 0)
+
+-- whether the machine drawn there has an owner, as a number
+unfoldable pub ownedT : List ℕ → List ℕ → ℕ → ℕ
+ownedT s mats i = with (numberIn s (getD mats i 0)) λ m p. with (numberIn s p) λ o q. cond (eqb o absent) 0 1
+
+-- the origin of a machine: by the numbers of its owner's and its own name, of its first equation, and of its equations
+unfoldable pub originT : ℕ → ℕ → ℕ → ℕ → List Item
+originT o m f e = raw (two o) ∷ raw (0 ∷ []) ∷ raw (two m) ∷ raw (two f) ∷ raw (two (f + e)) ∷ raw (two 0) ∷ []
+
+module _ (ns : List Name) (s : List ℕ) where
+  -- from a machine's owner to its outputs; from the machine to its own locals
+  unfoldable pub outputsIn : ℕ → ℕ
+  outputsIn at = offsetOf (onward (portsIn ns s) (onward (optionalIn ns s) (sk.To at)))
+
+  unfoldable pub localsIn : ℕ → ℕ
+  localsIn at = with (numberIn s at) λ m p. endOf (portsIn ns s (outputsIn p))
+
+  -- how many equations and locals the machine drawn at `at` makes with k regions
+  unfoldable pub equationCountT : ℕ → ℕ → ℕ
+  equationCountT at k = with (numberIn s at) λ m p. with (numberIn s (outputsIn p)) λ v q. madeOf k v
+
+  unfoldable pub localCountT : ℕ → ℕ → ℕ
+  localCountT at k = with (numberIn s (localsIn at)) λ v q. madeOf k v
+
+  -- its locals: its own ones as they stand, then those of its regions
+  unfoldable pub localsT : List ℕ → ℕ → ℕ → List Item
+  localsT spots at k =
+      with (numberIn s at) λ m p.
+      with (numberIn s (localsIn at)) λ v b.
+      raw (sliceOf s b (endOf (portsIn ns s (localsIn at)) - b))
+      ∷ (each portItems (regionLocals (packName s spots m) 0) ++ each portItems (innerLocals (packName s spots m) 1 (smallOf k - 1)))
+
+  -- from a node to its locals, to its equations
+  unfoldable pub nodeLocalsIn : ℕ → ℕ
+  nodeLocalsIn at = with (numberIn s at) λ m p. with (byteIn s p) λ k q. offsetOf (onward (portsIn ns s) (onward (portsIn ns s) (sk.To q)))
+
+  unfoldable pub nodeEquationsIn : ℕ → ℕ
+  nodeEquationsIn at = endOf (portsIn ns s (nodeLocalsIn at))
+
+  -- how many equations the node k of n nodes from `at` on has, 0 past them
+  unfoldable pub oldT : ℕ → ℕ → ℕ → ℕ
+  oldT zero at k = 0
+  oldT (suc n) at zero = with (numberIn s (nodeEquationsIn at)) λ v q. smallOf v
+  oldT (suc n) at (suc k) = oldT n (endOf (equationsIn ns s (nodeEquationsIn at))) k
+
+  module _ (mats ats regs : List ℕ) where
+    -- how many of them the machine of index i brings to the node k
+    unfoldable pub bringsEquationsT : ℕ → ℕ → ℕ
+    bringsEquationsT k i = cond (eqb (getD ats i 0) k) (equationCountT (getD mats i 0) (getD regs i 0)) 0
+
+    unfoldable pub bringsLocalsT : ℕ → ℕ → ℕ
+    bringsLocalsT k i = cond (eqb (getD ats i 0) k) (localCountT (getD mats i 0) (getD regs i 0)) 0
+
+    -- the locals that it brings
+    unfoldable pub broughtLocalsT : List ℕ → ℕ → ℕ → List Item
+    broughtLocalsT spots k i = cond (eqb (getD ats i 0) k) (localsT spots (getD mats i 0) (getD regs i 0)) []
+
+    -- how many equations its node has before it, where `count` old nodes stand from `from` on
+    unfoldable pub firstT : ℕ → ℕ → ℕ → ℕ
+    firstT count from i = oldT count from (getD ats i 0) + totalT (bringsEquationsT (getD ats i 0)) i 0
+
+    -- its origin, where it has an owner
+    unfoldable pub ownOriginT : ℕ → ℕ → ℕ → List Item
+    ownOriginT count from i =
+        with (numberIn s (getD mats i 0)) λ m p.
+        with (numberIn s p) λ o q.
+        cond (eqb o absent) [] (originT o m (firstT count from i) (equationCountT (getD mats i 0) (getD regs i 0)))

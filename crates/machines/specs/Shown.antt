@@ -1,0 +1,42 @@
+-- What the tables of machines stand for: for each machine where it is drawn, the node it goes to, and how many regions it has.
+use Prim.Native.Nat.{ℕ, suc, _<_}
+use mathlib.Core.List.{List, [], _∷_}
+use mathlib.Core.Path.{_≡_}
+use lib.ListN.{length, getD}
+use Rattle.wire.specs.Answer.{value}
+use Rattle.wire.specs.Lists.{All, Bytes}
+use Rattle.pack.specs.Names.{Name}
+use Rattle.pack.specs.Syntax.{Drawing, States}
+use Rattle.pack.specs.Forms.{nameAt}
+use Rattle.pack.specs.Legal.{Fresh, LegalName}
+use Rattle.pack.specs.Read.{machineIn}
+use Rattle.pack.specs.Write.{enc}
+use Rattle.machines.specs.Resolve.{asMachine}
+use Rattle.machines.specs.Lower.{sizeS}
+use Rattle.machines.specs.Emits.{packName}
+use Rattle.machines.specs.Sections.{Share, fateOf}
+
+-- what holds of the bytes and the names of a checked pack, and of the tables of its names
+pub record PackOf (ns : List Name) (s old spots : List ℕ) : Type 0 where
+  pub bytes : Bytes s
+  pub legal : All LegalName ns
+  pub fresh : Fresh [] ns
+  pub few : length ns < 65536
+  pub names : old ≡ enc ns
+  pub placed : (i : ℕ) → i < length ns → packName s spots i ≡ nameAt ns i
+
+-- the machine of index i is drawn where the table says, and its resolved form is this share
+pub record ShownAt (ns : List Name) (s mats ats regs : List ℕ) (i : ℕ) (x : Share) : Type 0 where
+  pub drawing : Drawing
+  pub end : ℕ
+  pub states : States
+  pub read : machineIn ns s (getD mats i 0) ≡ value drawing end
+  pub fate : x .fate ≡ fateOf (drawing .owner) (asMachine drawing states)
+  pub at : x .at ≡ getD ats i 0
+  pub regions : suc (sizeS states) ≡ getD regs i 0
+  pub fewRegions : getD regs i 0 < 65536
+
+-- the machines from index i on
+unfoldable pub Shown : List Name → List ℕ → List ℕ → List ℕ → List ℕ → ℕ → List Share → Type 0
+Shown ns s mats ats regs i [] = Unit {0}
+Shown ns s mats ats regs i (x ∷ xs) = ShownAt ns s mats ats regs i x × Shown ns s mats ats regs (suc i) xs
