@@ -1,0 +1,4 @@
+pub mod MadeLaws
+pub mod Computed
+pub mod Charts
+pub mod Examples

@@ -1,0 +1,2 @@
+// Activations: checked and lowered.
+pub mod made; // the names that lowering makes
