@@ -50,3 +50,6 @@ pub mod WalkedLaid
 pub mod Instance
 pub mod BroughtLaws
 pub mod BroughtItems
+pub mod ShownCounts
+pub mod ShownItems
+pub mod ShownOrigins
