@@ -53,3 +53,5 @@ pub mod BroughtItems
 pub mod ShownCounts
 pub mod ShownItems
 pub mod ShownOrigins
+pub mod BeginningLaws
+pub mod ShownHeads

@@ -15,7 +15,7 @@ use Rattle.wire.proofs.Answers.{bind-value, guard-value, many-length, map-value
 use Rattle.pack.specs.Limits.{absent}
 use Rattle.pack.specs.Names.{Name}
 use Rattle.pack.specs.Syntax.{Drawing, Equation, Machine, Node, Port}
-use Rattle.pack.specs.Read.{equationIn, equationsIn, nameIn, nodeIn, optionalIn, portIn, portsIn}
+use Rattle.pack.specs.Read.{equationIn, equationsIn, kindOf, nameIn, nodeIn, optionalIn, portIn, portsIn}
 use Rattle.pack.specs.Verdict.{offsetOf}
 use Rattle.pack.proofs.PartFormats.{fmtEquations, fmtPorts}
 use Rattle.machines.specs.Resolve.{asMachine}
@@ -62,6 +62,7 @@ pub record NodeRead (ns : List Name) (s : List ℕ) (at : ℕ) (x : Node) (q : �
   pub to-locals : ℕ
   pub to-equations : ℕ
   pub kind : ℕ
+  pub same : kindOf ns s kind ≡ x .kind
   pub name : nameIn ns s at ≡ value (x .name) to-kind
   pub byte : below 3 s to-kind ≡ value kind to-inputs
   pub inputs : portsIn ns s to-inputs ≡ value (x .inputs) to-outputs
@@ -86,6 +87,7 @@ node-value ns s at x q e =
       to-locals = o .1;
       to-equations = l .1;
       kind = k .0;
+      same = ap (λ (y : Node). y .kind) same;
       name = a .2 ∙ ap (λ (y : Node). value (y .name) (a .1)) same;
       byte = k .2;
       inputs = i .2 ∙ ap (λ (y : Node). value (y .inputs) (i .1)) same;

@@ -48,7 +48,7 @@ locals-split m =
     (each-append portItems (regionLocals (m .name) 0) (localsS (m .name) 1 (m .states))
     ∙ ap (λ (l : List Port). each portItems (regionLocals (m .name) 0) ++ each portItems l) (locals-states (m .name) 1 (m .states)))
 
-raw-first : (old xs : List ℕ) (is : List Item) (z : State) → render old (raw xs ∷ is) z ≡ render old is (puts xs z)
+pub raw-first : (old xs : List ℕ) (is : List Item) (z : State) → render old (raw xs ∷ is) z ≡ render old is (puts xs z)
 unfolding render putItem
 raw-first old xs is z = refl
 

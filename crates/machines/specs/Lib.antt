@@ -24,5 +24,6 @@ pub mod Machines
 pub mod Sections
 pub mod Shown
 pub mod Brought
+pub mod NodeHeads
 pub mod Judges
 pub mod Call
