@@ -20,7 +20,7 @@ use Rattle.pack.specs.Verdict.{offsetOf}
 use Rattle.pack.proofs.PartFormats.{fmtEquations, fmtPorts}
 use Rattle.machines.specs.Resolve.{asMachine}
 use Rattle.machines.specs.Lower.{sizeS}
-use Rattle.machines.specs.Sections.{Share, bringsCount, broughtCount, enumCount, equationCount, fateMachine, fateOf, localCount, oldCount, originCount, shareMachine, total}
+use Rattle.machines.specs.Sections.{Fate, Share, alone, bringsCount, broughtCount, enumCount, equationCount, fateMachine, fateOf, headCount, into, localCount, oldCount, originCount, shareMachine, total}
 use Rattle.machines.specs.Stands.{endOf}
 use Rattle.machines.specs.Sure.{num, numberIn, with}
 use Rattle.machines.specs.Shown.{PackOf, Shown, ShownAt}
@@ -41,6 +41,17 @@ onward-to f at x q e = rw e
 made-small : (k own z : ℕ) → suc z ≡ k → k < 65536 → own < 65536 → madeOf k own ≡ (2 + 3 * z) + own
 unfolding madeOf smallOf
 made-small k own z e h l = rw (lt-ltb k 65536 h, lt-ltb own 65536 l) (let i : k - 1 ≡ z = omega arith in omega arith)
+
+-- a share begins a node or has an origin
+head-or-origin : (f : Fate) → headCount f + originCount f ≡ 1
+unfolding headCount originCount
+head-or-origin (alone m) = refl
+head-or-origin (into o m) = refl
+
+pub heads-origins : (xs : List Share) → total (λ (x : Share). headCount (x .fate)) xs + total (λ (x : Share). originCount (x .fate)) xs ≡ length xs
+unfolding total
+heads-origins [] = refl
+heads-origins (x ∷ xs) = let a = heads-origins xs in let b = head-or-origin (x .fate) in omega arith
 
 -- an owner, as it was read
 module _ (ns : List Name) (s : List ℕ) where
