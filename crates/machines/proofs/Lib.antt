@@ -55,3 +55,4 @@ pub mod ShownItems
 pub mod ShownOrigins
 pub mod BeginningLaws
 pub mod ShownHeads
+pub mod ShownExample
