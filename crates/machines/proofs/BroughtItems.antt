@@ -2,7 +2,6 @@
 use Prim.Native.Nat.{ℕ, zero, suc, _+_, _-_, _<_, _≤_}
 use native.Mathlib.Omega.{arith}
 use mathlib.Core.List.{List, [], _∷_, _++_}
-use mathlib.Core.Bool.{cond}
 use mathlib.Core.Path.{_≡_, refl, sym, ap, _∙_}
 use lib.ListN.{getD}
 use borrow.Author.Tests.{eq-eqb, ne-eqb}
@@ -74,7 +73,7 @@ module _ (ns : List Name) (s : List ℕ) where
   module _ (spots : List ℕ) (at k : ℕ) (m : Num) (n : List ℕ) (a e : ℕ) (l : Num) (b : List ℕ) (i : ℕ)
       (em : m ≡ numberIn s at) (en : n ≡ packName s spots (m .value)) (ea : a ≡ localsIn ns s at) (ee : e ≡ endOf (portsIn ns s a)) (el : l ≡ numberIn s a)
       (eb : b ≡ sliceOf s (l .next) (e - l .next)) (ei : i ≡ smallOf k - 1) where
-    locals-parts : raw b ∷ (each portItems (regionLocals n 0) ++ each portItems (innerLocals n 1 i)) ≡ localsT ns s spots at k
+    pub locals-parts : raw b ∷ (each portItems (regionLocals n 0) ++ each portItems (innerLocals n 1 i)) ≡ localsT ns s spots at k
     unfolding localsT
     locals-parts =
         let d = eb ∙ ap (λ y. sliceOf s (l .next) (y - l .next)) (ee ∙ ap (λ y. endOf (portsIn ns s y)) ea) in

@@ -58,3 +58,9 @@ pub mod EntryLaws
 pub mod EntryExample
 pub mod BroughtLaws
 pub mod BroughtItems
+pub mod ShownCounts
+pub mod ShownItems
+pub mod ShownOrigins
+pub mod BeginningLaws
+pub mod ShownHeads
+pub mod ShownExample

@@ -26,5 +26,6 @@ pub mod Sections
 pub mod Judging
 pub mod Shown
 pub mod Brought
+pub mod NodeHeads
 pub mod Judges
 pub mod Call

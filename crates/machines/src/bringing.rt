@@ -9,7 +9,7 @@ use wire::answer::Skipped;
 ghost use mathlib.Core.List.{List};
 ghost use mathlib.Core.Path.{_≡_};
 ghost use Prim.Native.Nat.{_-_, _*_, _<_, _≤_};
-ghost use lib.ListN.{length, getD};
+ghost use lib.ListN.{length};
 ghost use Rattle.pack.specs.Names.{Name};
 ghost use Rattle.pack.specs.Read.{portsIn};
 ghost use Rattle.machines.specs.Stands.{endOf};

@@ -28,3 +28,4 @@ pub mod bringing; // what machines bring to nodes, counted
 pub mod nodes; // nodes as they stand
 pub mod brought; // the locals that machines bring to a node
 pub mod origins; // the origins of machines with an owner
+pub mod beginnings; // nodes up to their equations
