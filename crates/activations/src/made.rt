@@ -1,11 +1,23 @@
 // The names that lowering an activation makes.
+use pack::intern::put_built;
 use wire::writer::Writer;
 use wire::writer::put_bytes;
+use wire::writer::put_digits;
 ghost use mathlib.Core.List.{List, _++_};
 ghost use mathlib.Core.Path.{_≡_};
-ghost use Prim.Native.Nat.{ℕ};
+ghost use Prim.Native.Nat.{ℕ, suc, _<_, _^_};
+ghost use Rattle.wire.specs.Decimal.{decimal};
 ghost use Rattle.wire.specs.Writer.{stateOf, puts};
+ghost use Rattle.pack.specs.Intern.{putName};
 ghost use Rattle.activations.specs.MadeNames.{actPrefix, lastVar};
+ghost use Rattle.activations.specs.Vars.{branchVar};
+
+// A variable made for a branch.
+pub enum Var {
+    Flag,
+    Untaken,
+    Clock,
+}
 
 // `__act_` and the activation's name a.
 fn put_start(out: &mut [u8], w: Writer, a: &[u8]) -> Writer
@@ -22,4 +34,65 @@ fn put_last_text(out: &mut [u8], w: Writer, a: &[u8], v: &[u8]) -> Writer
     let b = put_start(out, w, a);
     let c = put_bytes(b"_last_", out, b);
     put_bytes(v, out, c)
+}
+
+// The holder of v, by its number among the names.
+pub fn put_last(
+    old: &[u8],
+    a: &[u8],
+    v: &[u8],
+    out: &mut [u8],
+    made: &mut [u8],
+    w: Writer,
+) -> Writer
+    ensures { λ r. ⌜ stateOf (now (out .exit)) (now (made .exit)) r ≡ putName (now (old .entry)) (lastVar (now (a .entry)) (now (v .entry))) (stateOf (now (out .entry)) (now (made .entry)) w) ⌝ }
+{
+    let mut buf = [0u8; 255];
+    let t = put_last_text(&mut buf, Writer::start(), a, v);
+    put_built(old, &buf, t, out, made, w)
+}
+
+// `__act_<a>`, some letters, and the number of the branch k.
+fn put_numbered(out: &mut [u8], w: Writer, a: &[u8], letters: &[u8], k: usize) -> Writer
+    requires { ⌜ k < 2 ^ 63 ⌝ }
+    ensures { λ r. ⌜ ((m : List ℕ) → stateOf (now (out .exit)) m r ≡ puts (actPrefix ++ (now (a .entry) ++ (now (letters .entry) ++ decimal (suc k)))) (stateOf (now (out .entry)) m w)) ⌝ }
+{
+    let b = put_start(out, w, a);
+    let c = put_bytes(letters, out, b);
+    put_digits(out, c, k + 1)
+}
+
+// The text of the name of a branch's variable; the clock of the first branch is its flag.
+fn put_branch_text(out: &mut [u8], w: Writer, a: &[u8], v: Var, k: usize) -> Writer
+    requires { ⌜ k < 2 ^ 63 ⌝ }
+    ensures { λ r. ⌜ ((m : List ℕ) → stateOf (now (out .exit)) m r ≡ puts (branchVar v (now (a .entry)) k) (stateOf (now (out .entry)) m w)) ⌝ }
+{
+    match v {
+        Var::Flag => put_numbered(out, w, a, b"_b", k),
+        Var::Untaken => put_numbered(out, w, a, b"_n", k),
+        Var::Clock => {
+            if k == 0 {
+                return put_numbered(out, w, a, b"_b", k);
+            }
+            put_numbered(out, w, a, b"_g", k)
+        }
+    }
+}
+
+// A branch's variable, by its number among the names.
+pub fn put_var(
+    old: &[u8],
+    a: &[u8],
+    v: Var,
+    k: usize,
+    out: &mut [u8],
+    made: &mut [u8],
+    w: Writer,
+) -> Writer
+    requires { ⌜ k < 2 ^ 63 ⌝ }
+    ensures { λ r. ⌜ stateOf (now (out .exit)) (now (made .exit)) r ≡ putName (now (old .entry)) (branchVar v (now (a .entry)) k) (stateOf (now (out .entry)) (now (made .entry)) w) ⌝ }
+{
+    let mut buf = [0u8; 255];
+    let t = put_branch_text(&mut buf, Writer::start(), a, v, k);
+    put_built(old, &buf, t, out, made, w)
 }
