@@ -1,6 +1,7 @@
 -- The starred charts of activations, but for the one that is about runs: one table, one theorem.
 use mathlib.Core.List.{List, [], _∷_}
 use mathlib.Core.Path.{_≡_, refl}
+use Rattle.pack.specs.Limits.{maxBytes}
 use Rattle.pack.specs.Outcome.{writes}
 use Rattle.activations.proofs.Computed.{Chart, given, stated}
 
@@ -10,6 +11,7 @@ charts =
     record {
       pack =
           0 ∷ 0 ∷ 0 ∷ 0 ∷ 0 ∷ 0 ∷ 0 ∷ 0 ∷ 0 ∷ 0 ∷ 0 ∷ 0 ∷ [];
+      room = maxBytes;
       outcome = writes
           (0 ∷ 0 ∷ 0 ∷ 0 ∷ 0 ∷ 0 ∷ 0 ∷ 0 ∷ 0 ∷ 0 ∷ 0 ∷ 0 ∷ []);
     }
@@ -23,6 +25,7 @@ charts =
           ∷ 1 ∷ 0
           ∷ 1 ∷ 0 ∷ 4 ∷ 0 ∷ 7 ∷ 6 ∷ 0 ∷ 2 ∷ 0 ∷ 1 ∷ 3 ∷ 0 ∷ 0 ∷ 1 ∷ 2 ∷ 0 ∷ 0 ∷ 0 ∷ 0 ∷ 0 ∷ 0 ∷ 0
           ∷ 0 ∷ 0 ∷ [];
+      room = maxBytes;
       outcome = writes
           (14 ∷ 0 ∷ 1 ∷ 70 ∷ 1 ∷ 65 ∷ 1 ∷ 99 ∷ 1 ∷ 118 ∷ 1 ∷ 111 ∷ 1 ∷ 66 ∷ 4 ∷ 108 ∷ 97 ∷ 115 ∷ 116 ∷ 14 ∷ 95 ∷ 95 ∷ 97 ∷ 99 ∷ 116 ∷ 95 ∷ 65 ∷ 95 ∷ 108 ∷ 97
           ∷ 115 ∷ 116 ∷ 95 ∷ 118 ∷ 10 ∷ 95 ∷ 95 ∷ 97 ∷ 99 ∷ 116 ∷ 95 ∷ 65 ∷ 95 ∷ 98 ∷ 49 ∷ 25 ∷ 95 ∷ 95 ∷ 97 ∷ 99 ∷ 116 ∷ 95 ∷ 65 ∷ 95 ∷ 115 ∷ 49 ∷ 95 ∷ 95 ∷ 95
@@ -50,6 +53,7 @@ charts =
           ∷ 1 ∷ 0
           ∷ 1 ∷ 0 ∷ 4 ∷ 0 ∷ 7 ∷ 6 ∷ 0 ∷ 2 ∷ 0 ∷ 1 ∷ 3 ∷ 0 ∷ 0 ∷ 1 ∷ 2 ∷ 0 ∷ 0 ∷ 0 ∷ 0 ∷ 0 ∷ 0 ∷ 0
           ∷ 0 ∷ 0 ∷ [];
+      room = maxBytes;
       outcome = writes
           (14 ∷ 0 ∷ 1 ∷ 70 ∷ 1 ∷ 65 ∷ 1 ∷ 99 ∷ 1 ∷ 118 ∷ 1 ∷ 111 ∷ 1 ∷ 66 ∷ 4 ∷ 108 ∷ 97 ∷ 115 ∷ 116 ∷ 14 ∷ 95 ∷ 95 ∷ 97 ∷ 99 ∷ 116 ∷ 95 ∷ 65 ∷ 95 ∷ 108 ∷ 97
           ∷ 115 ∷ 116 ∷ 95 ∷ 118 ∷ 10 ∷ 95 ∷ 95 ∷ 97 ∷ 99 ∷ 116 ∷ 95 ∷ 65 ∷ 95 ∷ 98 ∷ 49 ∷ 25 ∷ 95 ∷ 95 ∷ 97 ∷ 99 ∷ 116 ∷ 95 ∷ 65 ∷ 95 ∷ 115 ∷ 49 ∷ 95 ∷ 95 ∷ 95
@@ -77,6 +81,7 @@ charts =
           ∷ 1 ∷ 0
           ∷ 1 ∷ 0 ∷ 5 ∷ 0 ∷ 0 ∷ 1 ∷ 0 ∷ 0 ∷ 0 ∷ 0 ∷ 0 ∷ 0 ∷ 0 ∷ 0
           ∷ 0 ∷ 0 ∷ [];
+      room = maxBytes;
       outcome = writes
           (14 ∷ 0 ∷ 1 ∷ 70 ∷ 1 ∷ 65 ∷ 1 ∷ 99 ∷ 1 ∷ 118 ∷ 1 ∷ 119 ∷ 1 ∷ 111 ∷ 1 ∷ 66 ∷ 4 ∷ 108 ∷ 97 ∷ 115 ∷ 116 ∷ 14 ∷ 95 ∷ 95 ∷ 97 ∷ 99 ∷ 116 ∷ 95 ∷ 65 ∷ 95
           ∷ 108 ∷ 97 ∷ 115 ∷ 116 ∷ 95 ∷ 118 ∷ 10 ∷ 95 ∷ 95 ∷ 97 ∷ 99 ∷ 116 ∷ 95 ∷ 65 ∷ 95 ∷ 98 ∷ 49 ∷ 25 ∷ 95 ∷ 95 ∷ 97 ∷ 99 ∷ 116 ∷ 95 ∷ 65 ∷ 95 ∷ 115 ∷ 49 ∷ 95
@@ -95,5 +100,5 @@ charts =
     ∷ []
 
 pub charts-hold : given charts ≡ stated charts
-unfolding given stated charts
+unfolding given stated charts maxBytes
 charts-hold = refl

@@ -1,6 +1,6 @@
 -- Holders: each keeps a variable's value of a cycle ago.
 use mathlib.Core.List.{List, [], _∷_, _++_}
-use mathlib.Core.Option.{Option, none, some}
+use mathlib.Core.Option.{none, some}
 use Rattle.pack.specs.Names.{Name}
 use Rattle.pack.specs.Report.{Refusal, firstOf}
 use Rattle.pack.specs.Syntax.{Enum, Equation, Expr, Port, Ty, eArrow, ePre, eVar}
