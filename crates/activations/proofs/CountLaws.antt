@@ -2,13 +2,18 @@
 use Prim.Native.Nat.{ℕ, suc, _+_}
 use native.Mathlib.Omega.{arith}
 use mathlib.Core.List.{List, [], _∷_, _++_}
-use mathlib.Core.Option.{none}
+use mathlib.Core.Option.{Option, none, some}
 use mathlib.Core.Path.{_≡_, refl, ap, _∙_}
 use lib.ListN.{length, length-append}
 use Rattle.pack.specs.Names.{Name}
-use Rattle.pack.specs.Syntax.{Activation, Branch, Equation, Expr, Port, Ty, tBool}
+use Rattle.pack.specs.Report.{firstOf}
+use Rattle.pack.specs.Syntax.{Activation, Branch, Enum, Equation, Expr, Port, Ty, tBool}
 use Rattle.activations.specs.MadeNames.{Scope, branch, other}
 use Rattle.activations.specs.Defines.{asLocals}
+use Rattle.activations.specs.Sought.{Sought}
+use Rattle.activations.specs.Types.{typed}
+use Rattle.activations.specs.Defaults.{startOf}
+use Rattle.activations.specs.Holders.{Holding, also, held, hold, holderEquation, holderPort, unheld, withInit, withType}
 use Rattle.activations.specs.Unlast.{conditionsOf}
 use Rattle.activations.specs.Flags.{flagEquations}
 use Rattle.activations.specs.Clocks.{guardEquations}
@@ -48,8 +53,33 @@ unfolding branchLocals branchEquations
 branches-count f g a n vars k [] = refl
 branches-count f g a n vars k (b ∷ bs) =
     both (scopeLocals f g a vars (branch k) [] (b .equations)) _ (scopeEquations a n vars (branch k) [] (b .equations)) _
-      (scope-count f g a n vars (branch k) [] (b .equations))
-      (branches-count f g a n vars (suc k) bs)
+    (scope-count f g a n vars (branch k) [] (b .equations))
+    (branches-count f g a n vars (suc k) bs)
+
+-- as many locals as equations, where nothing is refused
+abbrev pub Even : Holding → Type 0
+Even (unheld r) = Unit {0}
+Even (held ps es) = length ps ≡ length es
+
+also-even : (p : Port) (e : Equation) (h : Holding) → Even h → Even (also p e h)
+unfolding also
+also-even p e (unheld r) x = tt
+also-even p e (held ps es) x = ap suc x
+
+init-even : (a v : Name) (t : Ty) (i : Option Expr) (rest : Port → Holding) → ((p : Port) → Even (rest p)) → Even (withInit a v t i rest)
+unfolding withInit
+init-even a v t none rest h = tt
+init-even a v t (some i) rest h = also-even (holderPort a v t) (holderEquation a v i) (rest (holderPort a v t)) (h (holderPort a v t))
+
+type-even : (es : List Enum) (a : Name) (s : Sought) (t : Option Ty) (rest : Port → Holding) → ((p : Port) → Even (rest p)) → Even (withType es a s t rest)
+unfolding withType
+type-even es a s none rest h = tt
+type-even es a s (some t) rest h = init-even a (s .var) t (firstOf (s .init) (startOf es t)) rest h
+
+pub holders-count : (es : List Enum) (a : Name) (env outs : List Port) (hs : List Sought) → Even (hold es a env outs hs)
+unfolding hold
+holders-count es a env outs [] = refl
+holders-count es a env outs (h ∷ hs) = type-even es a h (typed env outs (h .var)) _ (λ p. holders-count es a (env ++ (p ∷ [])) outs hs)
 
 -- an activation with holders `ps`, defined by `hs`
 pub act-count : (f g : Name → Ty) (A : Activation) (ps : List Port) (hs : List Equation) (vars : List Name) → length ps ≡ length hs → length (actEquations A hs vars) ≡ length (actLocals f g A ps vars) + length (A .outputs)
@@ -65,8 +95,21 @@ act-count f g A ps hs vars e =
     let M = mergeEquations a cs (A .outputs) in
     let b = branchLocals f g a vars 0 (A .branches) in
     let o = scopeLocals f g a vars other [] (A .otherwise) in
-    omega
-      ( arith, e, locals-count tBool F, locals-count tBool G, branches-count f g a n vars 0 (A .branches), scope-count f g a n vars other [] (A .otherwise)
-      , merges-count a cs (A .outputs)
-      , length-append hs (F ++ (G ++ (B ++ (E ++ M)))), length-append F (G ++ (B ++ (E ++ M))), length-append G (B ++ (E ++ M)), length-append B (E ++ M), length-append E M
-      , length-append ps (asLocals tBool F ++ (asLocals tBool G ++ (b ++ o))), length-append (asLocals tBool F) (asLocals tBool G ++ (b ++ o)), length-append (asLocals tBool G) (b ++ o), length-append b o )
+    omega (
+      arith,
+      e,
+      locals-count tBool F,
+      locals-count tBool G,
+      branches-count f g a n vars 0 (A .branches),
+      scope-count f g a n vars other [] (A .otherwise),
+      merges-count a cs (A .outputs),
+      length-append hs (F ++ (G ++ (B ++ (E ++ M)))),
+      length-append F (G ++ (B ++ (E ++ M))),
+      length-append G (B ++ (E ++ M)),
+      length-append B (E ++ M),
+      length-append E M,
+      length-append ps (asLocals tBool F ++ (asLocals tBool G ++ (b ++ o))),
+      length-append (asLocals tBool F) (asLocals tBool G ++ (b ++ o)),
+      length-append (asLocals tBool G) (b ++ o),
+      length-append b o,
+    )
