@@ -1,4 +1,5 @@
--- Small packs with the answers of the Rust: one for each refusal, for each rule that is easily missed, and for the table's other lines.
+-- Small packs with the harness's answers, the Rust's wherever it has one: one for each refusal and for each rule that is easily missed.
+-- Of the table's other lines at the end all but the made name's are written by hand.
 use mathlib.Core.List.{List, [], _∷_, _++_}
 use mathlib.Core.Path.{_≡_, refl}
 use lib.ListN.{replicate}
