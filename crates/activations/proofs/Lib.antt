@@ -1,4 +1,5 @@
 pub mod MadeLaws
+pub mod CountLaws
 pub mod Computed
 pub mod Charts
 pub mod Examples

@@ -29,15 +29,17 @@ holderPort a v t = record { name = lastVar a v; ty = t }
 unfoldable pub holderEquation : Name → Name → Expr → Equation
 holderEquation a v i = eqn (lastVar a v) (eArrow i (ePre (eVar v)))
 
--- Activations: holders in order found, each LastUnknown, LastNeedsInit, or known to those that follow
+-- LastNeedsInit where there is no initial value, else the holder before what `rest` makes once it is known
+unfoldable pub withInit : Name → Name → Ty → Option Expr → (Port → Holding) → Holding
+withInit a v t none rest = unheld (lastNeedsInit a v)
+withInit a v t (some i) rest = also (holderPort a v t) (holderEquation a v i) (rest (holderPort a v t))
+
+-- LastUnknown where the variable has no type; the given initial value stays, else its type's
+unfoldable pub withType : List Enum → Name → Sought → Option Ty → (Port → Holding) → Holding
+withType es a h none rest = unheld (lastUnknown a (h .var))
+withType es a h (some t) rest = withInit a (h .var) t (firstOf (h .init) (startOf es t)) rest
+
+-- Activations: holders in order found, each known to those that follow
 unfoldable pub hold : List Enum → Name → List Port → List Port → List Sought → Holding
 hold es a env outs [] = held [] []
-hold es a env outs (h ∷ hs) =
-    elim (typed env outs (h .var)) [
-      | none ↦ unheld (lastUnknown a (h .var))
-      | some t ↦
-          elim (firstOf (h .init) (startOf es t)) [
-            | none ↦ unheld (lastNeedsInit a (h .var))
-            | some i ↦ also (holderPort a (h .var) t) (holderEquation a (h .var) i) (hold es a (env ++ (holderPort a (h .var) t ∷ [])) outs hs)
-          ]
-    ]
+hold es a env outs (h ∷ hs) = withType es a h (typed env outs (h .var)) (λ p. hold es a (env ++ (p ∷ [])) outs hs)

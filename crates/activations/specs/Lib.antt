@@ -1,5 +1,6 @@
 pub mod Refusals
 pub mod MadeNames
+pub mod Vars
 pub mod LastCalls
 pub mod Misused
 pub mod Sought

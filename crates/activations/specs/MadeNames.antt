@@ -1,6 +1,8 @@
 -- The names that lowering an activation makes; branches count from 0 here and from 1 in names.
 use mathlib.Core.List.{[], _∷_, _++_}
+use mathlib.Core.Bool.{cond}
 use Prim.Native.Nat.{ℕ, zero, suc}
+use lib.Dec.{ltb}
 use Rattle.pack.specs.Names.{Name}
 use Rattle.wire.specs.Decimal.{decimal}
 
@@ -29,6 +31,10 @@ clockVar a (suc k) = madeName a 103 (decimal (suc (suc k)))
 pub data Scope : Type 0 where
   branch : ℕ → Scope
   other : Scope
+
+-- as `tag` in 001 counts them: the scope k of n branches, the else scope after them
+unfoldable pub scopeAt : ℕ → ℕ → Scope
+scopeAt n k = cond (ltb k n) (branch k) other
 
 -- a scope's tag in names: the branch's number, or `e`
 unfoldable pub tag : Scope → Name
