@@ -6,21 +6,18 @@ use mathlib.Core.List.{List, _++_}
 use mathlib.Core.Path.{_≡_, refl, sym, ap, _∙_}
 use lib.ListN.{getD}
 use borrow.Author.Tests.{eq-eqb, ne-eqb, lt-ltb, le-ltb}
-use Rattle.wire.specs.Code.{onward}
 use Rattle.wire.specs.Writer.{State}
-use Rattle.wire.specs.declared.answer.Skipped.{Skipped}
-use Rattle.wire.specs.declared.answer.Skipped.the-variants as sk
 use Rattle.pack.specs.Limits.{absent}
 use Rattle.pack.specs.Names.{Name}
-use Rattle.pack.specs.Read.{optionalIn, portsIn}
-use Rattle.pack.specs.Verdict.{offsetOf}
+use Rattle.pack.specs.Read.{portsIn}
 use Rattle.pack.specs.Write.{Item}
 use Rattle.pack.specs.Intern.{render}
 use Rattle.pack.proofs.Interns.{render-append}
 use Rattle.machines.specs.declared.sure.Num.{Num}
 use Rattle.machines.specs.Stands.{endOf}
 use Rattle.machines.specs.Sure.{numberIn}
-use Rattle.machines.specs.Brought.{bringsEquationsT, bringsLocalsT, eachT, equationCountT, localCountT, localsIn, madeOf, outputsIn, ownedT, regionsT, smallOf, totalT}
+use Rattle.machines.specs.Tables.{outputsIn}
+use Rattle.machines.specs.Brought.{bringsEquationsT, bringsLocalsT, eachT, equationCountT, localCountT, localsIn, madeOf, ownedT, regionsT, smallOf, totalT}
 use Rattle.machines.proofs.SureLaws.{on}
 
 total-step : (f : ℕ → ℕ) (m i : ℕ) → totalT f (suc m) i ≡ f i + totalT f m (suc i)
@@ -98,10 +95,6 @@ module _ (s mats : List ℕ) (i a : ℕ) (m o : Num) (e : a ≡ getD mats i 0) (
   owned-yes h = on m _ _ 1 (f ∙ ap (numberIn s) e) (on o _ _ 1 g (rw (ne-eqb (o .value) 65535 h)))
 
 module _ (ns : List Name) (s : List ℕ) where
-  pub outputs-is : (at : ℕ) (o a : Skipped) (r : ℕ) → o ≡ onward (optionalIn ns s) (sk.To at) → a ≡ onward (portsIn ns s) o → r ≡ offsetOf a → r ≡ outputsIn ns s at
-  unfolding outputsIn
-  outputs-is at o a r x y z = z ∙ ap offsetOf (y ∙ ap (onward (portsIn ns s)) x)
-
   pub locals-is : (at : ℕ) (m : Num) (o r : ℕ) → m ≡ numberIn s at → o ≡ outputsIn ns s (m .next) → r ≡ endOf (portsIn ns s o) → r ≡ localsIn ns s at
   unfolding localsIn
   locals-is at m o r x y z = on m _ _ r x (z ∙ ap (λ k. endOf (portsIn ns s k)) y)

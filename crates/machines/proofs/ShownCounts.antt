@@ -23,8 +23,9 @@ use Rattle.machines.specs.Lower.{sizeS}
 use Rattle.machines.specs.Sections.{Fate, Share, alone, bringsCount, broughtCount, enumCount, equationCount, fateMachine, fateOf, headCount, into, localCount, oldCount, originCount, shareMachine, total}
 use Rattle.machines.specs.Stands.{endOf}
 use Rattle.machines.specs.Sure.{num, numberIn, with}
+use Rattle.machines.specs.Tables.{outputsIn}
 use Rattle.machines.specs.Shown.{PackOf, Shown, ShownAt}
-use Rattle.machines.specs.Brought.{bringsEquationsT, bringsLocalsT, equationCountT, localCountT, localsIn, madeOf, nodeEquationsIn, nodeLocalsIn, oldT, outputsIn, ownedT, regionsT, smallOf, totalT}
+use Rattle.machines.specs.Brought.{bringsEquationsT, bringsLocalsT, equationCountT, localCountT, localsIn, madeOf, nodeEquationsIn, nodeLocalsIn, oldT, ownedT, regionsT, smallOf, totalT}
 use Rattle.machines.proofs.Reading.{MachineRead, NumberIs, machine-value, many-cut, many-more, many-over, name-number, optional-none, optional-some}
 use Rattle.machines.proofs.SureLaws.{byte-to, end-to, number-num, number-to, then-to}
 use Rattle.machines.proofs.BroughtLaws.{small-is}

@@ -9,11 +9,12 @@ use Rattle.wire.specs.Code.{onward}
 use Rattle.wire.specs.declared.answer.Skipped.the-variants as sk
 use Rattle.pack.specs.Limits.{absent}
 use Rattle.pack.specs.Names.{Name}
-use Rattle.pack.specs.Read.{equationsIn, optionalIn, portsIn}
+use Rattle.pack.specs.Read.{equationsIn, portsIn}
 use Rattle.pack.specs.Verdict.{offsetOf}
 use Rattle.pack.specs.Write.{Item, each, portItems, raw}
 use Rattle.machines.specs.Stands.{endOf}
 use Rattle.machines.specs.Sure.{byteIn, numberIn, with}
+use Rattle.machines.specs.Tables.{outputsIn}
 use Rattle.machines.specs.Laid.{sliceOf}
 use Rattle.machines.specs.Lower.{regionLocals}
 use Rattle.machines.specs.Locals.{innerLocals}
@@ -49,16 +50,13 @@ unfoldable pub originT : ℕ → ℕ → ℕ → ℕ → List Item
 originT o m f e = raw (two o) ∷ raw (0 ∷ []) ∷ raw (two m) ∷ raw (two f) ∷ raw (two (f + e)) ∷ raw (two 0) ∷ []
 
 module _ (ns : List Name) (s : List ℕ) where
-  -- from a machine's owner to its outputs; from the machine to its own locals
-  unfoldable pub outputsIn : ℕ → ℕ
-  outputsIn at = offsetOf (onward (portsIn ns s) (onward (optionalIn ns s) (sk.To at)))
-
+  -- from a machine to its own locals
   unfoldable pub localsIn : ℕ → ℕ
-  localsIn at = with (numberIn s at) λ m p. endOf (portsIn ns s (outputsIn p))
+  localsIn at = with (numberIn s at) λ m p. endOf (portsIn ns s (outputsIn ns s p))
 
   -- how many equations and locals the machine drawn at `at` makes with k regions
   unfoldable pub equationCountT : ℕ → ℕ → ℕ
-  equationCountT at k = with (numberIn s at) λ m p. with (numberIn s (outputsIn p)) λ v q. madeOf k v
+  equationCountT at k = with (numberIn s at) λ m p. with (numberIn s (outputsIn ns s p)) λ v q. madeOf k v
 
   unfoldable pub localCountT : ℕ → ℕ → ℕ
   localCountT at k = with (numberIn s (localsIn at)) λ v q. madeOf k v

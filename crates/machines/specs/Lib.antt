@@ -27,5 +27,7 @@ pub mod Judging
 pub mod Shown
 pub mod Brought
 pub mod NodeHeads
+pub mod Relaid
+pub mod Parts
 pub mod Judges
 pub mod Call

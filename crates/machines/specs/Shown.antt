@@ -1,6 +1,7 @@
 -- What the tables of machines stand for: for each machine where it is drawn, the node it goes to, and how many regions it has.
 use Prim.Native.Nat.{ℕ, suc, _<_}
 use mathlib.Core.List.{List, [], _∷_}
+use mathlib.Core.Option.{none}
 use mathlib.Core.Path.{_≡_}
 use lib.ListN.{length, getD}
 use Rattle.wire.specs.Answer.{value}
@@ -11,8 +12,9 @@ use Rattle.pack.specs.Forms.{nameAt}
 use Rattle.pack.specs.Legal.{Fresh, LegalName}
 use Rattle.pack.specs.Read.{machineIn}
 use Rattle.pack.specs.Write.{enc}
-use Rattle.machines.specs.Resolve.{asMachine}
+use Rattle.machines.specs.Resolve.{asMachine, resolvedStates, went}
 use Rattle.machines.specs.Lower.{sizeS}
+use Rattle.machines.specs.Checks.{refusalOf}
 use Rattle.machines.specs.Emits.{packName}
 use Rattle.machines.specs.Sections.{Share, fateOf}
 
@@ -40,3 +42,14 @@ pub record ShownAt (ns : List Name) (s mats ats regs : List ℕ) (i : ℕ) (x : 
 unfoldable pub Shown : List Name → List ℕ → List ℕ → List ℕ → List ℕ → ℕ → List Share → Type 0
 Shown ns s mats ats regs i [] = Unit {0}
 Shown ns s mats ats regs i (x ∷ xs) = ShownAt ns s mats ats regs i x × Shown ns s mats ats regs (suc i) xs
+
+-- the same, of a machine that resolves among the machines ms and is not refused
+pub record LoweredAt (ms : List Drawing) (ns : List Name) (s mats ats regs : List ℕ) (i : ℕ) (x : Share) : Type 0 where
+  pub shown : ShownAt ns s mats ats regs i x
+  pub count : ℕ
+  pub resolves : resolvedStates ms (shown .drawing) ≡ went (shown .states) count
+  pub accepted : refusalOf (asMachine (shown .drawing) (shown .states)) ≡ none
+
+unfoldable pub Lowered : List Drawing → List Name → List ℕ → List ℕ → List ℕ → List ℕ → ℕ → List Share → Type 0
+Lowered ms ns s mats ats regs i [] = Unit {0}
+Lowered ms ns s mats ats regs i (x ∷ xs) = LoweredAt ms ns s mats ats regs i x × Lowered ms ns s mats ats regs (suc i) xs

@@ -3,7 +3,7 @@
 use crate::sure::number;
 use crate::sure::reached;
 use crate::table::entry;
-use pack::parts::then_optional;
+use crate::table::to_outputs;
 use pack::parts::then_ports;
 use wire::answer::Skipped;
 ghost use mathlib.Core.List.{List};
@@ -13,7 +13,7 @@ ghost use lib.ListN.{length};
 ghost use Rattle.pack.specs.Names.{Name};
 ghost use Rattle.pack.specs.Read.{portsIn};
 ghost use Rattle.machines.specs.Stands.{endOf};
-ghost use Rattle.machines.specs.Brought.{totalT, smallOf, madeOf, regionsT, ownedT, outputsIn, localsIn, equationCountT, localCountT, bringsEquationsT, bringsLocalsT};
+ghost use Rattle.machines.specs.Brought.{totalT, smallOf, madeOf, regionsT, ownedT, localsIn, equationCountT, localCountT, bringsEquationsT, bringsLocalsT};
 
 // A count of a pack: nothing from 65,536 on is looked at.
 pub fn small(k: usize) -> usize
@@ -36,16 +36,6 @@ fn made_count(regions: usize, own: usize) -> usize
     let k = inner_count(regions);
     let n = small(own);
     2 + 3 * k + n
-}
-
-// From a machine's owner to its outputs.
-pub fn to_outputs(s: &[u8], names: usize, at: usize) -> usize
-    requires { ⌜ length (now s) ≤ 65536 ⌝ }
-    ensures { λ r. ⌜ ((ns : List Name) → length ns ≡ names → r ≡ outputsIn ns (now (s .entry)) at) ⌝ }
-{
-    let o = then_optional(s, names, Skipped::To(at));
-    let a = then_ports(s, names, o);
-    reached(a)
 }
 
 pub fn after_ports(s: &[u8], names: usize, at: usize) -> usize
