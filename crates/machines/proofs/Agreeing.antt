@@ -24,7 +24,7 @@ use Rattle.machines.specs.Sure.{machineFrom, numberIn, regionIn, with}
 use Rattle.machines.specs.Tables.{lenOf}
 use Rattle.machines.specs.Paths.{pushedOf}
 use Rattle.machines.specs.Walks.{enterW, goOn, headT, lenAt, maxOf, qualifyOf, refineW, regionW, rounds, stateW, walk}
-use Rattle.machines.specs.Same.{Same, fitR, fitS, goes, stops, whyOf}
+use Rattle.machines.specs.Same.{Same, Why, WithinNames, fitR, fitS, goes, stops, whyOf}
 use Rattle.machines.proofs.Reading.{many-cut, many-end, many-more, many-over, optional-none, optional-some, region-none, region-value, state-value}
 use Rattle.machines.proofs.Standing.{Found}
 use Rattle.machines.proofs.SureLaws.{machine-to, number-to, region-to, then-to}
@@ -63,7 +63,7 @@ module _ (ns : List Name) (s spots to : List ℕ) (top : Name) (ms : List Drawin
   regions-same zero low f (suc levels) (suc n) at path p (x ∷ rs) q c a fu fw kn r =
       let d = many-more (regionAt (suc levels) ns s) n at x rs q r in
       let b = region-value ns s levels at x (d .0) (d .1) in
-      stops refl (stays ns top (regionW ns s spots to (W zero) p at c) _ (tooLarge top) (ap (whyOf ns top) (then-to (regionIn s at) (b .k) (b .b) _ (region-to ns s at (x .initial) (x .history) (b .k) (b .b) (b .head))) ∙ large-why ns top))
+      stops refl (stays ns top (regionW ns s spots to (W zero) p at c) _ (tooLarge top) (subst (λ v. Why ns top v (tooLarge top)) (sym (then-to (regionIn s at) (b .k) (b .b) _ (region-to ns s at (x .initial) (x .history) (b .k) (b .b) (b .head)))) (large-why ns top)))
   regions-same (suc l) low f (suc levels) (suc n) at path p (x ∷ rs) q c a fu fw kn r =
       let d = many-more (regionAt (suc levels) ns s) n at x rs q r in
       let b = region-value ns s levels at x (d .0) (d .1) in
@@ -80,17 +80,17 @@ module _ (ns : List Name) (s spots to : List ℕ) (top : Name) (ms : List Drawin
 
   -- where the refinement x of the state i leads, with l levels left
   enter-both : (B : Type 0) (th : ℕ → B → Bool) (z : ℕ) (path : List Name) (p : Path) (l i x c : ℕ) (enter : Drawing → ℕ → ℕ → Walk Target) (k : Target → ℕ → Walk B) (j : ℕ → ℕ → ℕ → Walked)
-      → Knows ns l path p → x < length ns → (x ≡ absent → ⊥)
+      → Knows ns l path p → i < length ns → x < length ns → (x ≡ absent → ⊥)
       → ((d : Drawing) (g : Found ns s (λ j. getD to j 0) x d) → d .name ≡ nameAt ns x → Same ns top th z (walkOn (enter d l c) k) (j (g .b) (g .k) (lenAt s spots (getD to x 0))))
       → Same ns top th z (walkOn (refineWith top ms path enter l (nameAt ns i) (nameAt ns x) c) k) (goOn (enterW s spots to p i x) j)
-  unfolding refineWith enterW walkOn goOn whyOf
-  enter-both B th z path p l i x c enter k j kn xs xn h = rw (kn .same x xs xn) (go (member (nameAt ns x) path) (machineOf ms (nameAt ns x)) refl)
+  unfolding refineWith enterW walkOn goOn whyOf WithinNames
+  enter-both B th z path p l i x c enter k j kn is xs xn h = rw (kn .same x xs xn) (go (member (nameAt ns x) path) (machineOf ms (nameAt ns x)) refl)
     where
       go : (b : Bool) (o : Option Drawing) → machineOf ms (nameAt ns x) ≡ o
           → Same ns top th z (walkOn (elim b [ true ↦ stop (refineCycle top (nameAt ns x)) | false ↦ elim o [ none ↦ stop (unknownRefine top (nameAt ns i) (nameAt ns x)) | some m ↦ enter m l c ] ]) k)
           (goOn (cond b (wk.Cycle x) (cond (eqb (getD to x 0) 0) (wk.Unknown i x) (with (machineFrom s (getD to x 0)) λ k b. wk.Went b k (lenAt s spots (getD to x 0))))) j)
-      go true o e = stops refl refl
-      go false none e = rw (eq-eqb (getD to x 0) 0 (places .misses x xs e)) (stops refl refl)
+      go true o e = stops refl (refl, xs)
+      go false none e = rw (eq-eqb (getD to x 0) 0 (places .misses x xs e)) (stops refl (refl, (is, xs)))
       go false (some d) e =
           let g = places .finds x d xs e in
           rw (ne-eqb (getD to x 0) 0 (places .hits x d xs e), then-to (machineFrom s (getD to x 0)) (g .k) (g .b) (λ k b. wk.Went b k (lenAt s spots (getD to x 0))) (machine-to ns s (getD to x 0) (d .initial) (g .k) (g .b) (g .head)))
@@ -103,13 +103,13 @@ module _ (ns : List Name) (s spots to : List ℕ) (top : Name) (ms : List Drawin
       (goOn (enterW s spots to p i x) (λ o k f. goOn (W l (pushedOf p x) k o c) (λ q d w. qualifyOf (lenOf s spots i) (maxOf f w) b e d)))
   unfolding refineAt walk deeper walkOn goOn
   enter-same l low zero path p i x qs e c h b fu kn is xs xn law =
-      enter-both Regions (fitR h) e path p l i x c _ _ _ kn xs xn (λ d g named.
+      enter-both Regions (fitR h) e path p l i x c _ _ _ kn is xs xn (λ d g named.
       let z : l ≡ 0 = omega arith in
       same-by ns top (fitR h) e _ _ _ _ refl (ap (λ y. goOn (W y (pushedOf p x) (g .k) (g .b) c) (λ q d w. qualifyOf (lenOf s spots i) (maxOf (lenAt s spots (getD to x 0)) w) b e d)) z) (stops refl (large-why ns top)))
   enter-same zero low (suc f) path p i x qs e c h b fu kn is xs xn law =
-      enter-both Regions (fitR h) e path p zero i x c _ _ _ kn xs xn (λ d g named. stops refl (large-why ns top))
+      enter-both Regions (fitR h) e path p zero i x c _ _ _ kn is xs xn (λ d g named. stops refl (large-why ns top))
   enter-same (suc l) low (suc f) path p i x qs e c h b fu kn is xs xn law =
-      enter-both Regions (fitR h) e path p (suc l) i x c _ _ _ kn xs xn (λ d g named.
+      enter-both Regions (fitR h) e path p (suc l) i x c _ _ _ kn is xs xn (λ d g named.
       let u = low l refl f (maxLevel - 1) (g .k) (g .b) (d .name ∷ path) (pushedOf p x) (g .xs) (g .q) c 0 (omega arith) (omega arith) (push ns l path p x (d .name) fresh kn xs named) (g .reads) in
       same-by ns top (fitR h) e _ _ _ _ (walkOn-assoc (resolveS top (R f (d .name ∷ path)) l (d .states) c) _ _) refl
       (same-onward ns top (fitS 0) (g .q) (fitR h) e (resolveS top (R f (d .name ∷ path)) l (d .states) c) (W (suc l) (pushedOf p x) (g .k) (g .b) c) _ _

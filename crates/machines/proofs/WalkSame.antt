@@ -28,23 +28,23 @@ use Rattle.machines.specs.Sure.{num, numberIn, turns, with}
 use Rattle.machines.specs.Tables.{lenOf}
 use Rattle.machines.specs.Paths.{onOf, pushedOf, startOf}
 use Rattle.machines.specs.Walks.{goOn, headT, lenAt, maxOf, qualifyOf, targetT}
-use Rattle.machines.specs.Same.{Same, fitR, fitS, goes, stops, whyOf}
+use Rattle.machines.specs.Same.{Same, Why, WithinNames, fitR, fitS, goes, stops, whyOf}
 use Rattle.machines.proofs.Reading.{name-number}
 use Rattle.machines.proofs.SureLaws.{end-to, number-to, then-to}
 use Rattle.machines.proofs.NamesPlaced.{alone}
 use Rattle.machines.proofs.Lengths.{absorb, name-prefix, short-max, short-snoc, states-prefix}
 
 -- what stopped stays so
-pub stays : (ns : List Name) (top : Name) (v : Walked) (j : ℕ → ℕ → ℕ → Walked) (r : Refusal) → whyOf ns top v ≡ some r → whyOf ns top (goOn v j) ≡ some r
-unfolding whyOf goOn
-stays ns top (wk.Went q c a) j r e = let z : _≡_ {A = ℕ} 0 1 = cc in absurd (omega arith)
+pub stays : (ns : List Name) (top : Name) (v : Walked) (j : ℕ → ℕ → ℕ → Walked) (r : Refusal) → Why ns top v r → Why ns top (goOn v j) r
+unfolding whyOf goOn WithinNames
+stays ns top (wk.Went q c a) j r e = absurd (e .1)
 stays ns top (wk.Cycle i) j r e = e
 stays ns top (wk.Unknown i m) j r e = e
 stays ns top wk.Large j r e = e
 
-pub large-why : (ns : List Name) (top : Name) → whyOf ns top wk.Large ≡ some (tooLarge top)
-unfolding whyOf
-large-why ns top = refl
+pub large-why : (ns : List Name) (top : Name) → Why ns top wk.Large (tooLarge top)
+unfolding whyOf WithinNames
+large-why ns top = (refl, tt)
 
 -- one law carries every stop: both go on from what both came to
 pub same-onward : {A B : Type 0} (ns : List Name) (top : Name) (sh : ℕ → A → Bool) (q : ℕ) (th : ℕ → B → Bool) (z : ℕ) (w : Walk A) (v : Walked) (k : A → ℕ → Walk B) (j : ℕ → ℕ → ℕ → Walked)

@@ -24,7 +24,7 @@ use Rattle.machines.specs.Sure.{machineFrom}
 use Rattle.machines.specs.Tables.{lenOf, machinesPlaced, namesPlaced}
 use Rattle.machines.specs.Paths.{startOf}
 use Rattle.machines.specs.Walks.{machineW, walk}
-use Rattle.machines.specs.Same.{Same, fitS, goes, stops, whyOf}
+use Rattle.machines.specs.Same.{Same, WithinNames, fitS, goes, stops, whyOf}
 use Rattle.machines.proofs.Reading.{MachineRead}
 use Rattle.machines.proofs.Standing.{prefix-none, standing}
 use Rattle.machines.proofs.SureLaws.{machine-to, then-to}
@@ -56,8 +56,12 @@ unfolding whyOf
 went-why ns top v z c a y e f = let g : none ≡ some y = sym (ap (whyOf ns top) e) ∙ f in let x : _≡_ {A = ℕ} 0 1 = cc in omega arith
 
 pub same-stops : (ns : List Name) (top : Name) (q : ℕ) (w : Walk States) (v : Walked) → Same ns top (fitS 0) q w v → (y : Refusal) → whyOf ns top v ≡ some y → w ≡ stop y
-same-stops ns top q w v (stops {r} e f) y g = let i : r ≡ y = cc in e ∙ ap stop i
+same-stops ns top q w v (stops {r} e f) y g = let i : r ≡ y = let h = f .0 in cc in e ∙ ap stop i
 same-stops ns top q w v (goes {x} {c} {a} e f h) y g = absurd (went-why ns top v q c a y f g)
+
+pub same-within : (ns : List Name) (top : Name) (q : ℕ) (w : Walk States) (v : Walked) → Same ns top (fitS 0) q w v → (y : Refusal) → whyOf ns top v ≡ some y → WithinNames ns v
+same-within ns top q w v (stops {r} e f) y g = f .1
+same-within ns top q w v (goes {x} {c} {a} e f h) y g = absurd (went-why ns top v q c a y f g)
 
 pub record WentTo (w : Walk States) (q z m a : ℕ) : Type 0 where
   pub tree : States
@@ -67,7 +71,7 @@ pub record WentTo (w : Walk States) (q z m a : ℕ) : Type 0 where
 
 pub same-goes : (ns : List Name) (top : Name) (q : ℕ) (w : Walk States) (v : Walked) → Same ns top (fitS 0) q w v → (z m a : ℕ) → v ≡ wk.Went z m a → WentTo w q z m a
 unfolding fitS
-same-goes ns top q w v (stops {r} e f) z m a g = absurd (went-why ns top v z m a r g f)
+same-goes ns top q w v (stops {r} e f) z m a g = absurd (went-why ns top v z m a r g (f .0))
 same-goes ns top q w v (goes {x} {c} {a = b} e f h) z m a g =
     let y : wk.Went q c b ≡ wk.Went z m a = sym f ∙ g in
     let i : q ≡ z = cc in let j : c ≡ m = cc in let k : b ≡ a = cc in
@@ -96,6 +100,10 @@ module _ (s : List ℕ) (ns : List Name) (ms : List Drawing) (spots to : List �
     -- where the code stopped, resolving is refused for that reason
     pub walked-stops : (y : Refusal) → whyOf ns (d .name) (machineW ns s spots to x (m .to-initial)) ≡ some y → resolvedStates ms d ≡ stop y
     walked-stops y e = same-stops ns (d .name) q (resolvedStates ms d) _ machine-walked y e
+
+    -- and for names of the pack
+    pub walked-within : (y : Refusal) → whyOf ns (d .name) (machineW ns s spots to x (m .to-initial)) ≡ some y → WithinNames ns (machineW ns s spots to x (m .to-initial))
+    walked-within y e = same-within ns (d .name) q (resolvedStates ms d) _ machine-walked y e
 
     -- where it went through, resolving gives a tree of as many states, and the tree stands there
     pub walked-stands : (z n a : ℕ) → machineW ns s spots to x (m .to-initial) ≡ wk.Went z n a
