@@ -59,8 +59,8 @@ module _ (ns : List Name) (t lets : List ℕ) where
 
   unfoldable pub Says : Name → Checked → Refusal → Type 0
   Says m ck.Fine r = ⊥
-  Says m (ck.Initial q) r = r ≡ unknownInitial m (calledIn q (getD t q 0))
-  Says m (ck.Target p q x) r = r ≡ unknownTarget m (lettersAt t lets p) (calledIn q x)
+  Says m (ck.Initial q) r = (getD t q 0 < length ns) × (r ≡ unknownInitial m (calledIn q (getD t q 0)))
+  Says m (ck.Target p q x) r = (x < length ns) × (r ≡ unknownTarget m (lettersAt t lets p) (calledIn q x))
 
   abbrev pub Wrong : Name → Checked → Option Refusal → Type 0
   Wrong m c r = (x : Refusal) × (r ≡ some x) × Says m c x
@@ -136,12 +136,12 @@ module _ (ns : List Name) (s t reg lets : List ℕ) (fresh : Fresh [] ns) (m : N
         ∙ number-to s (b .1) (v .i) (a .0) (λ i w. cond (hasT s t q i) (movesChecked ns s t q p n w) (ck.Target p q i)) (v .is)
         ∙ ap (λ y. cond y (movesChecked ns s t q p n (a .0)) (ck.Target p q (v .i))) h in
         subst (λ y. Tells ns t lets m y (elim (member (pre ++ x .target) all) [ true ↦ badTarget m (lettersAt t lets p) all (prefixTransitions pre ts) | false ↦ some (unknownTarget m (lettersAt t lets p) (pre ++ x .target)) ])) (sym k)
-        (go _ (v .i) (member (pre ++ x .target) all) (moves-link p n (a .0) ts z (a .2)) (ap (λ y. y ++ nameAt ns (v .i)) called ∙ ap (λ y. pre ++ y) tg))
+        (go _ (v .i) (member (pre ++ x .target) all) (v .small) (moves-link p n (a .0) ts z (a .2)) (ap (λ y. y ++ nameAt ns (v .i)) called ∙ ap (λ y. pre ++ y) tg))
       where
-        go : (c : Checked) (i : ℕ) (b : Bool) → Tells ns t lets m c (badTarget m (lettersAt t lets p) all (prefixTransitions pre ts)) → prefixOf (lettersAt t lets q) ++ nameAt ns i ≡ pre ++ x .target
+        go : (c : Checked) (i : ℕ) (b : Bool) → i < length ns → Tells ns t lets m c (badTarget m (lettersAt t lets p) all (prefixTransitions pre ts)) → prefixOf (lettersAt t lets q) ++ nameAt ns i ≡ pre ++ x .target
             → Tells ns t lets m (cond b c (ck.Target p q i)) (elim b [ true ↦ badTarget m (lettersAt t lets p) all (prefixTransitions pre ts) | false ↦ some (unknownTarget m (lettersAt t lets p) (pre ++ x .target)) ])
-        go c i true ih f = ih
-        go c i false ih f = inr (unknownTarget m (lettersAt t lets p) (pre ++ x .target), refl, ap (unknownTarget m (lettersAt t lets p)) (sym f))
+        go c i true lt ih f = ih
+        go c i false lt ih f = inr (unknownTarget m (lettersAt t lets p) (pre ++ x .target), refl, (lt, ap (unknownTarget m (lettersAt t lets p)) (sym f)))
 
     targets-link : (p tr z : ℕ) (ts tts : List Transition) (full : Name) → getD t (p + 1) 0 ≡ tr → counted (transitionIn ns s) s tr ≡ value ts z → lettersAt t lets p ≡ full → tts ≡ prefixTransitions pre ts
         → Tells ns t lets m (targetsT ns s t q p) (badTarget m full all tts)
@@ -163,13 +163,13 @@ module _ (ns : List Name) (s t reg lets : List ℕ) (fresh : Fresh [] ns) (m : N
   unfolding lettersAt
   region-called w row f = (λ i. prefixOf (sliceOf lets (row .letter i) (row .letters i))) ∙ f
 
-  open-link : (c : Checked) (w x : ℕ) (full : Name) (r e : Option Refusal) (d : Checked) (f h : Bool) (b : Bool) → hasT s t w (getD t w 0) ≡ b → full ≡ calledIn ns t lets w (getD t w 0)
+  open-link : (c : Checked) (w x : ℕ) (full : Name) (r e : Option Refusal) (d : Checked) (f h : Bool) (b : Bool) → getD t w 0 < length ns → hasT s t w (getD t w 0) ≡ b → full ≡ calledIn ns t lets w (getD t w 0)
       → (b ≡ true → TellsAll ns t lets m c r f) → (f ≡ false → TellsAll ns t lets m d e h)
       → TellsAll ns t lets m (orThen (cond (hasT s t w (getD t w 0)) c (ck.Initial w)) d) (firstOf (cond b none (some (unknownInitial m full))) (firstOf r e)) h
   unfolding orThen firstOf Says
-  open-link c w x full r e d f h true u v k l = subst (λ y. TellsAll ns t lets m (orThen (cond y c (ck.Initial w)) d) (firstOf r e) h) (sym u) (in-order ns t lets m ck.Fine c d none r e f h (inl (refl, refl)) (k refl) l)
-  open-link c w x full r e d f h false u v k l =
-      subst (λ y. TellsAll ns t lets m (orThen (cond y c (ck.Initial w)) d) (some (unknownInitial m full)) h) (sym u) (inr (unknownInitial m full, refl, ap (unknownInitial m) v))
+  open-link c w x full r e d f h true lt u v k l = subst (λ y. TellsAll ns t lets m (orThen (cond y c (ck.Initial w)) d) (firstOf r e) h) (sym u) (in-order ns t lets m ck.Fine c d none r e f h (inl (refl, refl)) (k refl) l)
+  open-link c w x full r e d f h false lt u v k l =
+      subst (λ y. TellsAll ns t lets m (orThen (cond y c (ck.Initial w)) d) (some (unknownInitial m full)) h) (sym u) (inr (unknownInitial m full, refl, (lt, ap (unknownInitial m) v)))
 
   -- states of a region, and regions of a state
   mutual
@@ -189,7 +189,7 @@ module _ (ns : List Name) (s t reg lets : List ℕ) (fresh : Fresh [] ns) (m : N
     regions-link (rCons full b ss rest) (rMore {pre} {l} {k} {p} {x} {n} {f = f2} {h = h2} row rg lt fl pr fu st more) e =
         let ca = region-called p row pr in
         let hs : hasT s t p (getD t p 0) ≡ member full (namesOf ss) = ap (hasT s t p) (row .initial) ∙ region-has p x ss row lt st ∙ ap (λ y. member y (namesOf ss)) (sym fu) in
-        open-link _ p 0 full _ _ _ _ _ (member full (namesOf ss)) hs (fu ∙ (λ i. sym ca i ++ nameAt ns (sym (row .initial) i)))
+        open-link _ p 0 full _ _ _ _ _ (member full (namesOf ss)) (subst (λ y. y < length ns) (sym (row .initial)) lt) hs (fu ∙ (λ i. sym ca i ++ nameAt ns (sym (row .initial) i)))
         (λ z. subst (λ y. TellsAll ns t lets m (eachRow t (checkedState ns s t (checkedRegion ns s t l) p) y (p + 9)) (badS m (namesOf ss) ss) f2) (sym (row .states)) (states-link pre p (namesOf ss) ss ca (λ y h. region-has p y ss row h st) st (laid-some _ full ss st z ∙ e)))
         (λ z. subst (λ y. TellsAll ns t lets m (eachRow t (checkedRegion ns s t (suc l)) k y) (badR m rest) h2) (sym (row .after)) (regions-link rest more z))
     regions-link (rCons full b sNil rest) (rLeft more) e = let z : _≡_ {A = ℕ} 0 1 = cc in absurd (omega arith)
