@@ -56,6 +56,8 @@ pub mod Instance
 pub mod Overwriting
 pub mod EntryLaws
 pub mod EntryExample
+pub mod RefusalNames
+pub mod CalledNames
 pub mod BroughtLaws
 pub mod BroughtItems
 pub mod ShownCounts
