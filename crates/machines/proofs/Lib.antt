@@ -58,6 +58,8 @@ pub mod EntryLaws
 pub mod EntryExample
 pub mod RefusalNames
 pub mod CalledNames
+pub mod LaidJudged
+pub mod MachineJudged
 pub mod BroughtLaws
 pub mod BroughtItems
 pub mod ShownCounts

@@ -28,12 +28,12 @@ use Rattle.machines.proofs.Standing.{Found}
 use Rattle.machines.proofs.SureLaws.{number-to}
 use Rattle.machines.proofs.NamesPlaced.{NamesAre, alone}
 
-onward-to : {A : Type 0} (f : ℕ → Answer A) (at : ℕ) (x : A) (q : ℕ) → f at ≡ value x q → onward f (sk.To at) ≡ sk.To q
+pub onward-to : {A : Type 0} (f : ℕ → Answer A) (at : ℕ) (x : A) (q : ℕ) → f at ≡ value x q → onward f (sk.To at) ≡ sk.To q
 unfolding onward next skips skip
 onward-to f at x q e = rw e
 
 module _ (ns : List Name) (s : List ℕ) where
-  initial-to : (at : ℕ) (d : Drawing) (q : ℕ) → (r : MachineRead ns s at d q) → initialIn ns s (r .to-owner) ≡ r .to-initial
+  pub initial-to : (at : ℕ) (d : Drawing) (q : ℕ) → (r : MachineRead ns s at d q) → initialIn ns s (r .to-owner) ≡ r .to-initial
   unfolding initialIn offsetOf
   initial-to at d q r =
       ap (λ y. offsetOf (onward (portsIn ns s) (onward (portsIn ns s) (onward (portsIn ns s) y)))) (onward-to (optionalIn ns s) (r .to-owner) (d .owner) (r .to-inputs) (r .owner))
