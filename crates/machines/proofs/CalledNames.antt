@@ -2,12 +2,11 @@
 use Prim.Native.Nat.{ℕ, _+_, _<_, _≤_}
 use native.Mathlib.Omega.{arith}
 use mathlib.Core.List.{List, [], _∷_, _++_, append-assoc}
-use mathlib.Core.Bool.{Bool, true, false, cond}
+use mathlib.Core.Bool.{cond}
 use mathlib.Core.Path.{_≡_, refl, sym, ap, subst, _∙_}
 use lib.ListN.{length, getD, take, drop, take-append-drop}
 use lib.Seq.{drop-append-add, getD-append-seam, take-append-seam}
-use lib.Dec.{eqb, leb}
-use borrow.Author.Tests.{eq-eqb, lt-leb, ne-eqb}
+use borrow.Author.Tests.{lt-leb, ne-eqb}
 use Rattle.wire.specs.Lists.{All}
 use Rattle.pack.specs.Names.{Name}
 use Rattle.pack.specs.Forms.{nameAt}
@@ -17,7 +16,7 @@ use Rattle.pack.proofs.Tables.{enc-append}
 use Rattle.machines.specs.declared.refusal.Called.{Called}
 use Rattle.machines.specs.Laid.{prefixOf, sliceOf}
 use Rattle.machines.specs.Emits.{lettersAt, packName}
-use Rattle.machines.specs.Entries.{calledOf, entryBytes, namesOf}
+use Rattle.machines.specs.Entries.{calledOf, namesOf}
 use Rattle.machines.specs.Judging.{againCalled, calledAt, named, noName, refusedBy, stateCalled}
 use Rattle.machines.specs.JudgedAs.{RefusedAs}
 use Rattle.machines.proofs.NamesPlaced.{SpotAt, right-name}

@@ -2,9 +2,9 @@
 use Prim.Native.Nat.{ℕ, zero, suc, _≤_}
 use native.Mathlib.Omega.{arith}
 use mathlib.Core.List.{List, [], _∷_}
-use mathlib.Core.Bool.{Bool, true, _&&_, and-eq-true-iff}
+use mathlib.Core.Bool.{Bool, true, false, _&&_, and-eq-true-iff}
 use mathlib.Core.Option.{none, some}
-use mathlib.Core.Path.{_≡_, refl}
+use mathlib.Core.Path.{_≡_, refl, subst}
 use lib.ListN.{length, getD}
 use lib.Dec.{ltb}
 use borrow.Author.Tests.{ltb-true}
@@ -14,12 +14,19 @@ use Rattle.wire.specs.Lists.{Bytes}
 use Rattle.wire.specs.Preorder.{trees}
 use Rattle.pack.specs.Limits.{absent, maxLevel, maxName, maxStates}
 use Rattle.pack.specs.Names.{Name, eqName, member}
-use Rattle.pack.specs.Syntax.{Drawing, dCons, dNil, eBinary, eConst, lBool, lChar, oAnd, qNil, tBool, States}
+use Rattle.pack.specs.Syntax.{Drawing, dCons, dNil, eBinary, eConst, lBool, lChar, oAnd, qNil, rCons, rNil, sCons, sNil, tBool, States}
 use Rattle.pack.specs.Forms.{binOps, exprArity, exprAt, exprFields, exprHead, exprOf, exprOver, exprRows, exprsOf, firstType, flagOf, literal, literalOf, nameAt, nth, plainTypes, typeArity, typeAt, typeFields, typeHead, typeOf, typeOver}
 use Rattle.pack.specs.Read.{char, drawnOf, equationIn, equationsIn, exprIn, machineIn, name, nameByte, nameIn, nameSection, namesAfter, namesIn, optional, optionalIn, portIn, portsIn, regionAt, regionsOf, size, stateAt, stateWith, transitionIn, typeIn}
+use Rattle.pack.specs.Report.{asRefusal, firstOf}
 use Rattle.pack.specs.Verdict.{offsetOf}
 use Rattle.machines.specs.declared.walk.Walked.the-variants as wk
-use Rattle.machines.specs.Resolve.{resolvedStates, went}
+use Rattle.machines.specs.Resolve.{arrive, asMachine, asTarget, deeper, machineOf, prefixR, prefixS, prefixTransitions, refineAt, refineWith, resolveR, resolveS, resolvedStates, shortName, shortR, shortS, shortTargets, snoc, walkOn, went, withRefine, withTarget}
+use Rattle.machines.specs.Lower.{coversR, coversS, isOnly, isSome, namesOf, ownValue}
+use Rattle.machines.specs.Checks.{allNamesR, allNamesS, badInitial, badR, badS, badTarget, emptyTop, refusalOf, repeated, uncovered, uncoveredR, uncoveredS, unlessCovered, unlessOther}
+use Rattle.machines.specs.Machines.{accept, checked, judge, resolved}
+use Rattle.machines.specs.Judging.{boardAt, judgeAt}
+use Rattle.machines.specs.JudgedAs.{AcceptedAs, JudgedAs}
+use Rattle.machines.specs.Relaid.{Long}
 use Rattle.machines.specs.Lays.{layMachine}
 use Rattle.machines.specs.Stands.{StandsS, endOf}
 use Rattle.machines.specs.Sure.{byteIn, machineFrom, numberIn, regionIn, sureOf, turns, with}
@@ -32,6 +39,7 @@ use Rattle.machines.proofs.MachinesPlaced.{machines-placed}
 use Rattle.machines.proofs.Walked.{Ready, walked-stands}
 use Rattle.machines.proofs.LaidMachine.{LaidMachine}
 use Rattle.machines.proofs.WalkedLaid.{walked-laid, walked-tree}
+use Rattle.machines.proofs.MachineJudged.{read-judged}
 
 abbrev ns : List Name
 ns = (77 ∷ []) ∷ (111 ∷ []) ∷ (97 ∷ []) ∷ (78 ∷ []) ∷ (98 ∷ []) ∷ []
@@ -123,3 +131,20 @@ unfolding nameAt read-M
 laid-instance t reg lets lt lr ll st sr sl =
     let r = walked-tree s ns (M ∷ N ∷ []) (namesPlaced s 5 2 0 zeros) (machinesPlaced ns s 16 zeros) tables (small-bytes s bytes-here) 18 M 45 read-M 0 (omega arith) refl 45 2 3 walks in
     (r .states, r .resolves, walked-laid s ns (M ∷ N ∷ []) (namesPlaced s 5 2 0 zeros) (machinesPlaced ns s 16 zeros) tables (small-bytes s bytes-here) 18 M 45 read-M 0 (omega arith) refl 45 2 3 walks t reg lets lt lr ll st sr sl)
+
+-- M with its states resolved: the definition accepts it
+abbrev tree : States
+tree =
+    sCons (97 ∷ []) [] []
+    (rCons (97 ∷ 95 ∷ 98 ∷ []) false (sCons (97 ∷ 95 ∷ 98 ∷ []) (record { lhs = (111 ∷ []) ∷ []; rhs = eBinary oAnd (eConst (lBool true)) (eConst (lChar 65)) } ∷ []) [] rNil sNil) rNil) sNil
+
+accepted-here : judge (M ∷ N ∷ []) M ≡ accept (asMachine M tree)
+unfolding judge resolved checked resolvedStates resolveS resolveR refineAt refineWith deeper arrive withRefine withTarget walkOn machineOf asTarget asMachine prefixS prefixR prefixTransitions shortS shortR shortTargets shortName snoc firstOf member eqName maxLevel maxName maxStates refusalOf emptyTop repeated allNamesS allNamesR badInitial badS badR badTarget namesOf uncovered uncoveredS uncoveredR unlessCovered unlessOther coversR coversS isSome ownValue isOnly asRefusal
+accepted-here = refl
+
+-- and so does the code, with two regions, whatever long tables held before
+judged-instance : (t reg lets : List ℕ) → Long t reg lets → AcceptedAs (M ∷ N ∷ []) M (asMachine M tree) (judgeAt ns s (namesPlaced s 5 2 0 zeros) (machinesPlaced ns s 16 zeros) 18 t reg lets)
+unfolding JudgedAs
+judged-instance t reg lets long =
+    subst (λ j. JudgedAs s (namesPlaced s 5 2 0 zeros) (boardAt ns s (namesPlaced s 5 2 0 zeros) (machinesPlaced ns s 16 zeros) 18 t reg lets .lets) (numberIn s 18 .value) (M ∷ N ∷ []) M j (judgeAt ns s (namesPlaced s 5 2 0 zeros) (machinesPlaced ns s 16 zeros) 18 t reg lets)) accepted-here
+    (read-judged s ns (M ∷ N ∷ []) (namesPlaced s 5 2 0 zeros) (machinesPlaced ns s 16 zeros) tables (small-bytes s bytes-here) 18 M 45 read-M t reg lets long)

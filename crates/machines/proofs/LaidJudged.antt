@@ -1,35 +1,33 @@
 -- A machine that is laid out is judged as its resolved tree is checked.
-use Prim.Native.Nat.{ℕ, zero, suc, _+_, _<_, _≤_}
+use Prim.Native.Nat.{ℕ, zero, suc, _<_, _≤_}
 use native.Mathlib.Omega.{arith}
-use mathlib.Core.List.{List, [], _∷_, _++_}
+use mathlib.Core.List.{List, [], _∷_}
 use mathlib.Core.Bool.{Bool, true, false, cond}
 use mathlib.Core.Option.{Option, none, some}
-use mathlib.Core.Logic.{_⊎_, inl, inr}
+use mathlib.Core.Logic.{inl, inr}
 use mathlib.Core.Path.{_≡_, refl, sym, ap, subst, _∙_}
 use lib.ListN.{length, getD, take, length-append}
 use lib.Dec.{eqb, ltb}
-use borrow.Author.Tests.{eq-eqb, eqb-false, eqb-true, le-ltb, lt-ltb, ne-eqb}
+use borrow.Author.Tests.{eq-eqb, le-ltb, lt-ltb, ne-eqb}
 use Rattle.wire.specs.Answer.{counted, many, u16, value}
 use Rattle.wire.specs.Lists.{All}
 use Rattle.wire.proofs.Answers.{bind-value, map-value}
 use Rattle.pack.specs.Names.{Name}
-use Rattle.pack.specs.Syntax.{Drawing, Machine, Port, States, rCons, rNil, sCons, sNil}
+use Rattle.pack.specs.Syntax.{Machine, Port, States, rCons, rNil, sCons, sNil}
 use Rattle.pack.specs.Forms.{nameAt}
 use Rattle.pack.specs.Legal.{Fresh}
 use Rattle.pack.specs.Read.{nameIn, portIn, portsIn, typeIn}
 use Rattle.pack.specs.Report.{Refusal, asRefusal, firstOf}
 use Rattle.pack.specs.Write.{enc}
 use Rattle.pack.proofs.Tables.{enc-append}
-use Rattle.machines.specs.declared.refusal.Called.{Called}
 use Rattle.machines.specs.declared.refusal.Judged.{Judged}
-use Rattle.machines.specs.declared.sure.Num.{Num}
 use Rattle.machines.specs.declared.valid.Checked.{Checked}
 use Rattle.machines.specs.declared.valid.Checked.the-variants as ck
 use Rattle.machines.specs.Refusals.{duplicateState, noStates, unassigned, unknownInitial, unknownTarget}
-use Rattle.machines.specs.Resolve.{asMachine, shortS}
+use Rattle.machines.specs.Resolve.{shortS}
 use Rattle.machines.specs.Stands.{endOf}
-use Rattle.machines.specs.Sure.{num, numberIn, with}
-use Rattle.machines.specs.Laid.{HeldR, LaidR, LaidS, lEnd, lMore, rMore}
+use Rattle.machines.specs.Sure.{num, numberIn}
+use Rattle.machines.specs.Laid.{HeldR, LaidR, lEnd, lMore, rMore}
 use Rattle.machines.specs.Lays.{Board}
 use Rattle.machines.specs.Lower.{namesOf, sizeS}
 use Rattle.machines.specs.Checks.{allNamesS, badInitial, badS, emptyTop, refusalOf, repeated, uncovered, uncoveredS}
@@ -39,14 +37,14 @@ use Rattle.machines.specs.Repeats.{againAt}
 use Rattle.machines.specs.Valid.{checkedRegion}
 use Rattle.machines.specs.Judging.{acceptedWith, againCalled, calledAt, checkedJ, laidJ, named, noName, outputsAt, outputsJ, refusedBy, stateCalled}
 use Rattle.machines.specs.JudgedAs.{RefusedAs}
-use Rattle.machines.proofs.Reading.{many-cut, many-end, many-more, many-over, name-number}
+use Rattle.machines.proofs.Reading.{many-cut, many-more, many-over, name-number}
 use Rattle.machines.proofs.SureLaws.{end-to, number-num, number-to}
 use Rattle.machines.proofs.NamesPlaced.{SpotAt}
 use Rattle.machines.proofs.RepeatLaws.{Again, Said, repeated-said}
-use Rattle.machines.proofs.Validated.{Says, TellsAll, Wrong, calledIn, machine-valid}
+use Rattle.machines.proofs.Validated.{Says, TellsAll, calledIn, machine-valid}
 use Rattle.machines.proofs.Covered.{uncovered-machine}
 use Rattle.machines.proofs.LaidMachine.{LaidMachine}
-use Rattle.machines.proofs.RefusalNames.{Fair, Lettered, Of, Short, fair-target, laid-lettered, machine-fair, of-some, repeated-told, uncovered-told}
+use Rattle.machines.proofs.RefusalNames.{Fair, Lettered, Short, fair-target, laid-lettered, machine-fair, of-some, repeated-told, uncovered-told}
 use Rattle.machines.proofs.CalledNames.{called-again, called-inside, called-name, called-no, called-state, refused-as}
 
 first-assoc : {A : Type 0} (a b c : Option A) → firstOf a (firstOf b c) ≡ firstOf (firstOf a b) c

@@ -1,12 +1,12 @@
 -- A machine that was read is judged as the definition judges it.
-use Prim.Native.Nat.{ℕ, suc, _+_, _*_, _<_, _≤_}
+use Prim.Native.Nat.{ℕ, suc, _+_, _<_, _≤_}
 use native.Mathlib.Omega.{arith}
 use mathlib.Core.List.{List, [], _∷_, _++_}
 use mathlib.Core.Bool.{false}
 use mathlib.Core.Option.{Option, none, some}
 use mathlib.Core.Path.{_≡_, refl, sym, ap, subst, _∙_}
 use lib.ListN.{length, getD}
-use Rattle.wire.specs.Answer.{u16, value}
+use Rattle.wire.specs.Answer.{value}
 use Rattle.wire.specs.Lists.{All, Bytes}
 use Rattle.wire.proofs.Answers.{u16-value}
 use Rattle.wire.specs.Code.{onward}
@@ -32,13 +32,13 @@ use Rattle.machines.specs.Walks.{machineW}
 use Rattle.machines.specs.Same.{WithinNames, whyOf}
 use Rattle.machines.specs.Lays.{Board, board, lay, layMachine}
 use Rattle.machines.specs.Entries.{calledOf}
-use Rattle.machines.specs.Judging.{acceptedWith, boardAt, judgeAt, laidAt, laidJ, layAt, named, noName, refusedBy, walkAt, walkedB, walkedJ}
+use Rattle.machines.specs.Judging.{boardAt, judgeAt, laidAt, laidJ, layAt, named, noName, refusedBy, walkAt, walkedB, walkedJ}
 use Rattle.machines.specs.JudgedAs.{JudgedAs, RefusedAs}
 use Rattle.machines.specs.Relaid.{Long}
 use Rattle.machines.proofs.Reading.{MachineRead, NumberIs, machine-value, name-number}
 use Rattle.machines.proofs.SureLaws.{number-num, number-to}
 use Rattle.machines.proofs.NamesPlaced.{NamesAre, spot-length}
-use Rattle.machines.proofs.MachinesPlaced.{initial-to, onward-to}
+use Rattle.machines.proofs.MachinesPlaced.{initial-to, outputs-to}
 use Rattle.machines.proofs.Walked.{Ready, walked-stops, walked-within}
 use Rattle.machines.proofs.WalkedLaid.{walked-laid, walked-tree}
 use Rattle.machines.proofs.RefusalNames.{Lettered, Short}
@@ -89,12 +89,6 @@ module _ (s : List ℕ) (ns : List Name) (ms : List Drawing) (spots to : List �
   number : numberIn s at ≡ num (own .i) (m .to-owner)
   number = number-num s at (own .i) (m .to-owner) (own .is)
 
-  outputs-to : outputsIn ns s (m .to-owner) ≡ m .to-outputs
-  unfolding outputsIn offsetOf
-  outputs-to =
-      ap (λ y. offsetOf (onward (portsIn ns s) y)) (onward-to (optionalIn ns s) (m .to-owner) (d .owner) (m .to-inputs) (m .owner))
-      ∙ ap offsetOf (onward-to (portsIn ns s) (m .to-inputs) (d .inputs) (m .to-outputs) (m .inputs))
-
   abbrev walk : Walked
   walk = machineW ns s spots to (own .i) (m .to-initial)
 
@@ -111,7 +105,7 @@ module _ (s : List ℕ) (ns : List Name) (ms : List Drawing) (spots to : List �
 
   laid-is : (b : Board) → laidAt ns s spots to at b ≡ laidJ ns s (b .t) (b .lets) (b .c .letters) (b .c .regions) (m .to-outputs)
   unfolding laidAt
-  laid-is b = ap (λ (y : Num). laidJ ns s (b .t) (b .lets) (b .c .letters) (b .c .regions) (outputsIn ns s (y .next))) number ∙ ap (laidJ ns s (b .t) (b .lets) (b .c .letters) (b .c .regions)) outputs-to
+  laid-is b = ap (λ (y : Num). laidJ ns s (b .t) (b .lets) (b .c .letters) (b .c .regions) (outputsIn ns s (y .next))) number ∙ ap (laidJ ns s (b .t) (b .lets) (b .c .letters) (b .c .regions)) (outputs-to ns s at d q m)
 
   -- a walk that stopped
   module _ (l : List ℕ) (v : Walked) (e : walk ≡ v) where

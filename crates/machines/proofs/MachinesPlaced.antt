@@ -22,17 +22,23 @@ use Rattle.pack.specs.Report.{firstOf}
 use Rattle.pack.specs.Verdict.{offsetOf}
 use Rattle.machines.specs.Resolve.{machineOf}
 use Rattle.machines.specs.Stands.{MachineAt}
-use Rattle.machines.specs.Tables.{initialIn, machinesPlaced, placedFrom, statesEnd}
+use Rattle.machines.specs.Tables.{initialIn, machinesPlaced, outputsIn, placedFrom, statesEnd}
 use Rattle.machines.proofs.Reading.{MachineRead, bind-is, machine-value, many-cut, many-more, many-over, name-number}
 use Rattle.machines.proofs.Standing.{Found}
 use Rattle.machines.proofs.SureLaws.{number-to}
 use Rattle.machines.proofs.NamesPlaced.{NamesAre, alone}
 
-pub onward-to : {A : Type 0} (f : ℕ → Answer A) (at : ℕ) (x : A) (q : ℕ) → f at ≡ value x q → onward f (sk.To at) ≡ sk.To q
+onward-to : {A : Type 0} (f : ℕ → Answer A) (at : ℕ) (x : A) (q : ℕ) → f at ≡ value x q → onward f (sk.To at) ≡ sk.To q
 unfolding onward next skips skip
 onward-to f at x q e = rw e
 
 module _ (ns : List Name) (s : List ℕ) where
+  pub outputs-to : (at : ℕ) (d : Drawing) (q : ℕ) → (r : MachineRead ns s at d q) → outputsIn ns s (r .to-owner) ≡ r .to-outputs
+  unfolding outputsIn offsetOf
+  outputs-to at d q r =
+      ap (λ y. offsetOf (onward (portsIn ns s) y)) (onward-to (optionalIn ns s) (r .to-owner) (d .owner) (r .to-inputs) (r .owner))
+      ∙ ap offsetOf (onward-to (portsIn ns s) (r .to-inputs) (d .inputs) (r .to-outputs) (r .inputs))
+
   pub initial-to : (at : ℕ) (d : Drawing) (q : ℕ) → (r : MachineRead ns s at d q) → initialIn ns s (r .to-owner) ≡ r .to-initial
   unfolding initialIn offsetOf
   initial-to at d q r =

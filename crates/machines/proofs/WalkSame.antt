@@ -1,5 +1,5 @@
 -- Steps that a walk over bytes and the resolving of a tree make together.
-use Prim.Native.Nat.{ℕ, _+_, _-_, _<_, zero, suc}
+use Prim.Native.Nat.{ℕ, _+_, _<_, zero, suc}
 use native.Mathlib.Omega.{arith}
 use mathlib.Core.List.{List, [], _∷_, _++_}
 use mathlib.Core.Bool.{Bool, true, false, cond, _&&_, _||_, and-true, and-assoc}
