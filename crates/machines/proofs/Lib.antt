@@ -64,3 +64,5 @@ pub mod ShownOrigins
 pub mod BeginningLaws
 pub mod ShownHeads
 pub mod ShownExample
+pub mod WholeLaid
+pub mod Relaying

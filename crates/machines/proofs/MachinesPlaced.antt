@@ -33,7 +33,7 @@ unfolding onward next skips skip
 onward-to f at x q e = rw e
 
 module _ (ns : List Name) (s : List ℕ) where
-  initial-to : (at : ℕ) (d : Drawing) (q : ℕ) → (r : MachineRead ns s at d q) → initialIn ns s (r .to-owner) ≡ r .to-initial
+  pub initial-to : (at : ℕ) (d : Drawing) (q : ℕ) → (r : MachineRead ns s at d q) → initialIn ns s (r .to-owner) ≡ r .to-initial
   unfolding initialIn offsetOf
   initial-to at d q r =
       ap (λ y. offsetOf (onward (portsIn ns s) (onward (portsIn ns s) (onward (portsIn ns s) y)))) (onward-to (optionalIn ns s) (r .to-owner) (d .owner) (r .to-inputs) (r .owner))

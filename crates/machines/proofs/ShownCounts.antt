@@ -131,7 +131,7 @@ module _ (ns : List Name) (s old spots : List ℕ) (P : PackOf ns s old spots) w
     pub named : NumberIs ns s at (d .name) (r .to-owner)
     named = name-number ns s at (d .name) (r .to-owner) (r .name)
 
-    outputs-to : outputsIn ns s (r .to-owner) ≡ r .to-outputs
+    pub outputs-to : outputsIn ns s (r .to-owner) ≡ r .to-outputs
     unfolding outputsIn offsetOf
     outputs-to =
         ap (λ y. offsetOf (onward (portsIn ns s) y)) (onward-to (optionalIn ns s) (r .to-owner) (d .owner) (r .to-inputs) (r .owner))
