@@ -62,7 +62,9 @@ pub mod ShownCounts
 pub mod ShownItems
 pub mod ShownOrigins
 pub mod BeginningLaws
-pub mod ShownHeads
-pub mod ShownExample
 pub mod WholeLaid
 pub mod Relaying
+pub mod ListsShown
+pub mod ShownHeads
+pub mod NodesShown
+pub mod ShownExample
