@@ -67,4 +67,5 @@ pub mod Relaying
 pub mod ListsShown
 pub mod ShownHeads
 pub mod NodesShown
+pub mod SectionsShown
 pub mod ShownExample
