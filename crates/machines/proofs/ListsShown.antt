@@ -39,7 +39,7 @@ counted-parts r s at xs q e =
     let v = u16-value s at (b .0) (b .1) (b .2) in
     (number-num s at (b .0) (b .1) (b .2) ∙ (λ j. num (sym n j) (v .to j)), (λ j. many r (n j) (sym (v .to) j)) ∙ b .3)
 
--- nothing stands anywhere
+-- no items stand at the start, up to it
 lies-none : (ns : List Name) (s : List ℕ) → Lies ns s 0 [] 0
 unfolding code Each
 lies-none ns s = record { bytes = refl; known = tt; from = omega arith; to = omega arith }

@@ -52,7 +52,7 @@ itemsAt g (x ∷ xs) (suc i) = itemsAt g xs i
 unfoldable pub madeEquationItems : Share → List Item
 madeEquationItems x = each equationItems (equationsOf (shareMachine x))
 
--- a machine that is lowered is shown
+-- machines that are lowered are shown
 pub lowered-shown : (ms : List Drawing) (ns : List Name) (s mats ats regs : List ℕ) (i : ℕ) (xs : List Share) → Lowered ms ns s mats ats regs i xs → Shown ns s mats ats regs i xs
 unfolding Lowered Shown
 lowered-shown ms ns s mats ats regs i [] h = tt
