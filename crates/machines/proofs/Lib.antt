@@ -66,5 +66,10 @@ pub mod ShownCounts
 pub mod ShownItems
 pub mod ShownOrigins
 pub mod BeginningLaws
+pub mod WholeLaid
+pub mod Relaying
+pub mod ListsShown
 pub mod ShownHeads
+pub mod NodesShown
+pub mod SectionsShown
 pub mod ShownExample

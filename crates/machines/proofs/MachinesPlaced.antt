@@ -28,7 +28,7 @@ use Rattle.machines.proofs.Standing.{Found}
 use Rattle.machines.proofs.SureLaws.{number-to}
 use Rattle.machines.proofs.NamesPlaced.{NamesAre, alone}
 
-onward-to : {A : Type 0} (f : ℕ → Answer A) (at : ℕ) (x : A) (q : ℕ) → f at ≡ value x q → onward f (sk.To at) ≡ sk.To q
+pub onward-to : {A : Type 0} (f : ℕ → Answer A) (at : ℕ) (x : A) (q : ℕ) → f at ≡ value x q → onward f (sk.To at) ≡ sk.To q
 unfolding onward next skips skip
 onward-to f at x q e = rw e
 

@@ -27,6 +27,7 @@ use Rattle.machines.specs.Tables.{outputsIn}
 use Rattle.machines.specs.Shown.{PackOf, Shown, ShownAt}
 use Rattle.machines.specs.Brought.{bringsEquationsT, bringsLocalsT, equationCountT, localCountT, localsIn, madeOf, nodeEquationsIn, nodeLocalsIn, oldT, ownedT, regionsT, smallOf, totalT}
 use Rattle.machines.proofs.Reading.{MachineRead, NumberIs, machine-value, many-cut, many-more, many-over, name-number, optional-none, optional-some}
+use Rattle.machines.proofs.MachinesPlaced.{onward-to, outputs-to}
 use Rattle.machines.proofs.SureLaws.{byte-to, end-to, number-num, number-to, then-to}
 use Rattle.machines.proofs.BroughtLaws.{small-is}
 
@@ -34,10 +35,6 @@ pub fate-machine : (o : Option Name) (m : Machine) → fateMachine (fateOf o m) 
 unfolding fateMachine fateOf
 fate-machine none m = refl
 fate-machine (some o) m = refl
-
-onward-to : {A : Type 0} (f : ℕ → Answer A) (at : ℕ) (x : A) (q : ℕ) → f at ≡ value x q → onward f (sk.To at) ≡ sk.To q
-unfolding onward next skips skip
-onward-to f at x q e = rw e
 
 made-small : (k own z : ℕ) → suc z ≡ k → k < 65536 → own < 65536 → madeOf k own ≡ (2 + 3 * z) + own
 unfolding madeOf smallOf
@@ -131,24 +128,18 @@ module _ (ns : List Name) (s old spots : List ℕ) (P : PackOf ns s old spots) w
     pub named : NumberIs ns s at (d .name) (r .to-owner)
     named = name-number ns s at (d .name) (r .to-owner) (r .name)
 
-    outputs-to : outputsIn ns s (r .to-owner) ≡ r .to-outputs
-    unfolding outputsIn offsetOf
-    outputs-to =
-        ap (λ y. offsetOf (onward (portsIn ns s) y)) (onward-to (optionalIn ns s) (r .to-owner) (d .owner) (r .to-inputs) (r .owner))
-        ∙ ap offsetOf (onward-to (portsIn ns s) (r .to-inputs) (d .inputs) (r .to-outputs) (r .inputs))
-
     pub locals-to : localsIn ns s at ≡ r .to-locals
     unfolding localsIn
     locals-to =
         number-to s at (named .i) (r .to-owner) _ (named .is)
-        ∙ ap (λ y. endOf (portsIn ns s y)) outputs-to
+        ∙ ap (λ y. endOf (portsIn ns s y)) (outputs-to ns s at d q r)
         ∙ end-to (portsIn ns s (r .to-outputs)) (d .outputs) (r .to-locals) (r .outputs)
 
     pub equations-to : (k : ℕ) → equationCountT ns s at k ≡ madeOf k (length (d .outputs))
     unfolding equationCountT
     equations-to k =
         number-to s at (named .i) (r .to-owner) _ (named .is)
-        ∙ ap (λ y. with (numberIn s y) (λ v q. madeOf k v)) outputs-to
+        ∙ ap (λ y. with (numberIn s y) (λ v q. madeOf k v)) (outputs-to ns s at d q r)
         ∙ then-to (numberIn s (r .to-outputs)) (length (d .outputs)) (r .to-outputs + 2) (λ v q. madeOf k v) (ports-number (r .to-outputs) (d .outputs) (r .to-locals) (r .outputs) .0)
 
     pub local-count-to : (k : ℕ) → localCountT ns s at k ≡ madeOf k (length (d .locals))

@@ -3,23 +3,30 @@ use Prim.Native.Nat.{ℕ, zero, suc, _<_}
 use native.Mathlib.Omega.{arith}
 use mathlib.Core.List.{List, [], _∷_}
 use mathlib.Core.Option.{none}
-use mathlib.Core.Path.{_≡_, refl}
-use lib.ListN.{length}
+use mathlib.Core.Path.{_≡_, refl, subst}
+use lib.ListN.{length, getD}
 use Rattle.wire.specs.Answer.{bind, byte, counted, guard, index, many, mapA, u16, value}
 use Rattle.wire.specs.Lists.{All, Bytes}
-use Rattle.pack.specs.Limits.{absent, maxLevel}
+use Rattle.pack.specs.Limits.{absent, maxLevel, maxStates}
 use Rattle.pack.specs.Names.{Name, eqName, member}
-use Rattle.pack.specs.Syntax.{Drawing, States, dCons, dNil, qNil, rNil, sCons, sNil}
+use Rattle.pack.specs.Syntax.{Drawing, Package, States, dCons, dNil, qNil, rNil, sCons, sNil}
 use Rattle.pack.specs.Forms.{nameAt}
 use Rattle.pack.specs.Legal.{Fresh}
 use Rattle.pack.specs.RawNames.{rawName}
-use Rattle.pack.specs.Read.{drawnOf, equationsIn, machineIn, nameByte, nameIn, optional, optionalIn, portsIn, regionAt, regionsOf, stateAt, stateWith}
+use Rattle.pack.specs.Read.{activationIn, char, drawnOf, enumIn, equationsIn, machineIn, name, nameByte, nameIn, nameSection, namesAfter, nodeIn, optional, optionalIn, originIn, portsIn, regionAt, regionsOf, size, stateAt, stateWith}
+use Rattle.pack.specs.Report.{asRefusal, firstOf}
+use Rattle.pack.specs.Verdict.{Stands}
+use Rattle.pack.specs.declared.record.Pack.{Pack}
 use Rattle.pack.specs.Write.{enc}
-use Rattle.machines.specs.Resolve.{asMachine}
-use Rattle.machines.specs.Lower.{sizeR, sizeS}
+use Rattle.machines.specs.Checks.{allNamesR, allNamesS, badInitial, badR, badS, badTarget, emptyTop, refusalOf, repeated, uncovered}
+use Rattle.machines.specs.Resolve.{arrive, asMachine, resolveR, resolveS, resolvedStates, walkOn, withRefine}
+use Rattle.machines.specs.Lower.{namesOf, sizeR, sizeS}
 use Rattle.machines.specs.Emits.{packName}
 use Rattle.machines.specs.Sections.{Share, alone, fateOf}
-use Rattle.machines.specs.Shown.{PackOf, Shown}
+use Rattle.machines.specs.Shown.{Lowered, PackOf, Shown}
+use Rattle.machines.specs.Tables.{machinesPlaced, namesPlaced, nextName}
+use Rattle.machines.proofs.Walked.{Ready, ready}
+use Rattle.machines.proofs.SectionsShown.{SectionsWritten, sections-written}
 
 abbrev ns : List Name
 ns = (77 ∷ []) ∷ (97 ∷ []) ∷ []
@@ -61,3 +68,45 @@ pack-here = record { bytes = each-byte s bytes; legal = ((omega arith, omega ari
     placed zero h = refl
     placed (suc zero) h = refl
     placed (suc (suc i)) h = absurd (omega arith)
+
+-- the whole pack: nothing but the machine, which is lowered to a node of its own
+abbrev whole : Package
+whole = record { names = ns; enums = []; nodes = []; machines = M ∷ []; activations = []; origins = [] }
+
+abbrev sections : Pack
+sections = record { names = 2; enums = 6; nodes = 8; machines = 10; activations = 36; origins = 38; end = 40 }
+
+stands-here : Stands s sections whole
+unfolding nameSection namesAfter name size char nameByte member eqName enumIn nodeIn machineIn activationIn originIn counted many nameIn optionalIn optional portsIn stateAt stateWith regionAt drawnOf regionsOf equationsIn nameAt index guard bind mapA byte u16 maxLevel absent
+stands-here = record { count = refl; names = refl; enums = refl; nodes = refl; machines = refl; activations = refl; origins = refl }
+
+lowered-here : Lowered (M ∷ []) ns s (12 ∷ []) (0 ∷ []) (1 ∷ []) 0 (share ∷ [])
+unfolding Lowered fateOf sizeS sizeR resolvedStates resolveS resolveR arrive withRefine walkOn asMachine refusalOf emptyTop repeated allNamesS allNamesR badInitial badS badR badTarget uncovered firstOf asRefusal member eqName namesOf maxLevel maxStates
+lowered-here = (
+  record {
+    shown = record { drawing = M; end = 36; states = tree; read = read-here; fate = refl; at = refl; regions = refl; fewRegions = omega arith };
+    count = 1;
+    resolves = refl;
+    accepted = refl;
+  },
+  tt,
+)
+
+abbrev zeros : List ℕ
+zeros = 0 ∷ 0 ∷ []
+
+zero-all : (i : ℕ) → getD zeros i 0 ≡ 0
+zero-all zero = refl
+zero-all (suc zero) = refl
+zero-all (suc (suc i)) = refl
+
+spots-here : namesPlaced s 2 2 0 zeros ≡ 2 ∷ 4 ∷ []
+unfolding namesPlaced nextName
+spots-here = refl
+
+-- what is written of it is the lowered package
+sections-here : SectionsWritten whole s (enc ns) (2 ∷ 4 ∷ []) (machinesPlaced ns s 10 zeros) (12 ∷ []) (0 ∷ []) (1 ∷ []) 1 (share ∷ []) sections
+sections-here =
+    let r = ready s sections whole zeros zeros stands-here (omega arith) (omega arith) zero-all in
+    sections-written whole s (enc ns) (2 ∷ 4 ∷ []) (machinesPlaced ns s 10 zeros) (12 ∷ []) (0 ∷ []) (1 ∷ []) sections stands-here pack-here
+    (subst (λ (y : List ℕ). Ready s ns (M ∷ []) y (machinesPlaced ns s 10 zeros)) spots-here r) (share ∷ []) lowered-here 1 refl

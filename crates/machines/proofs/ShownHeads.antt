@@ -19,7 +19,7 @@ use Rattle.pack.specs.Write.{Item, each, enc, equationItems, kindByte, list, nm
 use Rattle.pack.specs.Intern.{render}
 use Rattle.pack.proofs.Tables.{code, place-at-name}
 use Rattle.pack.proofs.Interns.{render-append}
-use Rattle.pack.proofs.Copies.{Lies, lies-both, lies-copied, lies-head, lies-ports, lies-ports-rest, render-known}
+use Rattle.pack.proofs.Copies.{lies-both, lies-head, lies-ports, lies-ports-rest, render-known}
 use Rattle.machines.specs.Lower.{equationsOf, localsOf}
 use Rattle.machines.specs.Resolve.{asMachine}
 use Rattle.machines.specs.Laid.{sliceOf}
@@ -33,6 +33,7 @@ use Rattle.machines.proofs.SureLaws.{number-to, then-to}
 use Rattle.machines.proofs.BroughtLaws.{small-is}
 use Rattle.machines.proofs.ShownCounts.{brought-locals-shown, its-machine, its-read, locals-to, named, node-equations-to, node-locals-to, node-value, ports-number}
 use Rattle.machines.proofs.ShownItems.{locals-written, raw-first}
+use Rattle.machines.proofs.ListsShown.{copied}
 
 -- a node is this part, and then its equations
 pub holding-parts : (xs : List Share) (k : ℕ) (x : Node) → holdingItems xs k x ≡ headPart xs k x ++ continued equationItems (x .equations) (broughtCount equationCount k xs) (each (bringsItems equationItems equationsOf k) xs)
@@ -65,11 +66,6 @@ module _ (ns : List Name) (s old spots : List ℕ) (P : PackOf ns s old spots) (
   more : List Item
   more = each (bringsItems portItems localsOf k) xs
 
-  -- what stands in the pack is written by its bytes
-  copied : (at : ℕ) (is : List Item) (q : ℕ) → Lies ns s at is q → (z : State) → puts (sliceOf s at (q - at)) z ≡ render old is z
-  unfolding sliceOf
-  copied at is q l z = sym (lies-copied ns (P .legal) s at is q l z) ∙ ap (λ o. render o is z) (sym (P .names))
-
   -- locals that go on
   pub locals-go-on : (at : ℕ) (ls : List Port) (e : ℕ) → portsIn ns s at ≡ value ls e → (z : State)
       → render old (nodeLocalsT ns s mats ats regs spots (length xs) k (length ls) (at + 2) e) z ≡ render old (continued portItems ls (broughtCount localCount k xs) (each (bringsItems portItems localsOf k) xs)) z
@@ -83,7 +79,7 @@ module _ (ns : List Name) (s old spots : List ℕ) (P : PackOf ns s old spots) (
       ∙ raw-first old _ _ z
       ∙ raw-first old _ _ y
       ∙ locals-written ns s old spots P mats ats regs k xs h (puts (sliceOf s (at + 2) (e - (at + 2))) y)
-      ∙ ap (render old more) (copied (at + 2) (each portItems ls) e l y)
+      ∙ ap (render old more) (copied ns s old spots P (at + 2) (each portItems ls) e l y)
       ∙ sym (render-append old (each portItems ls) more y)
       ∙ sym (raw-first old (two (length ls + broughtCount localCount k xs)) (each portItems ls ++ more) z)
 
@@ -103,7 +99,7 @@ module _ (ns : List Name) (s old spots : List ℕ) (P : PackOf ns s old spots) (
       ∙ ap (λ (is : List Item). render old (raw (sliceOf s at (d .to-locals - at)) ∷ is) z) (then-to (numberIn s (d .to-locals)) (length (x .locals)) (d .to-locals + 2) f n)
       ∙ raw-first old _ _ z
       ∙ locals-go-on (d .to-locals) (x .locals) (d .to-equations) (d .locals) (puts (sliceOf s at (d .to-locals - at)) z)
-      ∙ ap (render old rest) (copied at (front (kindOf ns s (d .kind))) (d .to-locals) l z)
+      ∙ ap (render old rest) (copied ns s old spots P at (front (kindOf ns s (d .kind))) (d .to-locals) l z)
       ∙ sym (render-append old (front (kindOf ns s (d .kind))) rest z)
       ∙ ap (λ t. render old (front t ++ rest) z) (d .same)
       ∙ ap (λ (is : List Item). render old (nm (x .name) ∷ raw (kindByte (x .kind) ∷ []) ∷ is) z) (append-assoc (list portItems (x .inputs)) (list portItems (x .outputs)) rest)
@@ -155,7 +151,7 @@ module _ (ns : List Name) (s old spots : List ℕ) (P : PackOf ns s old spots) (
       ∙ raw-first old (1 ∷ []) _ (render old (nm (g .drawing .name) ∷ []) z)
       ∙ raw-first old _ tail a
       ∙ locals-begin (puts (sliceOf s (r .to-inputs) (r .to-locals - r .to-inputs)) a)
-      ∙ ap (render old rest) (copied (r .to-inputs) (list portItems ins ++ list portItems outs) (r .to-locals) l a)
+      ∙ ap (render old rest) (copied ns s old spots P (r .to-inputs) (list portItems ins ++ list portItems outs) (r .to-locals) l a)
       ∙ sym (render-append old (list portItems ins ++ list portItems outs) rest a)
       ∙ sym (raw-first old (1 ∷ []) ((list portItems ins ++ list portItems outs) ++ rest) (render old (nm (g .drawing .name) ∷ []) z))
       ∙ sym (render-append old (nm (g .drawing .name) ∷ []) (raw (1 ∷ []) ∷ ((list portItems ins ++ list portItems outs) ++ rest)) z)
