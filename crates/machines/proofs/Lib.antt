@@ -73,3 +73,5 @@ pub mod ShownHeads
 pub mod NodesShown
 pub mod SectionsShown
 pub mod ShownExample
+pub mod SettleLaws
+pub mod ReportingLaws

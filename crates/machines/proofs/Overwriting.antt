@@ -14,7 +14,7 @@ unfolding overwritten begins
 over-start xs d = rw zero-add
 
 -- nothing is put
-over-none : (d : List ℕ) (at : ℕ) → overwritten at [] d ≡ d
+pub over-none : (d : List ℕ) (at : ℕ) → overwritten at [] d ≡ d
 unfolding overwritten
 over-none d at = rw add-zero (take-append-drop at d)
 

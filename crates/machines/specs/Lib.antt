@@ -29,6 +29,8 @@ pub mod Shown
 pub mod Brought
 pub mod NodeHeads
 pub mod Relaid
+pub mod Settling
+pub mod Reporting
 pub mod Parts
 pub mod Judges
 pub mod Call

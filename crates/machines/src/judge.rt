@@ -25,7 +25,7 @@ ghost use Rattle.pack.specs.Names.{Name};
 ghost use Rattle.machines.specs.Lays.{board};
 ghost use Rattle.machines.specs.Judging.{noName, named as namedOf, refusedBy, stateCalled, calledAt, againCalled, outputsJ, outputsAt, checkedJ, laidJ, judgeAt, boardAt};
 
-fn no_name() -> Called
+pub fn no_name() -> Called
     ensures { λ r. ⌜ r ≡ noName ⌝ }
 {
     Called {
@@ -35,7 +35,7 @@ fn no_name() -> Called
     }
 }
 
-fn named(x: usize) -> Called
+pub fn named(x: usize) -> Called
     ensures { λ r. ⌜ r ≡ namedOf x ⌝ }
 {
     Called {
@@ -45,7 +45,7 @@ fn named(x: usize) -> Called
     }
 }
 
-fn refused(kind: usize, second: Called, third: Called) -> Judged
+pub fn refused(kind: usize, second: Called, third: Called) -> Judged
     ensures { λ r. ⌜ r ≡ refusedBy kind second third ⌝ }
 {
     Judged {

@@ -28,4 +28,7 @@ pub mod bringing; // what machines bring to nodes, counted
 pub mod nodes; // nodes as they stand
 pub mod brought; // the locals that machines bring to a node
 pub mod origins; // the origins of machines with an owner
+pub mod judging; // all machines judged
+pub mod owners; // the nodes that machines go to
+pub mod reporting; // the report of all machines
 pub mod beginnings; // nodes up to their equations

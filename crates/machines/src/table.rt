@@ -87,7 +87,7 @@ pub fn to_initial(s: &[u8], names: usize, at: usize) -> usize
 }
 
 // From a machine's initial state, past its states.
-fn after_states(s: &[u8], names: usize, at: usize) -> usize
+pub fn after_states(s: &[u8], names: usize, at: usize) -> usize
     requires { ⌜ length (now s) ≤ 65536 ⌝ }
     ensures { λ r. ⌜ ((ns : List Name) → length ns ≡ names → r ≡ statesEnd ns (now (s .entry)) at) ⌝ }
 {
