@@ -64,3 +64,4 @@ pub mod ShownOrigins
 pub mod BeginningLaws
 pub mod ShownHeads
 pub mod ShownExample
+pub mod RelaidLaws

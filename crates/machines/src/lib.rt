@@ -29,3 +29,4 @@ pub mod nodes; // nodes as they stand
 pub mod brought; // the locals that machines bring to a node
 pub mod origins; // the origins of machines with an owner
 pub mod beginnings; // nodes up to their equations
+pub mod relaid; // what is written of machines that are laid out again
