@@ -65,3 +65,4 @@ pub mod BeginningLaws
 pub mod ShownHeads
 pub mod ShownExample
 pub mod RelaidLaws
+pub mod PartsLaws

@@ -5,7 +5,6 @@ use mathlib.Core.Bool.{cond}
 use lib.ListN.{getD}
 use lib.Dec.{eqb}
 use Rattle.wire.specs.Bytes.{two}
-use Rattle.pack.specs.Limits.{absent}
 use Rattle.pack.specs.Names.{Name}
 use Rattle.pack.specs.Read.{equationsIn}
 use Rattle.pack.specs.Write.{Item, raw}

@@ -30,3 +30,5 @@ pub mod brought; // the locals that machines bring to a node
 pub mod origins; // the origins of machines with an owner
 pub mod beginnings; // nodes up to their equations
 pub mod relaid; // what is written of machines that are laid out again
+pub mod parts; // nodes with all that goes to them
+pub mod sections; // all that follows the names
