@@ -75,3 +75,5 @@ pub mod SectionsShown
 pub mod ShownExample
 pub mod SettleLaws
 pub mod ReportingLaws
+pub mod RelaidLaws
+pub mod PartsLaws

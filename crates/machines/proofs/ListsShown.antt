@@ -82,7 +82,7 @@ pub each-at : (f : ℕ → List Item) (g : Share → List Item) (xs : List Share
 each-at f g xs e = each-from f g 0 xs (λ j l. ap f (zero-add j) ∙ e j l)
 
 -- the equations that the machines bring to the node k
-module _ (ns : List Name) (s mats ats regs spots : List ℕ) (k : ℕ) where
+module _ (ns : List Name) (s mats ats regs : List ℕ) (k : ℕ) where
   brings-from : (i : ℕ) (xs : List Share) → Shown ns s mats ats regs i xs → (j : ℕ) → j < length xs → cond (eqb (getD ats (i + j) 0) k) (itemsAt madeEquationItems xs j) [] ≡ itemsAt (bringsItems equationItems equationsOf k) xs j
   unfolding Shown itemsAt bringsItems madeEquationItems
   brings-from i [] h j l = absurd (omega arith)
@@ -93,7 +93,7 @@ module _ (ns : List Name) (s mats ats regs spots : List ℕ) (k : ℕ) where
       let e : i + suc j ≡ suc i + j = omega arith in
       ap (λ y. cond (eqb (getD ats y 0) k) (itemsAt madeEquationItems xs j) []) e ∙ brings-from (suc i) xs (h .1) j (omega arith)
 
-  pub equations-brought : (n : ℕ) (xs : List Share) → Shown ns s mats ats regs 0 xs → eachT (broughtEquationsT ns s mats ats regs spots n (itemsAt madeEquationItems xs) k) (length xs) 0 ≡ each (bringsItems equationItems equationsOf k) xs
+  pub equations-brought : (xs : List Share) → Shown ns s mats ats regs 0 xs → eachT (broughtEquationsT ats (itemsAt madeEquationItems xs) k) (length xs) 0 ≡ each (bringsItems equationItems equationsOf k) xs
   unfolding broughtEquationsT
-  equations-brought n xs h =
+  equations-brought xs h =
       each-at _ _ xs (λ j l. ap (λ y. cond (eqb (getD ats y 0) k) (itemsAt madeEquationItems xs j) []) (sym (zero-add j)) ∙ brings-from 0 xs h j l)

@@ -48,14 +48,14 @@ module _ (ns : List Name) (s old spots : List ℕ) (P : PackOf ns s old spots) (
       goes-on ns s old spots P equationItems es (at + 2) e _ _ _ _ (equations-number ns s old spots P at es e r .1)
       (lies-equations-rest ns (P .fresh) (P .few) s (P .bytes) at es e r)
       (brought-equations-shown ns s old spots P mats ats regs k 0 xs h)
-      (λ y. ap (λ (is : List Item). render old is y) (equations-brought ns s mats ats regs spots k (length xs) xs h)) z
+      (λ y. ap (λ (is : List Item). render old is y) (equations-brought ns s mats ats regs k xs h)) z
 
   equations-begin : (k : ℕ) (z : State) → render old (nodeEquationsT ns s mats ats regs spots (length xs) (itemsAt madeEquationItems xs) k 0 0 0) z ≡ render old (equationsItems k []) z
   unfolding nodeEquationsT
   equations-begin k z =
       begins ns s old spots P equationItems _ _ _ _
       (brought-equations-shown ns s old spots P mats ats regs k 0 xs h)
-      (λ y. ap (λ (is : List Item). render old is y) (equations-brought ns s mats ats regs spots k (length xs) xs h)) z
+      (λ y. ap (λ (is : List Item). render old is y) (equations-brought ns s mats ats regs k xs h)) z
 
   -- a node is its head, and then its equations
   head-then : (k : ℕ) (x : Node) (hs es : List Item) → ((z : State) → render old hs z ≡ render old (headPart xs k x) z) → ((z : State) → render old es z ≡ render old (equationsItems k (x .equations)) z)

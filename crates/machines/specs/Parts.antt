@@ -5,7 +5,6 @@ use mathlib.Core.Bool.{cond}
 use lib.ListN.{getD}
 use lib.Dec.{eqb}
 use Rattle.wire.specs.Bytes.{two}
-use Rattle.pack.specs.Limits.{absent}
 use Rattle.pack.specs.Names.{Name}
 use Rattle.pack.specs.Read.{equationsIn}
 use Rattle.pack.specs.Write.{Item, raw}
@@ -16,18 +15,18 @@ use Rattle.machines.specs.Laid.{sliceOf}
 use Rattle.machines.specs.Brought.{bringsEquationsT, eachT, nodeEquationsIn, ownOriginT, ownedT, regionsT, smallOf, totalT}
 use Rattle.machines.specs.NodeHeads.{newHeadT, oldHeadT}
 
+-- the equations that the machine i brings to the node k
+unfoldable pub broughtEquationsT : List ℕ → (ℕ → List Item) → ℕ → ℕ → List Item
+broughtEquationsT ats eqs k i = cond (eqb (getD ats i 0) k) (eqs i) []
+
 module _ (ns : List Name) (s mats ats regs spots : List ℕ) (n : ℕ) where
   module _ (eqs : ℕ → List Item) where
-    -- the equations that the machine i brings to the node k
-    unfoldable pub broughtEquationsT : ℕ → ℕ → List Item
-    broughtEquationsT k i = cond (eqb (getD ats i 0) k) (eqs i) []
-
     -- the equations of the node k: `own` ones that stand from `from` up to `to`, and those that n machines bring
     unfoldable pub nodeEquationsT : ℕ → ℕ → ℕ → ℕ → List Item
     nodeEquationsT k own from to =
         raw (two (smallOf own + totalT (bringsEquationsT ns s mats ats regs k) n 0))
         ∷ raw (sliceOf s from (to - from))
-        ∷ eachT (broughtEquationsT k) n 0
+        ∷ eachT (broughtEquationsT ats eqs k) n 0
 
     -- the node k that stands at `at`
     unfoldable pub oldNodeT : ℕ → ℕ → List Item

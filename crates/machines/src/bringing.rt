@@ -179,7 +179,7 @@ pub fn sum_of(regs: &[usize], n: usize) -> usize
 }
 
 // Whether the machine i has an owner, as a number.
-fn owned(s: &[u8], mats: &[usize], i: usize) -> usize
+pub fn owned(s: &[u8], mats: &[usize], i: usize) -> usize
     ensures { λ r. ⌜ (r < 1048576) × (r ≡ ownedT (now (s .entry)) (now (mats .entry)) i) ⌝ }
 {
     let a = entry(mats, i);

@@ -32,3 +32,6 @@ pub mod judging; // all machines judged
 pub mod owners; // the nodes that machines go to
 pub mod reporting; // the report of all machines
 pub mod beginnings; // nodes up to their equations
+pub mod relaid; // what is written of machines that are laid out again
+pub mod parts; // nodes with all that goes to them
+pub mod sections; // all that follows the names

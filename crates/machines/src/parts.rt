@@ -1,0 +1,384 @@
+// Nodes with all that machines bring to them: those that stand, then those that machines begin.
+use crate::beginnings::put_new_head;
+use crate::beginnings::put_old_head;
+use crate::bringing::brought_equations;
+use crate::bringing::owned;
+use crate::bringing::owned_count;
+use crate::bringing::small;
+use crate::nodes::to_node_equations;
+use crate::relaid::put_all_equations;
+use crate::rows::between;
+use crate::rows::left;
+use crate::sure::after_equations;
+use crate::sure::number;
+use crate::table::entry;
+use wire::writer::Writer;
+use wire::writer::put_bytes;
+use wire::writer::put_u16;
+ghost use mathlib.Core.List.{List};
+ghost use mathlib.Core.Path.{_≡_};
+ghost use Prim.Native.Nat.{ℕ, _-_, _≤_};
+ghost use lib.ListN.{length};
+ghost use Rattle.wire.specs.Writer.{stateOf};
+ghost use Rattle.pack.specs.Names.{Name};
+ghost use Rattle.pack.specs.Write.{Item};
+ghost use Rattle.pack.specs.Intern.{render};
+ghost use Rattle.machines.specs.Brought.{eachT, ownedT, totalT};
+ghost use Rattle.machines.specs.Relaid.{AllWrite, Long, equationsAt};
+ghost use Rattle.machines.specs.Parts.{newNodeT, nodeEquationsT, nodesT, oldNodeT, oldNodesT};
+
+// The equations of the node k: `own` ones that stand from `from` up to `end`, and those that n machines bring.
+fn put_node_equations(
+    old: &[u8],
+    s: &[u8],
+    names: usize,
+    spots: &[usize],
+    to: &[usize],
+    t: &mut [usize],
+    reg: &mut [usize],
+    lets: &mut [u8],
+    mats: &[usize],
+    ats: &[usize],
+    regs: &[usize],
+    n: usize,
+    k: usize,
+    own: usize,
+    from: usize,
+    end: usize,
+    out: &mut [u8],
+    made: &mut [u8],
+    w: Writer,
+) -> Writer
+    requires { ⌜ (length (now s) ≤ 65536) × (n ≤ 65536) × Long (now t) (now reg) (now lets) ⌝ }
+    ensures { λ r. ⌜ ((ns : List Name) → length ns ≡ names → (eqs : ℕ → List Item) → AllWrite (now (old .entry)) (equationsAt ns (now (s .entry)) (now (spots .entry)) (now (to .entry))) (now (mats .entry)) n eqs → stateOf (now (out .exit)) (now (made .exit)) r ≡ render (now (old .entry)) (nodeEquationsT ns (now (s .entry)) (now (mats .entry)) (now (ats .entry)) (now (regs .entry)) (now (spots .entry)) n eqs k own from end) (stateOf (now (out .entry)) (now (made .entry)) w)) ⌝ }
+{
+    let o = small(own);
+    let m = brought_equations(s, names, mats, ats, regs, n, k);
+    let h = between(s, from, end);
+    let a = put_u16(out, w, o + m);
+    let b = put_bytes(h, out, a);
+    put_all_equations(
+        old,
+        s,
+        names,
+        spots,
+        to,
+        t,
+        reg,
+        lets,
+        mats,
+        ats,
+        n,
+        k,
+        out,
+        made,
+        b,
+    )
+}
+
+// The node k that stands at `at`.
+fn put_old_node(
+    old: &[u8],
+    s: &[u8],
+    names: usize,
+    spots: &[usize],
+    to: &[usize],
+    t: &mut [usize],
+    reg: &mut [usize],
+    lets: &mut [u8],
+    mats: &[usize],
+    ats: &[usize],
+    regs: &[usize],
+    n: usize,
+    k: usize,
+    at: usize,
+    out: &mut [u8],
+    made: &mut [u8],
+    w: Writer,
+) -> Writer
+    requires { ⌜ (length (now s) ≤ 65536) × (n ≤ 65536) × Long (now t) (now reg) (now lets) ⌝ }
+    ensures { λ r. ⌜ ((ns : List Name) → length ns ≡ names → (eqs : ℕ → List Item) → AllWrite (now (old .entry)) (equationsAt ns (now (s .entry)) (now (spots .entry)) (now (to .entry))) (now (mats .entry)) n eqs → stateOf (now (out .exit)) (now (made .exit)) r ≡ render (now (old .entry)) (oldNodeT ns (now (s .entry)) (now (mats .entry)) (now (ats .entry)) (now (regs .entry)) (now (spots .entry)) n eqs k at) (stateOf (now (out .entry)) (now (made .entry)) w)) ⌝ }
+{
+    let e = to_node_equations(s, names, at);
+    let z = after_equations(s, names, e);
+    let c = number(s, e);
+    let a = put_old_head(
+        old,
+        s,
+        names,
+        spots,
+        mats,
+        ats,
+        regs,
+        n,
+        k,
+        at,
+        out,
+        made,
+        w,
+    );
+    put_node_equations(
+        old,
+        s,
+        names,
+        spots,
+        to,
+        t,
+        reg,
+        lets,
+        mats,
+        ats,
+        regs,
+        n,
+        k,
+        c.value,
+        c.next,
+        z,
+        out,
+        made,
+        a,
+    )
+}
+
+// `count` nodes that stand from `from` on.
+fn put_old_nodes(
+    old: &[u8],
+    s: &[u8],
+    names: usize,
+    spots: &[usize],
+    to: &[usize],
+    t: &mut [usize],
+    reg: &mut [usize],
+    lets: &mut [u8],
+    mats: &[usize],
+    ats: &[usize],
+    regs: &[usize],
+    n: usize,
+    count: usize,
+    from: usize,
+    out: &mut [u8],
+    made: &mut [u8],
+    w: Writer,
+) -> Writer
+    requires { ⌜ (length (now s) ≤ 65536) × (n ≤ 65536) × Long (now t) (now reg) (now lets) ⌝ }
+    ensures { λ r. ⌜ ((ns : List Name) → length ns ≡ names → (eqs : ℕ → List Item) → AllWrite (now (old .entry)) (equationsAt ns (now (s .entry)) (now (spots .entry)) (now (to .entry))) (now (mats .entry)) n eqs → stateOf (now (out .exit)) (now (made .exit)) r ≡ render (now (old .entry)) (oldNodesT ns (now (s .entry)) (now (mats .entry)) (now (ats .entry)) (now (regs .entry)) (now (spots .entry)) n eqs count 0 from) (stateOf (now (out .entry)) (now (made .entry)) w)) ⌝ }
+{
+    let mut v = w;
+    let mut k = 0;
+    let mut p = from;
+    let mut c = count;
+    while 0 < c {
+        v = put_old_node(
+            old,
+            s,
+            names,
+            spots,
+            to,
+            t,
+            reg,
+            lets,
+            mats,
+            ats,
+            regs,
+            n,
+            k,
+            p,
+            out,
+            made,
+            v,
+        );
+        let e = to_node_equations(s, names, p);
+        p = after_equations(s, names, e);
+        k += 1;
+        c = left(v, c - 1);
+    }
+    v
+}
+
+// The node that the machine i begins, where it has no owner.
+fn put_new_node(
+    old: &[u8],
+    s: &[u8],
+    names: usize,
+    spots: &[usize],
+    to: &[usize],
+    t: &mut [usize],
+    reg: &mut [usize],
+    lets: &mut [u8],
+    mats: &[usize],
+    ats: &[usize],
+    regs: &[usize],
+    n: usize,
+    i: usize,
+    out: &mut [u8],
+    made: &mut [u8],
+    w: Writer,
+) -> Writer
+    requires { ⌜ (length (now s) ≤ 65536) × (n ≤ 65536) × Long (now t) (now reg) (now lets) ⌝ }
+    ensures { λ r. ⌜ ((ns : List Name) → length ns ≡ names → (eqs : ℕ → List Item) → AllWrite (now (old .entry)) (equationsAt ns (now (s .entry)) (now (spots .entry)) (now (to .entry))) (now (mats .entry)) n eqs → stateOf (now (out .exit)) (now (made .exit)) r ≡ render (now (old .entry)) (newNodeT ns (now (s .entry)) (now (mats .entry)) (now (ats .entry)) (now (regs .entry)) (now (spots .entry)) n eqs i) (stateOf (now (out .entry)) (now (made .entry)) w)) ⌝ }
+{
+    let o = owned(s, mats, i);
+    let k = entry(ats, i);
+    let at = entry(mats, i);
+    if o == 0 {
+        let a = put_new_head(
+            old,
+            s,
+            names,
+            spots,
+            mats,
+            ats,
+            regs,
+            n,
+            k,
+            at,
+            out,
+            made,
+            w,
+        );
+        return put_node_equations(
+            old,
+            s,
+            names,
+            spots,
+            to,
+            t,
+            reg,
+            lets,
+            mats,
+            ats,
+            regs,
+            n,
+            k,
+            0,
+            0,
+            0,
+            out,
+            made,
+            a,
+        );
+    }
+    w
+}
+
+// The nodes that the first n machines begin.
+fn put_new_nodes(
+    old: &[u8],
+    s: &[u8],
+    names: usize,
+    spots: &[usize],
+    to: &[usize],
+    t: &mut [usize],
+    reg: &mut [usize],
+    lets: &mut [u8],
+    mats: &[usize],
+    ats: &[usize],
+    regs: &[usize],
+    n: usize,
+    out: &mut [u8],
+    made: &mut [u8],
+    w: Writer,
+) -> Writer
+    requires { ⌜ (length (now s) ≤ 65536) × (n ≤ 65536) × Long (now t) (now reg) (now lets) ⌝ }
+    ensures { λ r. ⌜ ((ns : List Name) → length ns ≡ names → (eqs : ℕ → List Item) → AllWrite (now (old .entry)) (equationsAt ns (now (s .entry)) (now (spots .entry)) (now (to .entry))) (now (mats .entry)) n eqs → stateOf (now (out .exit)) (now (made .exit)) r ≡ render (now (old .entry)) (eachT (newNodeT ns (now (s .entry)) (now (mats .entry)) (now (ats .entry)) (now (regs .entry)) (now (spots .entry)) n eqs) n 0) (stateOf (now (out .entry)) (now (made .entry)) w)) ⌝ }
+{
+    let mut v = w;
+    let mut i = 0;
+    let mut c = n;
+    while 0 < c {
+        v = put_new_node(
+            old,
+            s,
+            names,
+            spots,
+            to,
+            t,
+            reg,
+            lets,
+            mats,
+            ats,
+            regs,
+            n,
+            i,
+            out,
+            made,
+            v,
+        );
+        i += 1;
+        c = left(v, c - 1);
+    }
+    v
+}
+
+// How many of the first n machines begin a node.
+fn begun(s: &[u8], mats: &[usize], n: usize) -> usize
+    requires { ⌜ n ≤ 65536 ⌝ }
+    ensures { λ r. ⌜ (r ≤ n) × (r ≡ n - totalT (ownedT (now (s .entry)) (now (mats .entry))) n 0) ⌝ }
+{
+    let o = owned_count(s, mats, n);
+    if o < n { n - o } else { 0 }
+}
+
+// All nodes; the count of those that stand is at `at`.
+pub fn put_nodes(
+    old: &[u8],
+    s: &[u8],
+    names: usize,
+    spots: &[usize],
+    to: &[usize],
+    t: &mut [usize],
+    reg: &mut [usize],
+    lets: &mut [u8],
+    mats: &[usize],
+    ats: &[usize],
+    regs: &[usize],
+    n: usize,
+    at: usize,
+    out: &mut [u8],
+    made: &mut [u8],
+    w: Writer,
+) -> Writer
+    requires { ⌜ (length (now s) ≤ 65536) × (n ≤ 65536) × Long (now t) (now reg) (now lets) ⌝ }
+    ensures { λ r. ⌜ ((ns : List Name) → length ns ≡ names → (eqs : ℕ → List Item) → AllWrite (now (old .entry)) (equationsAt ns (now (s .entry)) (now (spots .entry)) (now (to .entry))) (now (mats .entry)) n eqs → stateOf (now (out .exit)) (now (made .exit)) r ≡ render (now (old .entry)) (nodesT ns (now (s .entry)) (now (mats .entry)) (now (ats .entry)) (now (regs .entry)) (now (spots .entry)) n eqs at) (stateOf (now (out .entry)) (now (made .entry)) w)) ⌝ }
+{
+    let c = number(s, at);
+    let o = small(c.value);
+    let g = begun(s, mats, n);
+    let a = put_u16(out, w, o + g);
+    let b = put_old_nodes(
+        old,
+        s,
+        names,
+        spots,
+        to,
+        t,
+        reg,
+        lets,
+        mats,
+        ats,
+        regs,
+        n,
+        c.value,
+        c.next,
+        out,
+        made,
+        a,
+    );
+    put_new_nodes(
+        old,
+        s,
+        names,
+        spots,
+        to,
+        t,
+        reg,
+        lets,
+        mats,
+        ats,
+        regs,
+        n,
+        out,
+        made,
+        b,
+    )
+}
