@@ -1,12 +1,14 @@
 -- Laws for the code that counts what machines bring, step by step.
-use Prim.Native.Nat.{ℕ, suc, _+_, _*_, _-_, _<_, _≤_}
+use Prim.Native.Nat.{ℕ, zero, suc, _+_, _*_, _-_, _<_, _≤_}
 use native.Mathlib.Numerals.{add-one}
 use native.Mathlib.Omega.{arith}
-use mathlib.Core.List.{List, _++_}
+use mathlib.Core.List.{List}
+use mathlib.Core.Bool.{cond}
 use mathlib.Core.Path.{_≡_, refl, sym, ap, _∙_}
 use lib.ListN.{getD}
 use borrow.Author.Tests.{eq-eqb, ne-eqb, lt-ltb, le-ltb}
-use Rattle.wire.specs.Writer.{State}
+use Rattle.wire.specs.declared.writer.Writer.{Writer}
+use Rattle.wire.specs.Writer.{State, stateOf}
 use Rattle.pack.specs.Limits.{absent}
 use Rattle.pack.specs.Names.{Name}
 use Rattle.pack.specs.Read.{portsIn}
@@ -18,15 +20,12 @@ use Rattle.machines.specs.Stands.{endOf}
 use Rattle.machines.specs.Sure.{numberIn}
 use Rattle.machines.specs.Tables.{outputsIn}
 use Rattle.machines.specs.Brought.{bringsEquationsT, bringsLocalsT, eachT, equationCountT, localCountT, localsIn, madeOf, ownedT, regionsT, smallOf, totalT}
+use Rattle.machines.proofs.RowLaws.{left-same}
 use Rattle.machines.proofs.SureLaws.{on}
 
 total-step : (f : ℕ → ℕ) (m i : ℕ) → totalT f (suc m) i ≡ f i + totalT f m (suc i)
 unfolding totalT
 total-step f m i = refl
-
-each-step : (f : ℕ → List Item) (m i : ℕ) → eachT f (suc m) i ≡ f i ++ eachT f m (suc i)
-unfolding eachT
-each-step f m i = refl
 
 -- a loop that sums up: one more, and the end
 pub total-more : (f : ℕ → ℕ) (n i c d z : ℕ) → i < n → d ≡ f i → c + totalT f (n - i) i ≡ z → (c + d) + totalT f (n - (i + 1)) (i + 1) ≡ z
@@ -46,27 +45,23 @@ total-done f n i c z l h = let k : n - i ≡ 0 = omega arith in let a : totalT f
 pub total-start : (f : ℕ → ℕ) (n : ℕ) → 0 + totalT f (n - 0) 0 ≡ totalT f n 0
 total-start f n = let k : n - 0 ≡ n = omega arith in let a : totalT f (n - 0) 0 ≡ totalT f n 0 = ap (λ y. totalT f y 0) k in omega arith
 
--- a loop that writes items: one more, and the end
-pub each-more : (old : List ℕ) (f : ℕ → List Item) (n i : ℕ) (s t z : State) → i < n → t ≡ render old (f i) s → render old (eachT f (n - i) i) s ≡ z → render old (eachT f (n - (i + 1)) (i + 1)) t ≡ z
-each-more old f n i s t z l e h = go (n - (i + 1)) refl
-  where
-    go : (m : ℕ) → n - (i + 1) ≡ m → render old (eachT f (n - (i + 1)) (i + 1)) t ≡ z
-    go m g =
-        let k : n - i ≡ suc m = omega arith in
-        ap (λ y. render old (eachT f y (i + 1)) t) g
-        ∙ ap (λ y. render old (eachT f m y) t) (add-one i)
-        ∙ ap (render old (eachT f m (suc i))) e
-        ∙ sym (render-append old (f i) (eachT f m (suc i)) s)
-        ∙ ap (λ (y : List Item). render old y s) (sym (each-step f m i))
-        ∙ ap (λ y. render old (eachT f y i) s) (sym k)
-        ∙ h
+-- a loop that writes items until the writer is full: one more, and the end
+each-step : (old : List ℕ) (f : ℕ → List Item) (n i : ℕ) (s : State) → render old (eachT f (suc n) i) s ≡ render old (eachT f n (suc i)) (render old (f i) s)
+unfolding eachT
+each-step old f n i s = render-append old (f i) (eachT f n (suc i)) s
 
-pub each-done : (old : List ℕ) (f : ℕ → List Item) (n i : ℕ) (s z : State) → n ≤ i → render old (eachT f (n - i) i) s ≡ z → s ≡ z
+pub each-left : (old : List ℕ) (f : ℕ → List Item) (i n k : ℕ) (o m : List ℕ) (w : Writer) (s z : State) → 0 < n → stateOf o m w ≡ render old (f i) s → k ≡ cond (w .full) 0 (n - 1) → render old (eachT f n i) s ≡ z → render old (eachT f k (i + 1)) (stateOf o m w) ≡ z
+each-left old f i zero k o m w s z l e g h = absurd (omega arith)
+each-left old f i (suc n) k o m w s z l e g h =
+    let j : suc n - 1 ≡ n = omega arith in
+    left-same old (λ y. eachT f y (i + 1)) o m w n k (g ∙ ap (cond (w .full) 0) j)
+    ∙ (λ y. render old (eachT f n (add-one i y)) (e y))
+    ∙ sym (each-step old f n i s) ∙ h
+
+pub each-none : (old : List ℕ) (f : ℕ → List Item) (i n : ℕ) (s z : State) → n ≤ 0 → render old (eachT f n i) s ≡ z → s ≡ z
 unfolding eachT render
-each-done old f n i s z l h = let k : n - i ≡ 0 = omega arith in ap (λ y. render old (eachT f y i) s) (sym k) ∙ h
-
-pub each-start : (old : List ℕ) (f : ℕ → List Item) (n : ℕ) (s : State) → render old (eachT f (n - 0) 0) s ≡ render old (eachT f n 0) s
-each-start old f n s = let k : n - 0 ≡ n = omega arith in ap (λ y. render old (eachT f y 0) s) k
+each-none old f i zero s z l h = h
+each-none old f i (suc n) s z l h = absurd (omega arith)
 
 -- counts
 pub small-is : (k : ℕ) → k < 65536 → k ≡ smallOf k

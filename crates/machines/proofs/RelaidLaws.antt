@@ -1,7 +1,6 @@
 -- Laws for the code that lays machines out again and writes their equations and enums.
-use Prim.Native.Nat.{ℕ, zero, suc, _+_, _-_, _<_, _≤_}
+use Prim.Native.Nat.{ℕ, _+_, _-_, _<_, _≤_}
 use native.Mathlib.Omega.{arith}
-use native.Mathlib.Numerals.{add-one}
 use mathlib.Core.List.{List, [], _++_}
 use mathlib.Core.Bool.{Bool, true, false, cond}
 use mathlib.Core.Path.{_≡_, refl, sym, ap, _∙_}
@@ -25,7 +24,7 @@ use Rattle.machines.specs.Judging.{layAt}
 use Rattle.machines.specs.Brought.{eachT}
 use Rattle.machines.specs.Relaid.{AllWrite, Long, Writes, broughtAt, enumsAt, equationsAt}
 use Rattle.machines.specs.Parts.{broughtEquationsT}
-use Rattle.machines.proofs.RowLaws.{left-same}
+use Rattle.machines.proofs.BroughtLaws.{each-left}
 
 -- tables of the same lengths
 pub long-kept : (t reg lets u v l : List ℕ) → length u ≡ length t → length v ≡ length reg → length l ≡ length lets → Long t reg lets → Long u v l
@@ -37,24 +36,6 @@ long-kept t reg lets u v l a b c h = record {
   fewRegions = omega (arith, h .fewRegions);
   fewLetters = omega (arith, h .fewLetters);
 }
-
--- a loop that writes items until the writer is full: one more, and the end
-each-step : (old : List ℕ) (f : ℕ → List Item) (n i : ℕ) (s : State) → render old (eachT f (suc n) i) s ≡ render old (eachT f n (suc i)) (render old (f i) s)
-unfolding eachT
-each-step old f n i s = render-append old (f i) (eachT f n (suc i)) s
-
-pub each-left : (old : List ℕ) (f : ℕ → List Item) (i n k : ℕ) (o m : List ℕ) (w : Writer) (s z : State) → 0 < n → stateOf o m w ≡ render old (f i) s → k ≡ cond (w .full) 0 (n - 1) → render old (eachT f n i) s ≡ z → render old (eachT f k (i + 1)) (stateOf o m w) ≡ z
-each-left old f i zero k o m w s z l e g h = absurd (omega arith)
-each-left old f i (suc n) k o m w s z l e g h =
-    let j : suc n - 1 ≡ n = omega arith in
-    left-same old (λ y. eachT f y (i + 1)) o m w n k (g ∙ ap (cond (w .full) 0) j)
-    ∙ (λ y. render old (eachT f n (add-one i y)) (e y))
-    ∙ sym (each-step old f n i s) ∙ h
-
-pub each-none : (old : List ℕ) (f : ℕ → List Item) (i n : ℕ) (s z : State) → n ≤ 0 → render old (eachT f n i) s ≡ z → s ≡ z
-unfolding eachT render
-each-none old f i zero s z l h = h
-each-none old f i (suc n) s z l h = absurd (omega arith)
 
 -- a machine that is laid out again
 module _ (ns : List Name) (s spots to : List ℕ) (at i : ℕ) (m : Num) (t reg lets u v l : List ℕ) (y : Lay)

@@ -5,6 +5,7 @@ use crate::bringing::to_locals;
 use crate::locals::put_inner_locals;
 use crate::locals::put_region_locals;
 use crate::rows::between;
+use crate::rows::left;
 use crate::rows::pack_name;
 use crate::sure::number;
 use crate::table::entry;
@@ -91,11 +92,13 @@ pub fn put_all_locals(
     requires { ⌜ length (now s) ≤ 65536 ⌝ }
     ensures { λ r. ⌜ ((ns : List Name) → length ns ≡ names → stateOf (now (out .exit)) (now (made .exit)) r ≡ render (now (old .entry)) (eachT (broughtLocalsT ns (now (s .entry)) (now (mats .entry)) (now (ats .entry)) (now (regs .entry)) (now (spots .entry)) k) n 0) (stateOf (now (out .entry)) (now (made .entry)) w)) ⌝ }
 {
-    let mut i = 0;
     let mut v = w;
-    while i < n {
+    let mut i = 0;
+    let mut c = n;
+    while 0 < c {
         v = put_brought(old, s, names, spots, mats, ats, regs, k, i, out, made, v);
         i += 1;
+        c = left(v, c - 1);
     }
     v
 }

@@ -2,6 +2,7 @@
 use crate::bringing::brought_equations;
 use crate::bringing::equation_count;
 use crate::nodes::old_equations;
+use crate::rows::left;
 use crate::sure::number;
 use crate::table::entry;
 use wire::writer::Writer;
@@ -75,11 +76,13 @@ pub fn put_origins(
     requires { ⌜ (length (now s) ≤ 65536) × (n ≤ 65536) ⌝ }
     ensures { λ r. ⌜ ((ns : List Name) → length ns ≡ names → (old l : List ℕ) → stateOf (now (out .exit)) l r ≡ render old (eachT (ownOriginT ns (now (s .entry)) (now (mats .entry)) (now (ats .entry)) (now (regs .entry)) count from) n 0) (stateOf (now (out .entry)) l w)) ⌝ }
 {
-    let mut i = 0;
     let mut v = w;
-    while i < n {
+    let mut i = 0;
+    let mut c = n;
+    while 0 < c {
         v = put_origin(s, names, mats, ats, regs, count, from, i, out, v);
         i += 1;
+        c = left(v, c - 1);
     }
     v
 }

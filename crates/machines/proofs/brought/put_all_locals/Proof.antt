@@ -1,4 +1,4 @@
-use Prim.Native.Nat.{ℕ, _-_}
+use Prim.Native.Nat.{ℕ, _+_, _≤_}
 use native.Mathlib.Omega.{arith}
 use mathlib.Core.List.{List}
 use mathlib.Core.Path.{_≡_, refl, _∙_}
@@ -7,31 +7,38 @@ use Rattle.wire.specs.Writer.{stateOf}
 use Rattle.pack.specs.Names.{Name}
 use Rattle.pack.specs.Intern.{render}
 use Rattle.machines.specs.Brought.{broughtLocalsT, eachT}
-use Rattle.machines.proofs.BroughtLaws.{each-done, each-more, each-start}
+use Rattle.machines.proofs.RowLaws.{left-less}
+use Rattle.machines.proofs.BroughtLaws.{each-left, each-none}
 use borrow.Author.Needs.{needs}
 use Rattle.machines.proofs.brought.put_all_locals.Statement.{statement}
 use Rattle.machines.proofs.brought.put_all_locals.Tie as tie
 
 abbrev Inv-loop : tie.InvT-loop
-Inv-loop old s names spots mats ats regs n k out₀ made₀ i₀ v₀ out made i v = (length {A = ℕ} out ≡ length {A = ℕ} out₀) × (length {A = ℕ} made ≡ length {A = ℕ} made₀) × ((ns : List Name) → length ns ≡ names → render old (eachT (broughtLocalsT ns s mats ats regs spots k) (n - i) i) (stateOf out made v) ≡ render old (eachT (broughtLocalsT ns s mats ats regs spots k) n 0) (stateOf out₀ made₀ v₀))
+Inv-loop old s names spots mats ats regs n k out₀ made₀ v₀ i₀ c₀ out made v i c = (length {A = ℕ} out ≡ length {A = ℕ} out₀) × (length {A = ℕ} made ≡ length {A = ℕ} made₀) × (i + c ≤ n) × ((ns : List Name) → length ns ≡ names → render old (eachT (broughtLocalsT ns s mats ats regs spots k) c i) (stateOf out made v) ≡ render old (eachT (broughtLocalsT ns s mats ats regs spots k) n 0) (stateOf out₀ made₀ v₀))
 
 abbrev μ-loop : tie.MeasureT-loop
-μ-loop old s names spots mats ats regs n k out₀ made₀ i₀ v₀ out made i v = n - i
+μ-loop old s names spots mats ats regs n k out₀ made₀ v₀ i₀ c₀ out made v i c = c
 
 loop-holds : tie.Need-loop-holds Inv-loop μ-loop
-loop-holds c = (refl, refl, λ ns e. each-start _ (broughtLocalsT ns _ _ _ _ _ _) _ _)
+loop-holds c = (refl, refl, omega arith, λ ns e. refl)
 
 put-brought-requires : tie.Need-put-brought-requires Inv-loop μ-loop
 put-brought-requires c κs = search needs
 
 add-i : tie.Need-add-i Inv-loop μ-loop
-add-i c = omega (arith, c .before .before .before .before .before .before .before .loop-test .taken, c .before .before .before .before .before .before .before .before .before .before .before .before .before .before .before .before .before .fits .n)
+add-i c = omega (arith, c .before .before .before .before .before .before .before .before .loop .inv .2, c .before .before .before .before .before .before .before .loop-test .taken, c .before .before .before .before .before .before .before .before .before .before .before .before .before .before .before .before .before .fits .n)
+
+sub-left : tie.Need-sub-left Inv-loop μ-loop
+sub-left c = search needs
+
+left-requires : tie.Need-left-requires Inv-loop μ-loop
+left-requires c κs = search needs
 
 loop-less : tie.Need-loop-less Inv-loop μ-loop
-loop-less c = omega (arith, c .before .before .before .before .before .before .before .loop-test .taken)
+loop-less c = left-less (c .before .before .before .before .before .put-brought .result) _ _ (c .before .before .before .before .before .before .before .before .loop-test .taken) (c .left .ensures)
 
 loop-again : tie.Need-loop-again Inv-loop μ-loop
-loop-again c = (c .before .before .before .before .put-brought .kept .1 .1 .1 .1 .1 .1 .1 .1 .1 .0 ∙ c .before .before .before .before .before .before .before .before .loop .inv .0, c .before .before .before .before .put-brought .kept .1 .1 .1 .1 .1 .1 .1 .1 .1 .1 .0 ∙ c .before .before .before .before .before .before .before .before .loop .inv .1, λ ns e. each-more _ (broughtLocalsT ns _ _ _ _ _ _) _ _ _ _ _ (c .before .before .before .before .before .before .before .loop-test .taken) (c .before .before .before .before .put-brought .ensures ns e) (c .before .before .before .before .before .before .before .before .loop .inv .2 ns e))
+loop-again c = (c .before .before .before .before .before .put-brought .kept .1 .1 .1 .1 .1 .1 .1 .1 .1 .0 ∙ c .before .before .before .before .before .before .before .before .before .loop .inv .0, c .before .before .before .before .before .put-brought .kept .1 .1 .1 .1 .1 .1 .1 .1 .1 .1 .0 ∙ c .before .before .before .before .before .before .before .before .before .loop .inv .1, omega (arith, c .before .before .before .before .before .before .before .before .before .loop .inv .2, left-less (c .before .before .before .before .before .put-brought .result) _ _ (c .before .before .before .before .before .before .before .before .loop-test .taken) (c .left .ensures)), λ ns e. each-left _ (broughtLocalsT ns _ _ _ _ _ _) _ _ _ _ _ _ _ _ (c .before .before .before .before .before .before .before .before .loop-test .taken) (c .before .before .before .before .before .put-brought .ensures ns e) (c .left .ensures) (c .before .before .before .before .before .before .before .before .before .loop .inv .3 ns e))
 
 same-length : tie.Need-same-length Inv-loop μ-loop
 same-length c = search needs
@@ -40,7 +47,21 @@ same-length-2 : tie.Need-same-length-2 Inv-loop μ-loop
 same-length-2 c = search needs
 
 returns : tie.Need-returns Inv-loop μ-loop
-returns c = λ ns e. each-done _ (broughtLocalsT ns _ _ _ _ _ _) _ _ _ _ (c .loop-test .left) (c .before .loop .inv .2 ns e)
+returns c = λ ns e. each-none _ (broughtLocalsT ns _ _ _ _ _ _) _ _ _ _ (c .loop-test .left) (c .before .loop .inv .3 ns e)
 
 pub put-all-locals-spec : {M : Type 1} → statement M
-put-all-locals-spec = tie.close (tie.spec Inv-loop μ-loop loop-holds put-brought-requires add-i loop-less loop-again same-length same-length-2 returns)
+put-all-locals-spec =
+    tie.close
+    (tie.spec
+    Inv-loop
+    μ-loop
+    loop-holds
+    put-brought-requires
+    add-i
+    sub-left
+    left-requires
+    loop-less
+    loop-again
+    same-length
+    same-length-2
+    returns)

@@ -12,7 +12,8 @@ use Rattle.machines.specs.Brought.{eachT}
 use Rattle.machines.specs.Relaid.{AllWrite, equationsAt}
 use Rattle.machines.specs.Parts.{newNodeT}
 use Rattle.machines.proofs.RowLaws.{left-less}
-use Rattle.machines.proofs.RelaidLaws.{each-left, each-none, long-kept}
+use Rattle.machines.proofs.BroughtLaws.{each-left, each-none}
+use Rattle.machines.proofs.RelaidLaws.{long-kept}
 use Rattle.machines.proofs.parts.put_new_nodes.Statement.{statement}
 use Rattle.machines.proofs.parts.put_new_nodes.Tie as tie
 

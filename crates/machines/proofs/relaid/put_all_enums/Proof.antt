@@ -11,7 +11,8 @@ use Rattle.pack.specs.Intern.{render}
 use Rattle.machines.specs.Brought.{eachT}
 use Rattle.machines.specs.Relaid.{AllWrite, enumsAt}
 use Rattle.machines.proofs.RowLaws.{left-less}
-use Rattle.machines.proofs.RelaidLaws.{each-none, enums-more, long-kept}
+use Rattle.machines.proofs.BroughtLaws.{each-none}
+use Rattle.machines.proofs.RelaidLaws.{enums-more, long-kept}
 use Rattle.machines.proofs.relaid.put_all_enums.Statement.{statement}
 use Rattle.machines.proofs.relaid.put_all_enums.Tie as tie
 

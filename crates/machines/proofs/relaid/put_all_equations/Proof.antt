@@ -12,7 +12,8 @@ use Rattle.machines.specs.Brought.{eachT}
 use Rattle.machines.specs.Relaid.{AllWrite, equationsAt}
 use Rattle.machines.specs.Parts.{broughtEquationsT}
 use Rattle.machines.proofs.RowLaws.{left-less}
-use Rattle.machines.proofs.RelaidLaws.{each-none, equations-more, long-kept}
+use Rattle.machines.proofs.BroughtLaws.{each-none}
+use Rattle.machines.proofs.RelaidLaws.{equations-more, long-kept}
 use Rattle.machines.proofs.relaid.put_all_equations.Statement.{statement}
 use Rattle.machines.proofs.relaid.put_all_equations.Tie as tie
 
