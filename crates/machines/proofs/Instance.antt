@@ -25,7 +25,8 @@ use Rattle.machines.specs.Lower.{coversR, coversS, isOnly, isSome, names
 use Rattle.machines.specs.Checks.{allNamesR, allNamesS, badInitial, badR, badS, badTarget, emptyTop, refusalOf, repeated, uncovered, uncoveredR, uncoveredS, unlessCovered, unlessOther}
 use Rattle.machines.specs.Machines.{accept, checked, judge, resolved}
 use Rattle.machines.specs.Judging.{boardAt, judgeAt}
-use Rattle.machines.specs.JudgedAs.{AcceptedAs, JudgedAs}
+use Rattle.machines.specs.Verdicts.{AcceptedAs}
+use Rattle.machines.specs.JudgedAs.{JudgedAs}
 use Rattle.machines.specs.Relaid.{Long}
 use Rattle.machines.specs.Lays.{layMachine}
 use Rattle.machines.specs.Stands.{StandsS, endOf}
@@ -143,8 +144,8 @@ unfolding judge resolved checked resolvedStates resolveS resolveR refineAt refin
 accepted-here = refl
 
 -- and so does the code, with two regions, whatever long tables held before
-judged-instance : (t reg lets : List ℕ) → Long t reg lets → AcceptedAs (M ∷ N ∷ []) M (asMachine M tree) (judgeAt ns s (namesPlaced s 5 2 0 zeros) (machinesPlaced ns s 16 zeros) 18 t reg lets)
+judged-instance : (t reg lets : List ℕ) → Long t reg lets → AcceptedAs (M ∷ N ∷ []) M (asMachine M tree) (judgeAt ns s (namesPlaced s 5 2 0 zeros) (machinesPlaced ns s 16 zeros) 18 t reg lets .regions)
 unfolding JudgedAs
 judged-instance t reg lets long =
-    subst (λ j. JudgedAs s (namesPlaced s 5 2 0 zeros) (boardAt ns s (namesPlaced s 5 2 0 zeros) (machinesPlaced ns s 16 zeros) 18 t reg lets .lets) (numberIn s 18 .value) (M ∷ N ∷ []) M j (judgeAt ns s (namesPlaced s 5 2 0 zeros) (machinesPlaced ns s 16 zeros) 18 t reg lets)) accepted-here
-    (read-judged s ns (M ∷ N ∷ []) (namesPlaced s 5 2 0 zeros) (machinesPlaced ns s 16 zeros) tables (small-bytes s bytes-here) 18 M 45 read-M t reg lets long)
+    (subst (λ j. JudgedAs s (namesPlaced s 5 2 0 zeros) (boardAt ns s (namesPlaced s 5 2 0 zeros) (machinesPlaced ns s 16 zeros) 18 t reg lets .lets) (numberIn s 18 .value) (M ∷ N ∷ []) M j (judgeAt ns s (namesPlaced s 5 2 0 zeros) (machinesPlaced ns s 16 zeros) 18 t reg lets)) accepted-here
+    (read-judged s ns (M ∷ N ∷ []) (namesPlaced s 5 2 0 zeros) (machinesPlaced ns s 16 zeros) tables (small-bytes s bytes-here) 18 M 45 read-M t reg lets long)) .1

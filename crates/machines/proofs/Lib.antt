@@ -77,3 +77,10 @@ pub mod SettleLaws
 pub mod ReportingLaws
 pub mod RelaidLaws
 pub mod PartsLaws
+pub mod VerdictLaws
+pub mod Settled
+pub mod SettledTables
+pub mod TablesFilled
+pub mod PackCounts
+pub mod PackSettled
+pub mod SettledExample

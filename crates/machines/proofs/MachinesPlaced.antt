@@ -47,7 +47,7 @@ module _ (ns : List Name) (s : List ℕ) where
       ∙ ap (λ y. offsetOf (onward (portsIn ns s) y)) (onward-to (portsIn ns s) (r .to-outputs) (d .outputs) (r .to-locals) (r .outputs))
       ∙ ap offsetOf (onward-to (portsIn ns s) (r .to-locals) (d .locals) (r .to-initial) (r .locals))
 
-  states-to : (at : ℕ) (d : Drawing) (q : ℕ) → (r : MachineRead ns s at d q) → statesEnd ns s (r .to-initial) ≡ q
+  pub states-to : (at : ℕ) (d : Drawing) (q : ℕ) → (r : MachineRead ns s at d q) → statesEnd ns s (r .to-initial) ≡ q
   unfolding statesEnd offsetOf counted
   states-to at d q r =
       let i = name-number ns s (r .to-initial) (d .initial) (r .head .to-states) (r .head .initial) in

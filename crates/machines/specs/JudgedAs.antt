@@ -1,17 +1,14 @@
 -- What the code's judgement of a machine stands for: the refusal or the machine of the definition.
-use Prim.Native.Nat.{ℕ, suc, _<_}
+use Prim.Native.Nat.{ℕ, _<_}
 use mathlib.Core.List.{List, [], _∷_}
-use mathlib.Core.Option.{none}
 use mathlib.Core.Path.{_≡_}
-use Rattle.pack.specs.Syntax.{Drawing, Machine, States}
+use Rattle.pack.specs.Syntax.{Drawing}
 use Rattle.pack.specs.Report.{Refusal, entries}
 use Rattle.machines.specs.declared.refusal.Judged.{Judged}
-use Rattle.machines.specs.Resolve.{asMachine, resolvedStates, went}
-use Rattle.machines.specs.Lower.{sizeS}
-use Rattle.machines.specs.Checks.{refusalOf}
 use Rattle.machines.specs.Machines as definition
 use Rattle.machines.specs.Machines.{accept, refuse}
 use Rattle.machines.specs.Entries.{entryBytes}
+use Rattle.machines.specs.Verdicts.{AcceptedAs}
 
 -- the pack, where its names stand, letters; the index of the machine's name
 module _ (s spots lets : List ℕ) (m : ℕ) where
@@ -22,17 +19,7 @@ module _ (s spots lets : List ℕ) (m : ℕ) where
     pub regions : j .regions ≡ 0
     pub entry : entryBytes s spots lets m j ≡ entries (r ∷ [])
 
--- the machine that is lowered: d with its states resolved, and as many regions as these have with the top one
-pub record AcceptedAs (ms : List Drawing) (d : Drawing) (x : Machine) (j : Judged) : Type 0 where
-  pub kind : j .kind ≡ 0
-  pub states : States
-  pub count : ℕ
-  pub resolves : resolvedStates ms d ≡ went states count
-  pub machine : x ≡ asMachine d states
-  pub fine : refusalOf x ≡ none
-  pub regions : j .regions ≡ suc (sizeS states)
-  pub few : j .regions < 65536
-
+-- an accepted machine has kind 0, and as many regions as the definition gives it
 unfoldable pub JudgedAs : List ℕ → List ℕ → List ℕ → ℕ → List Drawing → Drawing → definition.Judged → Judged → Type 0
 JudgedAs s spots lets m ms d (refuse r) j = RefusedAs s spots lets m r j
-JudgedAs s spots lets m ms d (accept x) j = AcceptedAs ms d x j
+JudgedAs s spots lets m ms d (accept x) j = (j .kind ≡ 0) × AcceptedAs ms d x (j .regions)

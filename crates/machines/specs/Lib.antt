@@ -24,6 +24,7 @@ pub mod Checks
 pub mod Machines
 pub mod Sections
 pub mod Judging
+pub mod Verdicts
 pub mod JudgedAs
 pub mod Shown
 pub mod Brought
