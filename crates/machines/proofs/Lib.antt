@@ -84,3 +84,8 @@ pub mod TablesFilled
 pub mod PackCounts
 pub mod PackSettled
 pub mod SettledExample
+pub mod TablesKnown
+pub mod CallLaws
+pub mod Opened
+pub mod Answered
+pub mod CallOpened

@@ -68,16 +68,18 @@ module _ (s spots lets : List ℕ) (m : ℕ) (ms : List Drawing) (d : Drawing) (
   went-as ss n e h = subst (λ w. JudgedAs s spots lets m ms d (resolved d w) j) (sym e) (by (refusalOf (asMachine d ss)) refl h)
     where
       by : (o : Option Refusal) → refusalOf (asMachine d ss) ≡ o → Stood s spots lets m (suc (sizeS ss)) o j → JudgedAs s spots lets m ms d (checked (asMachine d ss) o) j
-      by none f g =
-          (ap (λ (y : Judged). y .kind) (g .0), record {
-            states = ss;
-            count = n;
-            is = refl;
-            resolves = e;
-            accepted = f;
-            regions = ap (λ (y : Judged). y .regions) (g .0);
-            few = subst (λ (y : Judged). y .regions < 65536) (sym (g .0)) (g .1);
-          })
+      by none f g = (
+        ap (λ (y : Judged). y .kind) (g .0),
+        record {
+          states = ss;
+          count = n;
+          is = refl;
+          resolves = e;
+          accepted = f;
+          regions = ap (λ (y : Judged). y .regions) (g .0);
+          few = subst (λ (y : Judged). y .regions < 65536) (sym (g .0)) (g .1);
+        },
+      )
       by (some r) f g = g
 
 module _ (s : List ℕ) (ns : List Name) (ms : List Drawing) (spots to : List ℕ) (r : Ready s ns ms spots to) (bytes : Bytes s)

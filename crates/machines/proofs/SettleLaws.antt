@@ -22,12 +22,6 @@ use Rattle.machines.specs.Relaid.{Long}
 use Rattle.machines.specs.Settling.{HasRegions, Nodes, fillT, findT, foundIn, goesTo, joined, machineEnd, nodeEnd, nodeNameT, nodesOf, nth, refusedT, settleT, settledT}
 use Rattle.machines.proofs.SureLaws.{on}
 
--- tables of the same lengths are as long
-pub long-kept : (t reg lets t' reg' lets' : List ℕ) → Long t reg lets → length t' ≡ length t → length reg' ≡ length reg → length lets' ≡ length lets → Long t' reg' lets'
-long-kept t reg lets t' reg' lets' l a b c =
-    let x = l .words in let y = l .regions in let z = l .letters in let u = l .fewWords in let v = l .fewRegions in let w = l .fewLetters in
-    record { words = omega arith; regions = omega arith; letters = omega arith; fewWords = omega arith; fewRegions = omega arith; fewLetters = omega arith }
-
 fill-step : (f : ℕ → ℕ) (m i : ℕ) (t : List ℕ) → fillT f (suc m) i t ≡ fillT f m (suc i) (set t i (f i))
 unfolding fillT
 fill-step f m i t = refl

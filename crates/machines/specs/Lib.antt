@@ -32,6 +32,7 @@ pub mod NodeHeads
 pub mod Relaid
 pub mod Settling
 pub mod Reporting
+pub mod Filled
 pub mod Parts
 pub mod Judges
 pub mod Call

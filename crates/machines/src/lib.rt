@@ -35,3 +35,4 @@ pub mod beginnings; // nodes up to their equations
 pub mod relaid; // what is written of machines that are laid out again
 pub mod parts; // nodes with all that goes to them
 pub mod sections; // all that follows the names
+pub mod call; // lowering a pack's machines

@@ -152,7 +152,21 @@ pub fn put_report(
     let mut i = 0;
     let mut e = 2;
     while i < n {
-        e = put_refusal(s, names, spots, to, t, reg, lets, mats, ats, regs, i, report, e);
+        e = put_refusal(
+            s,
+            names,
+            spots,
+            to,
+            t,
+            reg,
+            lets,
+            mats,
+            ats,
+            regs,
+            i,
+            report,
+            e,
+        );
         i += 1;
     }
 }

@@ -6,7 +6,7 @@ use lib.ListN.{length}
 use Rattle.pack.specs.Names.{Name}
 use Rattle.pack.specs.Outcome.{overwritten}
 use Rattle.machines.specs.Reporting.{EntersAll, bytesT, ofRefused}
-use Rattle.machines.proofs.SettleLaws.{long-kept}
+use Rattle.machines.proofs.RelaidLaws.{long-kept}
 use Rattle.machines.proofs.ReportingLaws.{bytes-start, count-fits, count-more, entered, over-first, over-last, over-next, report-whole, room-now, within-now}
 use borrow.Author.Needs.{needs}
 use Rattle.machines.proofs.reporting.put_report.Statement.{statement}
@@ -26,7 +26,7 @@ loop-holds : tie.Need-loop-holds Inv-loop μ-loop
 loop-holds c = (refl, refl, refl, refl, λ ns q es h. (ap (λ (y : List ℕ). 2 + length y) (bytes-start (ofRefused _ es) _), over-first (ofRefused _ es) _ _))
 
 put-refusal-requires : tie.Need-put-refusal-requires Inv-loop μ-loop
-put-refusal-requires c κs = (c .before .before .before .before .before .before .before .before .before .before .before .before .before .before .before .before .before .before .before .before .pre .0, room-now _ _ _ _ _ _ _ _ _ (c .before .before .before .before .before .before .before .before .before .before .before .before .before .before .before .before .before .before .before .before .pre .2) _ _ _ (c .before .before .before .before .before .loop .inv .3 ∙ c .before .before .before .before .before .before .before .before .put-count .kept .1 .0) (λ ns q es h. c .before .before .before .before .before .loop .inv .4 ns q es h .0) _ _ _ (long-kept _ _ _ _ _ _ (c .before .before .before .before .before .before .before .before .before .before .before .before .before .before .before .before .before .before .before .before .pre .1) (c .before .before .before .before .before .loop .inv .0) (c .before .before .before .before .before .loop .inv .1) (c .before .before .before .before .before .loop .inv .2)) (c .before .before .before .before .loop-test .taken))
+put-refusal-requires c κs = (c .before .before .before .before .before .before .before .before .before .before .before .before .before .before .before .before .before .before .before .before .pre .0, room-now _ _ _ _ _ _ _ _ _ (c .before .before .before .before .before .before .before .before .before .before .before .before .before .before .before .before .before .before .before .before .pre .2) _ _ _ (c .before .before .before .before .before .loop .inv .3 ∙ c .before .before .before .before .before .before .before .before .put-count .kept .1 .0) (λ ns q es h. c .before .before .before .before .before .loop .inv .4 ns q es h .0) _ _ _ (long-kept _ _ _ _ _ _ (c .before .before .before .before .before .loop .inv .0) (c .before .before .before .before .before .loop .inv .1) (c .before .before .before .before .before .loop .inv .2) (c .before .before .before .before .before .before .before .before .before .before .before .before .before .before .before .before .before .before .before .before .pre .1)) (c .before .before .before .before .loop-test .taken))
 
 add-i : tie.Need-add-i Inv-loop μ-loop
 add-i c = omega (arith, c .before .before .before .before .before .before .before .before .before .before .before .before .before .loop-test .taken, c .before .before .before .before .before .before .before .before .before .before .before .before .before .before .before .before .before .before .before .before .before .before .before .before .before .before .before .before .before .fits .n)
@@ -35,7 +35,7 @@ loop-less : tie.Need-loop-less Inv-loop μ-loop
 loop-less c = omega (arith, c .before .before .before .before .before .before .before .before .before .before .before .before .before .loop-test .taken)
 
 loop-again : tie.Need-loop-again Inv-loop μ-loop
-loop-again c = (c .before .before .before .before .before .before .before .before .put-refusal .kept .1 .1 .1 .1 .0 ∙ c .before .before .before .before .before .before .before .before .before .before .before .before .before .before .loop .inv .0, c .before .before .before .before .before .before .before .before .put-refusal .kept .1 .1 .1 .1 .1 .0 ∙ c .before .before .before .before .before .before .before .before .before .before .before .before .before .before .loop .inv .1, c .before .before .before .before .before .before .before .before .put-refusal .kept .1 .1 .1 .1 .1 .1 .0 ∙ c .before .before .before .before .before .before .before .before .before .before .before .before .before .before .loop .inv .2, c .before .before .before .before .before .before .before .before .put-refusal .kept .1 .1 .1 .1 .1 .1 .1 .1 .1 .1 .1 .0 ∙ c .before .before .before .before .before .before .before .before .before .before .before .before .before .before .loop .inv .3, λ ns q es h. (count-more (ofRefused _ es) _ _ _ _ _ _ (c .before .before .before .before .before .before .before .before .before .before .before .before .before .loop-test .taken) (entered ns _ _ _ _ _ _ _ _ _ _ es (h _ (c .before .before .before .before .before .before .before .before .before .before .before .before .before .loop-test .taken)) (long-kept _ _ _ _ _ _ (c .before .before .before .before .before .before .before .before .before .before .before .before .before .before .before .before .before .before .before .before .before .before .before .before .before .before .before .before .before .pre .1) (c .before .before .before .before .before .before .before .before .before .before .before .before .before .before .loop .inv .0) (c .before .before .before .before .before .before .before .before .before .before .before .before .before .before .loop .inv .1) (c .before .before .before .before .before .before .before .before .before .before .before .before .before .before .loop .inv .2))) (c .before .before .before .before .before .before .before .before .put-refusal .ensures ns q .0) (c .before .before .before .before .before .before .before .before .before .before .before .before .before .before .loop .inv .4 ns q es h .0), over-next (ofRefused _ es) _ _ _ _ _ _ _ _ (c .before .before .before .before .before .before .before .before .before .before .before .before .before .loop-test .taken) (within-now _ _ _ _ _ _ _ _ _ (c .before .before .before .before .before .before .before .before .before .before .before .before .before .before .before .before .before .before .before .before .before .before .before .before .before .before .before .before .before .pre .2) _ _ _ (c .before .before .before .before .before .before .before .before .before .before .before .before .before .before .loop .inv .3 ∙ c .before .before .before .before .before .before .before .before .before .before .before .before .before .before .before .before .before .put-count .kept .1 .0) (λ ns q es h. c .before .before .before .before .before .before .before .before .before .before .before .before .before .before .loop .inv .4 ns q es h .0)) (entered ns _ _ _ _ _ _ _ _ _ _ es (h _ (c .before .before .before .before .before .before .before .before .before .before .before .before .before .loop-test .taken)) (long-kept _ _ _ _ _ _ (c .before .before .before .before .before .before .before .before .before .before .before .before .before .before .before .before .before .before .before .before .before .before .before .before .before .before .before .before .before .pre .1) (c .before .before .before .before .before .before .before .before .before .before .before .before .before .before .loop .inv .0) (c .before .before .before .before .before .before .before .before .before .before .before .before .before .before .loop .inv .1) (c .before .before .before .before .before .before .before .before .before .before .before .before .before .before .loop .inv .2))) (c .before .before .before .before .before .before .before .before .put-refusal .ensures ns q .0) (c .before .before .before .before .before .before .before .before .put-refusal .ensures ns q .1) (c .before .before .before .before .before .before .before .before .before .before .before .before .before .before .loop .inv .4 ns q es h .1)))
+loop-again c = (c .before .before .before .before .before .before .before .before .put-refusal .kept .1 .1 .1 .1 .0 ∙ c .before .before .before .before .before .before .before .before .before .before .before .before .before .before .loop .inv .0, c .before .before .before .before .before .before .before .before .put-refusal .kept .1 .1 .1 .1 .1 .0 ∙ c .before .before .before .before .before .before .before .before .before .before .before .before .before .before .loop .inv .1, c .before .before .before .before .before .before .before .before .put-refusal .kept .1 .1 .1 .1 .1 .1 .0 ∙ c .before .before .before .before .before .before .before .before .before .before .before .before .before .before .loop .inv .2, c .before .before .before .before .before .before .before .before .put-refusal .kept .1 .1 .1 .1 .1 .1 .1 .1 .1 .1 .1 .0 ∙ c .before .before .before .before .before .before .before .before .before .before .before .before .before .before .loop .inv .3, λ ns q es h. (count-more (ofRefused _ es) _ _ _ _ _ _ (c .before .before .before .before .before .before .before .before .before .before .before .before .before .loop-test .taken) (entered ns _ _ _ _ _ _ _ _ _ _ es (h _ (c .before .before .before .before .before .before .before .before .before .before .before .before .before .loop-test .taken)) (long-kept _ _ _ _ _ _ (c .before .before .before .before .before .before .before .before .before .before .before .before .before .before .loop .inv .0) (c .before .before .before .before .before .before .before .before .before .before .before .before .before .before .loop .inv .1) (c .before .before .before .before .before .before .before .before .before .before .before .before .before .before .loop .inv .2) (c .before .before .before .before .before .before .before .before .before .before .before .before .before .before .before .before .before .before .before .before .before .before .before .before .before .before .before .before .before .pre .1))) (c .before .before .before .before .before .before .before .before .put-refusal .ensures ns q .0) (c .before .before .before .before .before .before .before .before .before .before .before .before .before .before .loop .inv .4 ns q es h .0), over-next (ofRefused _ es) _ _ _ _ _ _ _ _ (c .before .before .before .before .before .before .before .before .before .before .before .before .before .loop-test .taken) (within-now _ _ _ _ _ _ _ _ _ (c .before .before .before .before .before .before .before .before .before .before .before .before .before .before .before .before .before .before .before .before .before .before .before .before .before .before .before .before .before .pre .2) _ _ _ (c .before .before .before .before .before .before .before .before .before .before .before .before .before .before .loop .inv .3 ∙ c .before .before .before .before .before .before .before .before .before .before .before .before .before .before .before .before .before .put-count .kept .1 .0) (λ ns q es h. c .before .before .before .before .before .before .before .before .before .before .before .before .before .before .loop .inv .4 ns q es h .0)) (entered ns _ _ _ _ _ _ _ _ _ _ es (h _ (c .before .before .before .before .before .before .before .before .before .before .before .before .before .loop-test .taken)) (long-kept _ _ _ _ _ _ (c .before .before .before .before .before .before .before .before .before .before .before .before .before .before .loop .inv .0) (c .before .before .before .before .before .before .before .before .before .before .before .before .before .before .loop .inv .1) (c .before .before .before .before .before .before .before .before .before .before .before .before .before .before .loop .inv .2) (c .before .before .before .before .before .before .before .before .before .before .before .before .before .before .before .before .before .before .before .before .before .before .before .before .before .before .before .before .before .pre .1))) (c .before .before .before .before .before .before .before .before .put-refusal .ensures ns q .0) (c .before .before .before .before .before .before .before .before .put-refusal .ensures ns q .1) (c .before .before .before .before .before .before .before .before .before .before .before .before .before .before .loop .inv .4 ns q es h .1)))
 
 same-length : tie.Need-same-length Inv-loop μ-loop
 same-length c = c .before .loop .inv .0

@@ -5,7 +5,7 @@ use mathlib.Core.Path.{_≡_, refl, ap, _∙_}
 use lib.ListN.{length}
 use Rattle.pack.specs.Names.{Name}
 use Rattle.machines.specs.Reporting.{EntersAll, bytesT, ofRefused}
-use Rattle.machines.proofs.SettleLaws.{long-kept}
+use Rattle.machines.proofs.RelaidLaws.{long-kept}
 use Rattle.machines.proofs.ReportingLaws.{bytes-start, count-done, count-more, entered}
 use borrow.Author.Needs.{needs}
 use Rattle.machines.proofs.reporting.report_len.Statement.{statement}
@@ -21,7 +21,7 @@ loop-holds : tie.Need-loop-holds Inv-loop μ-loop
 loop-holds c = (refl, refl, refl, omega arith, λ ns e es h. ap (λ (y : List ℕ). 2 + length y) (bytes-start _ _))
 
 refusal-len-requires : tie.Need-refusal-len-requires Inv-loop μ-loop
-refusal-len-requires c κs = (c .before .before .before .before .before .before .before .before .before .before .before .before .before .before .pre .0, long-kept _ _ _ _ _ _ (c .before .before .before .before .before .before .before .before .before .before .before .before .before .before .pre .1) (c .before .before .before .before .loop .inv .0) (c .before .before .before .before .loop .inv .1) (c .before .before .before .before .loop .inv .2))
+refusal-len-requires c κs = (c .before .before .before .before .before .before .before .before .before .before .before .before .before .before .pre .0, long-kept _ _ _ _ _ _ (c .before .before .before .before .loop .inv .0) (c .before .before .before .before .loop .inv .1) (c .before .before .before .before .loop .inv .2) (c .before .before .before .before .before .before .before .before .before .before .before .before .before .before .pre .1))
 
 add-c : tie.Need-add-c Inv-loop μ-loop
 add-c c = omega (arith, c .before .before .before .before .before .before .before .before .before .before .before .loop .inv .3, c .before .before .before .before .before .before .refusal-len .ensures .0, c .before .before .before .before .before .before .before .before .before .before .loop-test .taken, c .before .before .before .before .before .before .before .before .before .before .before .before .before .before .before .before .before .before .before .before .before .pre .2)
@@ -33,7 +33,7 @@ loop-less : tie.Need-loop-less Inv-loop μ-loop
 loop-less c = search needs
 
 loop-again : tie.Need-loop-again Inv-loop μ-loop
-loop-again c = (c .before .before .before .before .before .before .refusal-len .kept .1 .1 .1 .1 .0 ∙ c .before .before .before .before .before .before .before .before .before .before .before .loop .inv .0, c .before .before .before .before .before .before .refusal-len .kept .1 .1 .1 .1 .1 .0 ∙ c .before .before .before .before .before .before .before .before .before .before .before .loop .inv .1, c .before .before .before .before .before .before .refusal-len .kept .1 .1 .1 .1 .1 .1 .0 ∙ c .before .before .before .before .before .before .before .before .before .before .before .loop .inv .2, omega (arith, c .before .before .before .before .before .before .before .before .before .before .before .loop .inv .3, c .before .before .before .before .before .before .refusal-len .ensures .0), λ ns e es h. count-more _ _ _ _ _ _ _ (c .before .before .before .before .before .before .before .before .before .before .loop-test .taken) (entered ns _ _ _ _ _ _ _ _ _ _ es (h _ (c .before .before .before .before .before .before .before .before .before .before .loop-test .taken)) (long-kept _ _ _ _ _ _ (c .before .before .before .before .before .before .before .before .before .before .before .before .before .before .before .before .before .before .before .before .before .pre .1) (c .before .before .before .before .before .before .before .before .before .before .before .loop .inv .0) (c .before .before .before .before .before .before .before .before .before .before .before .loop .inv .1) (c .before .before .before .before .before .before .before .before .before .before .before .loop .inv .2))) (ap (λ y. c .before .before .before .before .before .before .before .before .before .before .before .loop .c + y) (c .before .before .before .before .before .before .refusal-len .ensures .1 ns e)) (c .before .before .before .before .before .before .before .before .before .before .before .loop .inv .4 ns e es h))
+loop-again c = (c .before .before .before .before .before .before .refusal-len .kept .1 .1 .1 .1 .0 ∙ c .before .before .before .before .before .before .before .before .before .before .before .loop .inv .0, c .before .before .before .before .before .before .refusal-len .kept .1 .1 .1 .1 .1 .0 ∙ c .before .before .before .before .before .before .before .before .before .before .before .loop .inv .1, c .before .before .before .before .before .before .refusal-len .kept .1 .1 .1 .1 .1 .1 .0 ∙ c .before .before .before .before .before .before .before .before .before .before .before .loop .inv .2, omega (arith, c .before .before .before .before .before .before .before .before .before .before .before .loop .inv .3, c .before .before .before .before .before .before .refusal-len .ensures .0), λ ns e es h. count-more _ _ _ _ _ _ _ (c .before .before .before .before .before .before .before .before .before .before .loop-test .taken) (entered ns _ _ _ _ _ _ _ _ _ _ es (h _ (c .before .before .before .before .before .before .before .before .before .before .loop-test .taken)) (long-kept _ _ _ _ _ _ (c .before .before .before .before .before .before .before .before .before .before .before .loop .inv .0) (c .before .before .before .before .before .before .before .before .before .before .before .loop .inv .1) (c .before .before .before .before .before .before .before .before .before .before .before .loop .inv .2) (c .before .before .before .before .before .before .before .before .before .before .before .before .before .before .before .before .before .before .before .before .before .pre .1))) (ap (λ y. c .before .before .before .before .before .before .before .before .before .before .before .loop .c + y) (c .before .before .before .before .before .before .refusal-len .ensures .1 ns e)) (c .before .before .before .before .before .before .before .before .before .before .before .loop .inv .4 ns e es h))
 
 same-length : tie.Need-same-length Inv-loop μ-loop
 same-length c = c .before .loop .inv .0
