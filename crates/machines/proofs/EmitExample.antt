@@ -19,6 +19,7 @@ use Rattle.pack.specs.Forms.{exprArity, exprAt, exprFields, exprHead, exprOf, e
 use Rattle.pack.specs.Read.{equationsIn, exprIn, nameIn, transitionIn, equationIn, nameByte, namesIn, portIn, portsIn, typeIn}
 use Rattle.pack.specs.Write.{binByte, each, enc, enumItems, equationItems, exprItems, flagByte, list, litBytes, lookup, nameItems, unByte}
 use Rattle.pack.specs.Intern.{putAdded, putEntry, putFound, putItem, putName, putNew, render, table, tableF}
+use Rattle.pack.proofs.WrittenBack.{allSmall, small-bytes}
 use Rattle.machines.specs.MadeNames.{activeVar, nextVar, smPrefix, stateVar}
 use Rattle.machines.specs.Resolve.{prefixTransitions}
 use Rattle.machines.specs.Stands.{StateAt, endOf}
@@ -166,23 +167,9 @@ small-spots (suc (suc (suc (suc zero)))) h = record { is = refl; some = omega ar
 small-spots (suc (suc (suc (suc (suc zero))))) h = record { is = refl; some = omega arith; inside = omega arith }
 small-spots (suc (suc (suc (suc (suc (suc i)))))) h = absurd (omega arith)
 
-unfoldable octets : List ℕ → Bool
-octets [] = true
-octets (x ∷ xs) = cond (ltb x 256) (octets xs) false
-
-octets-bytes : (l : List ℕ) → octets l ≡ true → Bytes l
-unfolding octets
-octets-bytes [] e i = omega arith
-octets-bytes (x ∷ xs) e i = go (ltb x 256) refl e (octets-bytes xs) i
-  where
-    go : (b : Bool) → ltb x 256 ≡ b → cond b (octets xs) false ≡ true → (octets xs ≡ true → Bytes xs) → (i : ℕ) → getD (x ∷ xs) i 0 < 256
-    go true f g k zero = ltb-true x 256 f
-    go true f g k (suc i) = k g i
-    go false f g k i = let z : _≡_ {A = ℕ} 0 1 = cc in absurd (omega arith)
-
-small-bytes : Bytes s
-unfolding octets
-small-bytes = octets-bytes s refl
+these-bytes : Bytes s
+unfolding allSmall
+these-bytes = small-bytes s refl
 
 small-ports : portsIn ns s 14 ≡ value (small .outputs) 19
 unfolding portsIn portIn typeIn firstType typeOf typeOver plainTypes typeAt typeHead typeFields typeArity nameIn nameAt trees counted many index below guard bind mapA byte u16
@@ -214,4 +201,4 @@ small-equations = refl
 -- and so it is by the law, for every writer
 small-law : Alike (enc ns) (regionsT s spots t lets ns reg 0 2 ++ portOutputsT s t lets ns 14) (each equationItems (equationsOf small))
 unfolding sizeS sizeR
-small-law = machine-equations ns small-names small-legal (omega arith) s small-bytes spots t reg lets small-spots small 36 2 14 19 held-top small-ports small-accepted
+small-law = machine-equations ns small-names small-legal (omega arith) s these-bytes spots t reg lets small-spots small 36 2 14 19 held-top small-ports small-accepted

@@ -19,6 +19,7 @@ use Rattle.pack.specs.Forms.{binOps, exprArity, exprAt, exprFields, exprHead, e
 use Rattle.pack.specs.Read.{char, drawnOf, equationIn, equationsIn, exprIn, machineIn, name, nameByte, nameIn, nameSection, namesAfter, namesIn, optional, optionalIn, portIn, portsIn, regionAt, regionsOf, size, stateAt, stateWith, transitionIn, typeIn}
 use Rattle.pack.specs.Report.{asRefusal, firstOf}
 use Rattle.pack.specs.Verdict.{offsetOf}
+use Rattle.pack.proofs.WrittenBack.{allSmall, small-bytes}
 use Rattle.machines.specs.declared.walk.Walked.the-variants as wk
 use Rattle.machines.specs.Resolve.{arrive, asMachine, asTarget, deeper, machineOf, prefixR, prefixS, prefixTransitions, refineAt, refineWith, resolveR, resolveS, resolvedStates, shortName, shortR, shortS, shortTargets, snoc, walkOn, went, withRefine, withTarget}
 use Rattle.machines.specs.Lower.{coversR, coversS, isOnly, isSome, namesOf, ownValue}
@@ -111,18 +112,8 @@ unfolding read-M maxLevel
 instance = walked-stands s ns (M ∷ N ∷ []) (namesPlaced s 5 2 0 zeros) (machinesPlaced ns s 16 zeros) tables 18 M 45 read-M 0 (omega arith) refl 45 2 3 walks
 
 -- every byte is one
-unfoldable small : List ℕ → Bool
-small [] = true
-small (x ∷ xs) = ltb x 256 && small xs
-
-small-bytes : (l : List ℕ) → small l ≡ true → Bytes l
-unfolding small
-small-bytes [] e i = omega arith
-small-bytes (x ∷ xs) e zero = ltb-true x 256 (and-eq-true-iff (ltb x 256) (small xs) .0 e .0)
-small-bytes (x ∷ xs) e (suc i) = small-bytes xs (and-eq-true-iff (ltb x 256) (small xs) .0 e .1) i
-
-bytes-here : small s ≡ true
-unfolding small
+bytes-here : allSmall s ≡ true
+unfolding allSmall
 bytes-here = refl
 
 -- and M's two states are laid out

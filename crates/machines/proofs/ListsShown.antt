@@ -7,10 +7,9 @@ use mathlib.Core.Bool.{cond}
 use mathlib.Core.Path.{_≡_, refl, sym, ap, _∙_}
 use lib.ListN.{length, getD}
 use lib.Dec.{eqb}
-use Rattle.wire.specs.Answer.{Answer, counted, many, u16, value}
+use Rattle.wire.specs.Answer.{Answer, counted, many, value}
 use Rattle.wire.specs.Bytes.{two}
 use Rattle.wire.specs.Writer.{State, puts}
-use Rattle.wire.proofs.Answers.{bind-value, many-length, u16-value}
 use Rattle.pack.specs.Names.{Name}
 use Rattle.pack.specs.Legal.{Each}
 use Rattle.pack.specs.Write.{Item, each, equationItems, raw}
@@ -26,18 +25,14 @@ use Rattle.machines.specs.Shown.{PackOf, Shown}
 use Rattle.machines.specs.Brought.{eachT, smallOf}
 use Rattle.machines.specs.Parts.{broughtEquationsT}
 use Rattle.machines.proofs.SureLaws.{number-num}
+use Rattle.machines.proofs.PackCounts.{counted-many}
 use Rattle.machines.proofs.BroughtLaws.{small-is}
 use Rattle.machines.proofs.ShownItems.{raw-first}
 use Rattle.machines.proofs.Relaying.{itemsAt, madeEquationItems}
 
 -- a counted list that was read: its count, and the list after it
 pub counted-parts : {A : Type 0} (r : ℕ → Answer A) (s : List ℕ) (at : ℕ) (xs : List A) (q : ℕ) → counted r s at ≡ value xs q → (numberIn s at ≡ num (length xs) (at + 2)) × (many r (length xs) (at + 2) ≡ value xs q)
-unfolding counted
-counted-parts r s at xs q e =
-    let b = bind-value (u16 s at) _ xs q e in
-    let n = many-length r (b .0) (b .1) xs q (b .3) in
-    let v = u16-value s at (b .0) (b .1) (b .2) in
-    (number-num s at (b .0) (b .1) (b .2) ∙ (λ j. num (sym n j) (v .to j)), (λ j. many r (n j) (sym (v .to) j)) ∙ b .3)
+counted-parts r s at xs q e = let c = counted-many r s at xs q e in (number-num s at _ _ (c .0), c .1)
 
 -- no items stand at the start, up to it
 lies-none : (ns : List Name) (s : List ℕ) → Lies ns s 0 [] 0

@@ -1,7 +1,7 @@
 -- The lowered package section by section: enums, nodes and origins as the code writes them.
 use Prim.Native.Nat.{ℕ, _+_, _<_, zero, suc}
 use native.Mathlib.Omega.{arith}
-use mathlib.Core.List.{List, [], _∷_, _++_, append-assoc, flatMap}
+use mathlib.Core.List.{List, [], _∷_, _++_, flatMap}
 use mathlib.Core.Bool.{Bool, true, false, cond}
 use mathlib.Core.Path.{_≡_, refl, sym, ap, _∙_}
 use lib.ListN.{getD, length, length-append}
@@ -14,6 +14,7 @@ use Rattle.pack.specs.Write.{Item, activationItems, each, enumItems, equationIt
 use Rattle.machines.specs.Lower.{enumsOf, equationsOf, localsOf}
 use Rattle.machines.specs.Machines.{extend, madeMachines, start, withoutMachines}
 use Rattle.machines.specs.Sections.{Accepted, Fate, OwnedAll, Share, alone, begunItems, brings, bringsItems, brought, continued, enumCount, enumsMade, equationCount, equationsBefore, fateMachine, fatesOf, filled, filledItems, firstForms, headCount, headIn, headItems, headOf, heads, holding, holdingItems, indexOf, into, localCount, madeEnumItems, namesWith, nodeNames, nodesAfter, originCount, originFor, originsAfter, originsIn, originsItems, sectionItems, shareMachine, shareOf, shares, sharesOf, total}
+use Rattle.machines.proofs.LocalLaws.{each-append}
 use Rattle.machines.proofs.Fates.{machines-folds}
 use Rattle.machines.proofs.RegionCounts.{enum-count, equation-count, local-count}
 use Rattle.machines.proofs.Shares.{AllBelow, brought-count, filled-append, filled-none, flat-count, length-names, nodes-filled, origins-in}
@@ -62,11 +63,6 @@ final-node p e t d h =
     ∙ (filled-at 0 (sharesOf p) _ t d h ∙ ap (λ k. holding k (sharesOf p) (getD (firstForms p) t d)) (omega arith))
 
 -- items of lists made of lists
-each-append : {A : Type 0} (g : A → List Item) (a b : List A) → each g (a ++ b) ≡ each g a ++ each g b
-unfolding each
-each-append g [] b = refl
-each-append g (x ∷ a) b = ap (λ l. g x ++ l) (each-append g a b) ∙ sym (append-assoc (g x) _ _)
-
 each-flat : {A B : Type 0} (g : B → List Item) (f : A → List B) (h : A → List Item) → ((x : A) → each g (f x) ≡ h x) → (xs : List A) → each g (flatMap f xs) ≡ each h xs
 unfolding each flatMap
 each-flat g f h e [] = refl
