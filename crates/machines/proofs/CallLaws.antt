@@ -2,8 +2,8 @@
 use Prim.Native.Nat.{ℕ, _+_, _-_, _<_, _≤_}
 use native.Mathlib.Omega.{arith}
 use mathlib.Core.List.{List, [], _++_}
-use mathlib.Core.Path.{_≡_, refl, sym, ap, subst, _∙_}
-use lib.ListN.{length, getD, length-append}
+use mathlib.Core.Path.{_≡_, sym, ap, subst, _∙_}
+use lib.ListN.{length, length-append}
 use borrow.Author.Tests.{lt-ltb, le-ltb}
 use Rattle.wire.specs.Bytes.{two}
 use Rattle.wire.specs.Writer.{State, st}
@@ -11,7 +11,7 @@ use Rattle.pack.specs.Limits.{maxBytes}
 use Rattle.pack.specs.Names.{Name}
 use Rattle.pack.specs.Write.{Item}
 use Rattle.pack.specs.Intern.{render}
-use Rattle.pack.specs.Outcome.{Gives, Outcome, answered, answers, begins, numberOf, outputOf, overwritten, reportOf, reported, reports, valueOf}
+use Rattle.pack.specs.Outcome.{Gives, answered, numberOf, outputOf, overwritten, reportOf, reported, valueOf}
 use Rattle.pack.specs.declared.record.Pack.{Pack}
 use Rattle.pack.proofs.Finished.{carried}
 use Rattle.machines.specs.declared.sure.Num.{Num}

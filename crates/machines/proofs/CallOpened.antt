@@ -1,7 +1,7 @@
 -- The call by the verdict on its pack: refused by the table's numbers 1 to 5, or opened; and the scratch that it starts with.
 use Prim.Native.Nat.{ℕ, zero, suc, _≤_}
 use native.Mathlib.Omega.{arith}
-use mathlib.Core.List.{List, [], _∷_}
+use mathlib.Core.List.{List}
 use mathlib.Core.Path.{_≡_, refl, sym, ap, subst, _∙_}
 use lib.ListN.{length, getD, length-replicate, replicate}
 use Rattle.pack.specs.Limits.{maxBytes}

@@ -3,7 +3,7 @@
 use Prim.Native.Nat.{ℕ, zero, suc, _<_}
 use native.Mathlib.Omega.{arith}
 use mathlib.Core.List.{List, [], _∷_, _++_}
-use mathlib.Core.Bool.{true, false, Bool, cond}
+use mathlib.Core.Bool.{true, false}
 use mathlib.Core.Path.{_≡_, refl}
 use Rattle.wire.specs.Answer.{below, bind, byte, counted, guard, index, many, mapA, u16, value}
 use Rattle.wire.specs.Bytes.{bytes, two}
@@ -31,8 +31,6 @@ use Rattle.machines.specs.Emits.{activeT, chainT, enumsT, inRegion, last
 use Rattle.machines.proofs.EnumsEmitted.{enums-machine}
 use mathlib.Core.Option.{none, some}
 use lib.ListN.{length, getD}
-use lib.Dec.{ltb}
-use borrow.Author.Tests.{ltb-true}
 use Rattle.wire.specs.Lists.{All, Bytes}
 use Rattle.pack.specs.Legal.{Fresh, LegalName}
 use Rattle.pack.specs.Report.{asRefusal, firstOf}

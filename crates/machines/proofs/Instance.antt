@@ -2,15 +2,12 @@
 use Prim.Native.Nat.{ℕ, zero, suc, _≤_}
 use native.Mathlib.Omega.{arith}
 use mathlib.Core.List.{List, [], _∷_}
-use mathlib.Core.Bool.{Bool, true, false, _&&_, and-eq-true-iff}
+use mathlib.Core.Bool.{true, false}
 use mathlib.Core.Option.{none, some}
 use mathlib.Core.Path.{_≡_, refl, subst}
 use lib.ListN.{length, getD}
-use lib.Dec.{ltb}
-use borrow.Author.Tests.{ltb-true}
 use Rattle.wire.specs.Answer.{below, bind, byte, counted, guard, index, many, mapA, u16, value}
 use Rattle.wire.specs.Code.{next, onward, readOf, skip, skips}
-use Rattle.wire.specs.Lists.{Bytes}
 use Rattle.wire.specs.Preorder.{trees}
 use Rattle.pack.specs.Limits.{absent, maxLevel, maxName, maxStates}
 use Rattle.pack.specs.Names.{Name, eqName, member}

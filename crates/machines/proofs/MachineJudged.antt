@@ -9,13 +9,11 @@ use lib.ListN.{length, getD}
 use Rattle.wire.specs.Answer.{value}
 use Rattle.wire.specs.Lists.{All, Bytes}
 use Rattle.wire.proofs.Answers.{u16-value}
-use Rattle.wire.specs.Code.{onward}
 use Rattle.pack.specs.Names.{Name}
 use Rattle.pack.specs.Syntax.{Drawing, States}
 use Rattle.pack.specs.Forms.{nameAt}
-use Rattle.pack.specs.Read.{machineIn, optionalIn, portsIn}
+use Rattle.pack.specs.Read.{machineIn}
 use Rattle.pack.specs.Report.{Refusal}
-use Rattle.pack.specs.Verdict.{offsetOf}
 use Rattle.machines.specs.declared.refusal.Called.{Called}
 use Rattle.machines.specs.declared.refusal.Judged.{Judged}
 use Rattle.machines.specs.declared.sure.Num.{Num}

@@ -1,18 +1,16 @@
 -- A pack that was opened, with its tables filled: the report and the lowered pack are those of the definition.
-use Prim.Native.Nat.{ℕ, zero, suc, _+_, _-_, _<_, _≤_}
+use Prim.Native.Nat.{ℕ, suc, _+_, _-_, _<_, _≤_}
 use native.Mathlib.Omega.{arith}
 use mathlib.Core.List.{List, [], _∷_, _++_, append-nil}
-use mathlib.Core.Bool.{cond}
-use mathlib.Core.Option.{Option, none, some}
+use mathlib.Core.Option.{Option, some}
 use mathlib.Core.Path.{_≡_, refl, sym, ap, subst, _∙_}
 use lib.ListN.{length, getD, take, drop, length-append, length-drop}
-use lib.Dec.{eqb}
 use lib.Seq.{take-append-seam, drop-drop}
 use borrow.Author.Tests.{eq-eqb, ne-eqb}
 use Rattle.wire.specs.Answer.{value}
 use Rattle.wire.specs.Bytes.{two}
 use Rattle.wire.specs.Lists.{All, Bytes}
-use Rattle.wire.specs.Writer.{State, st}
+use Rattle.wire.specs.Writer.{st}
 use Rattle.wire.proofs.Answers.{u16-value}
 use Rattle.pack.specs.Limits.{maxBytes}
 use Rattle.pack.specs.Names.{Name}
@@ -20,30 +18,29 @@ use Rattle.pack.specs.Syntax.{Drawing, Package}
 use Rattle.pack.specs.Forms.{nameAt}
 use Rattle.pack.specs.Read.{enumIn, machineIn, nameSection}
 use Rattle.pack.specs.Report.{Refusal, entries, reportBytes}
-use Rattle.pack.specs.Outcome.{Gives, Outcome, answered, outputOf, reportOf, reported, written}
+use Rattle.pack.specs.Outcome.{answered, reported, written}
 use Rattle.pack.specs.Verdict.{Stands}
 use Rattle.pack.specs.Write.{Item, enc}
 use Rattle.pack.specs.Intern.{render}
 use Rattle.pack.specs.declared.record.Pack.{Pack}
 use Rattle.pack.proofs.Tables.{formatNames}
 use Rattle.pack.proofs.Written.{finished-is}
-use Rattle.machines.specs.declared.refusal.Judged.{Judged}
 use Rattle.machines.specs.declared.sure.Num.{Num}
 use Rattle.machines.specs.Laid.{sliceOf}
 use Rattle.machines.specs.Sure.{num, numberIn}
 use Rattle.machines.specs.Refusals.{unknownOwner}
 use Rattle.machines.specs.Machines.{judge, madeMachines, refuse, withoutMachines}
 use Rattle.machines.specs.Sections.{Share, nodeNames, sharesOf}
-use Rattle.machines.specs.Entries.{calledOf, entryBytes}
+use Rattle.machines.specs.Entries.{entryBytes}
 use Rattle.machines.specs.Judging.{boardAt, judgeAt, named, noName, refusedBy}
-use Rattle.machines.specs.JudgedAs.{JudgedAs, RefusedAs}
-use Rattle.machines.specs.Relaid.{AllWrite, Long, enumsAt, equationsAt}
+use Rattle.machines.specs.JudgedAs.{JudgedAs}
+use Rattle.machines.specs.Relaid.{Long}
 use Rattle.machines.specs.Parts.{sectionsT}
 use Rattle.machines.specs.Shown.{PackOf}
 use Rattle.machines.specs.Reporting.{EntersAll, bytesT, entryT, lettersT, ofRefused, refusalT}
 use Rattle.machines.specs.Verdicts.{SettledPack, Why, allGo, entryAt, judged as judgedSo, unowned, verdicts, verdictsOf}
 use Rattle.machines.specs.Call.{finished, machinesOf}
-use Rattle.machines.proofs.Reading.{MachineRead, machine-value, name-number, optional-some}
+use Rattle.machines.proofs.Reading.{machine-value, name-number, optional-some}
 use Rattle.machines.proofs.SureLaws.{number-num}
 use Rattle.machines.proofs.NamesPlaced.{right-name}
 use Rattle.machines.proofs.Walked.{Ready}
@@ -53,7 +50,7 @@ use Rattle.machines.proofs.MachineJudged.{judged, names-counted, names-
 use Rattle.machines.proofs.VerdictLaws.{package-goes}
 use Rattle.machines.proofs.SettledTables.{RefusedHere, enters-all}
 use Rattle.machines.proofs.PackCounts.{counted-many}
-use Rattle.machines.proofs.PackSettled.{pack-entries, pack-lowered, pack-refused}
+use Rattle.machines.proofs.PackSettled.{pack-entries, pack-lowered}
 use Rattle.machines.proofs.SectionLaws.{section-items}
 use Rattle.machines.proofs.SectionsShown.{SectionsWritten, sections-written}
 

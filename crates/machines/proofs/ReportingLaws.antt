@@ -1,11 +1,10 @@
 -- Laws for the code that writes the report of all machines, step by step.
-use Prim.Native.Nat.{ℕ, zero, suc, _+_, _-_, _<_, _≤_}
+use Prim.Native.Nat.{ℕ, suc, _+_, _-_, _<_, _≤_}
 use native.Mathlib.Numerals.{add-one}
-use native.Mathlib.Nat.{add-zero}
 use native.Mathlib.Omega.{arith}
 use mathlib.Core.List.{List, [], _++_}
 use mathlib.Core.Bool.{Bool, true, false, cond}
-use mathlib.Core.Path.{_≡_, refl, sym, ap, subst, _∙_}
+use mathlib.Core.Path.{_≡_, refl, sym, ap, _∙_}
 use lib.ListN.{length, getD, length-append}
 use lib.Dec.{eqb}
 use borrow.Author.Tests.{eq-eqb, eqb-true, ne-eqb}
@@ -17,8 +16,7 @@ use Rattle.machines.specs.declared.refusal.Called.{Called}
 use Rattle.machines.specs.declared.refusal.Judged.{Judged}
 use Rattle.machines.specs.declared.sure.Num.{Num}
 use Rattle.machines.specs.Sure.{numberIn}
-use Rattle.machines.specs.Emits.{packName}
-use Rattle.machines.specs.Entries.{calledOf, entryBytes, namesBytes}
+use Rattle.machines.specs.Entries.{entryBytes}
 use Rattle.machines.specs.Judging.{boardAt, judgeAt, named, noName, refusedBy}
 use Rattle.machines.specs.Relaid.{Long}
 use Rattle.machines.specs.Reporting.{Enters, EntersAll, RoomAt, RoomForAll, bytesT, entryT, lettersT, ofRefused, refusalT, refusedEntryT}

@@ -8,9 +8,8 @@ use mathlib.Core.Path.{_≡_, refl, sym, ap, _∙_}
 use lib.ListN.{length, getD}
 use lib.Dec.{eqb}
 use borrow.Author.Tests.{eq-eqb, ne-eqb, lt-ltb}
-use Rattle.wire.specs.Answer.{Answer, below, byte, counted, many, u16, value}
-use Rattle.wire.specs.Code.{next, onward, skip, skips}
-use Rattle.wire.specs.declared.answer.Skipped.the-variants as sk
+use Rattle.wire.specs.Answer.{below, byte, counted, many, u16, value}
+use Rattle.wire.specs.Code.{onward}
 use Rattle.wire.proofs.Answers.{bind-value, guard-value, many-length, map-value, u16-value}
 use Rattle.pack.specs.Limits.{absent}
 use Rattle.pack.specs.Names.{Name}
@@ -23,7 +22,6 @@ use Rattle.machines.specs.Lower.{sizeS}
 use Rattle.machines.specs.Sections.{Fate, Share, alone, bringsCount, broughtCount, enumCount, equationCount, fateMachine, fateOf, headCount, into, localCount, oldCount, originCount, shareMachine, total}
 use Rattle.machines.specs.Stands.{endOf}
 use Rattle.machines.specs.Sure.{num, numberIn, with}
-use Rattle.machines.specs.Tables.{outputsIn}
 use Rattle.machines.specs.Shown.{PackOf, Shown, ShownAt}
 use Rattle.machines.specs.Brought.{bringsEquationsT, bringsLocalsT, equationCountT, localCountT, localsIn, madeOf, nodeEquationsIn, nodeLocalsIn, oldT, ownedT, regionsT, smallOf, totalT}
 use Rattle.machines.proofs.Reading.{MachineRead, NumberIs, machine-value, many-cut, many-more, many-over, name-number, optional-none, optional-some}

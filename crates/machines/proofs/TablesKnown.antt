@@ -1,35 +1,29 @@
 -- The tables of a call on a pack that was opened: what they hold is what the definitions say of the pack's machines.
-use Prim.Native.Nat.{ℕ, suc, _+_, _*_, _-_, _<_, _≤_}
+use Prim.Native.Nat.{ℕ, suc, _+_, _-_, _<_, _≤_}
 use native.Mathlib.Omega.{arith}
-use mathlib.Core.List.{List, [], _∷_, _++_}
-use mathlib.Core.Option.{Option, none, some}
+use mathlib.Core.List.{List}
 use mathlib.Core.Path.{_≡_, refl, sym, ap, subst, _∙_}
-use lib.ListN.{length, getD}
-use borrow.Author.Tests.{lt-ltb}
+use lib.ListN.{length}
 use Rattle.wire.specs.Answer.{value}
-use Rattle.wire.specs.Lists.{All, Bytes}
-use Rattle.pack.specs.Names.{Name}
+use Rattle.wire.specs.Lists.{Bytes}
 use Rattle.pack.specs.Syntax.{Drawing, Machine, Package}
-use Rattle.pack.specs.Forms.{nameAt}
 use Rattle.pack.specs.Read.{machineIn, nodeIn}
-use Rattle.pack.specs.Report.{Refusal, entries}
 use Rattle.pack.specs.Verdict.{Stands}
-use Rattle.pack.specs.Write.{enc}
 use Rattle.pack.specs.declared.record.Pack.{Pack}
 use Rattle.machines.specs.declared.sure.Num.{Num}
 use Rattle.machines.specs.declared.refusal.Judged.{Judged}
 use Rattle.machines.specs.Sure.{num, numberIn}
-use Rattle.machines.specs.Tables.{machinesPlaced, namesPlaced}
+use Rattle.machines.specs.Tables.{namesPlaced}
 use Rattle.machines.specs.Resolve.{asMachine}
 use Rattle.machines.specs.Lower.{sizeS}
 use Rattle.machines.specs.Machines as definition
 use Rattle.machines.specs.Machines.{accept, judge, refuse}
-use Rattle.machines.specs.Judging.{boardAt, judgeAt}
+use Rattle.machines.specs.Judging.{judgeAt}
 use Rattle.machines.specs.JudgedAs.{JudgedAs}
 use Rattle.machines.specs.Brought.{smallOf}
 use Rattle.machines.specs.Relaid.{Long}
-use Rattle.machines.specs.Settling.{HasRegions, Nodes, fillT, machineEnd, nodeNameT, nodesOf, nth, settleT}
-use Rattle.machines.specs.Verdicts.{AcceptedAs, SettledPack, Told, ToldOf}
+use Rattle.machines.specs.Settling.{HasRegions, fillT, machineEnd, nodeNameT, nodesOf, nth, settleT}
+use Rattle.machines.specs.Verdicts.{SettledPack, Told, ToldOf}
 use Rattle.machines.specs.Filled.{Empty, Filled, machineCount, nodeCount}
 use Rattle.machines.proofs.SureLaws.{number-num}
 use Rattle.machines.proofs.NamesPlaced.{names-few, section-read}

@@ -4,7 +4,7 @@ use native.Mathlib.Omega.{arith}
 use mathlib.Core.List.{List, [], _∷_, _++_}
 use mathlib.Core.Bool.{Bool, true, false, cond, _||_}
 use mathlib.Core.Option.{Option, none, some}
-use mathlib.Core.Logic.{_⊎_, inl, inr, ⊎-elim}
+use mathlib.Core.Logic.{_⊎_, inl, inr}
 use mathlib.Core.Path.{_≡_, refl, sym, ap, subst, _∙_}
 use lib.ListN.{length, getD}
 use lib.Dec.{eqb}
@@ -13,7 +13,7 @@ use Rattle.wire.specs.Answer.{counted, many, u16, value}
 use Rattle.wire.proofs.Answers.{bind-value, map-value}
 use Rattle.pack.specs.Names.{Name, eqName, member}
 use Rattle.pack.specs.Syntax.{Regions, States, Transition, rCons, rNil, sCons, sNil}
-use Rattle.pack.specs.Forms.{flagOf, nameAt}
+use Rattle.pack.specs.Forms.{nameAt}
 use Rattle.pack.specs.Legal.{Fresh}
 use Rattle.pack.specs.Read.{exprIn, nameIn, transitionIn}
 use Rattle.pack.specs.Report.{Refusal, firstOf}
@@ -21,14 +21,13 @@ use Rattle.machines.specs.declared.valid.Checked.{Checked}
 use Rattle.machines.specs.declared.valid.Checked.the-variants as ck
 use Rattle.machines.specs.Refusals.{unknownInitial, unknownTarget}
 use Rattle.machines.specs.Resolve.{prefixTransitions}
-use Rattle.machines.specs.Stands.{StateAt, endOf}
 use Rattle.machines.specs.Sure.{numberIn, with}
-use Rattle.machines.specs.Laid.{HeldR, HeldS, LaidR, LaidS, RegionRow, StateRow, gEnd, gMore, hEnd, hMore, holed, lEnd, lMore, prefixOf, rEnd, rLeft, rMore, sliceOf}
+use Rattle.machines.specs.Laid.{LaidR, LaidS, RegionRow, holed, lEnd, lMore, prefixOf, rEnd, rLeft, rMore, sliceOf}
 use Rattle.machines.specs.Emits.{lettersAt}
 use Rattle.machines.specs.Lower.{namesOf}
 use Rattle.machines.specs.Checks.{badInitial, badR, badS, badTarget}
 use Rattle.machines.specs.Valid.{amongT, checkedRegion, checkedState, eachRow, hasT, movesChecked, orThen, targetsT}
-use Rattle.machines.proofs.Reading.{many-cut, many-end, many-more, many-over, name-number}
+use Rattle.machines.proofs.Reading.{many-cut, many-more, many-over, name-number}
 use Rattle.machines.proofs.SureLaws.{end-to, number-num, number-to}
 use Rattle.machines.proofs.NamesPlaced.{alone}
 use Rattle.machines.proofs.Refused.{eqName-turn}

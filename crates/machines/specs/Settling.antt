@@ -1,5 +1,5 @@
 -- All machines in order, as the code settles them by tables: where each is drawn, its regions, the node it goes to.
-use Prim.Native.Nat.{ℕ, zero, suc, _+_, _<_}
+use Prim.Native.Nat.{ℕ, zero, suc, _+_}
 use mathlib.Core.List.{List}
 use mathlib.Core.Bool.{cond}
 use mathlib.Core.Path.{_≡_}

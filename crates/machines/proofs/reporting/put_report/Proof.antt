@@ -8,7 +8,6 @@ use Rattle.pack.specs.Outcome.{overwritten}
 use Rattle.machines.specs.Reporting.{EntersAll, bytesT, ofRefused}
 use Rattle.machines.proofs.RelaidLaws.{long-kept}
 use Rattle.machines.proofs.ReportingLaws.{bytes-start, count-fits, count-more, entered, over-first, over-last, over-next, report-whole, room-now, within-now}
-use borrow.Author.Needs.{needs}
 use Rattle.machines.proofs.reporting.put_report.Statement.{statement}
 use Rattle.machines.proofs.reporting.put_report.Tie as tie
 
