@@ -24,19 +24,19 @@ pub fn expected_check(pack: &[u8]) -> Option<Outcome> {
     Some(answer::check(pack))
 }
 
-#[cfg(has_check)]
+#[allow(dead_code)]
 mod linked {
     extern "C" {
+        #[cfg(has_check)]
         pub fn ol_pack_check(pack: *const u8, len: usize) -> u64;
-    }
-    #[cfg(has_lowerings)]
-    extern "C" {
+        #[cfg(has_machines)]
         pub fn ol_lower_state_machines(p: *const u8, n: usize, o: *mut u8, on: usize, r: *mut u8, rn: usize) -> u64;
+        #[cfg(has_activations)]
         pub fn ol_lower_activations(p: *const u8, n: usize, o: *mut u8, on: usize, r: *mut u8, rn: usize) -> u64;
     }
 }
 
-/// The check of the linked library, if there is one.
+/// The check of the linked library, if it has one.
 pub fn linked_check() -> Option<CheckFn> {
     #[cfg(has_check)]
     return Some(linked::ol_pack_check);
@@ -44,27 +44,43 @@ pub fn linked_check() -> Option<CheckFn> {
     None
 }
 
-/// Every call that the linked library has.
-pub fn linked() -> Vec<Call> {
-    #[allow(unused_mut)]
-    let mut calls = Vec::new();
-    if let Some(function) = linked_check() {
-        calls.push(Call { name: "check", function: Function::Check(function), expected: expected_check });
-    }
-    #[cfg(has_lowerings)]
-    calls.extend([
-        Call {
-            name: "machines",
-            function: Function::Lower(linked::ol_lower_state_machines),
-            expected: crate::machines::expected,
-        },
-        Call {
-            name: "activations",
-            function: Function::Lower(linked::ol_lower_activations),
-            expected: crate::activations::expected,
-        },
-    ]);
-    calls
+/// Lowering machines by the linked library, if it can.
+pub fn linked_machines() -> Option<LowerFn> {
+    #[cfg(has_machines)]
+    return Some(linked::ol_lower_state_machines);
+    #[cfg(not(has_machines))]
+    None
 }
 
-pub const ABSENT: &str = "the library is not built: run `rt staticlib pack` in the repository's root first";
+/// Lowering activations by the linked library, if it can.
+pub fn linked_activations() -> Option<LowerFn> {
+    #[cfg(has_activations)]
+    return Some(linked::ol_lower_activations);
+    #[cfg(not(has_activations))]
+    None
+}
+
+/// Every call that the linked library has.
+pub fn linked() -> Vec<Call> {
+    let check = linked_check().map(check);
+    let machines = linked_machines().map(machines);
+    let activations = linked_activations().map(activations);
+    [check, machines, activations].into_iter().flatten().collect()
+}
+
+/// A check, held to the codec.
+pub fn check(function: CheckFn) -> Call {
+    Call { name: "check", function: Function::Check(function), expected: expected_check }
+}
+
+/// A lowering of machines, held to the reference.
+pub fn machines(function: LowerFn) -> Call {
+    Call { name: "machines", function: Function::Lower(function), expected: crate::machines::expected }
+}
+
+/// A lowering of activations, held to the reference.
+pub fn activations(function: LowerFn) -> Call {
+    Call { name: "activations", function: Function::Lower(function), expected: crate::activations::expected }
+}
+
+pub const ABSENT: &str = "the library is not built: run `rt staticlib pack` in the repository's root first (or the crate that OL_LIBRARY names)";

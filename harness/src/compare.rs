@@ -51,39 +51,56 @@ pub fn fault(judge: &mut Judge, call: &Call, pack: &[u8], lens: (usize, usize), 
     (!text.is_empty()).then_some(text)
 }
 
-/// Buffer lengths worth trying: the exact one, one less, none, some, the most.
-fn lengths(rng: &mut Rng, outcome: &Outcome) -> (usize, usize) {
-    let need = outcome.bytes();
-    let mut one = || match rng.below(8) {
-        0 => need.saturating_sub(1),
-        1 => 0,
-        2 => rng.below(need + 2),
-        3 => 65_536,
-        4 => need + rng.below(100),
-        _ => need,
-    };
-    (one(), one())
+/// Buffer lengths worth trying for one buffer: none, one too few, the exact one, some more, the most, any.
+const KINDS: usize = 6;
+
+fn length(rng: &mut Rng, kind: usize, need: usize) -> usize {
+    match kind {
+        0 => 0,
+        1 => need.saturating_sub(1),
+        2 => need,
+        3 => need + rng.range(1, 100),
+        4 => 65_536.max(need),
+        _ => rng.below(need + 2),
+    }
 }
 
-/// Holds one call on one pack to the reference; `None` where the reference cannot tell.
-pub fn one(judge: &mut Judge, call: &Call, pack: &[u8]) -> Option<Result<(), String>> {
+/// The lengths of output and report to call with: each kind for the buffer that would be written to, with any kind for
+/// the other; two pairs of any kind where nothing would be.
+fn lengths(rng: &mut Rng, outcome: &Outcome) -> Vec<(usize, usize)> {
+    let need = outcome.bytes();
+    let mut any = |kind: Option<usize>| {
+        let kind = kind.unwrap_or_else(|| rng.below(KINDS));
+        length(rng, kind, need)
+    };
+    match outcome {
+        Outcome::Lowered(_) => (0..KINDS).map(|k| (any(Some(k)), any(None))).collect(),
+        Outcome::Refused(_) => (0..KINDS).map(|k| (any(None), any(Some(k)))).collect(),
+        _ => (0..2).map(|_| (any(None), any(None))).collect(),
+    }
+}
+
+/// Holds one call on one pack to the reference: how often it was called; `None` where the reference cannot tell.
+pub fn one(judge: &mut Judge, call: &Call, pack: &[u8]) -> Option<Result<u64, String>> {
     let outcome = (call.expected)(pack)?;
-    let lens = match call.function {
-        Function::Check(_) => (0, 0),
+    let all = match call.function {
+        Function::Check(_) => vec![(0, 0)],
         Function::Lower(_) => lengths(&mut judge.rng, &outcome),
     };
-    let want = outcome.answer(lens.0, lens.1);
-    Some(match fault(judge, call, pack, lens, &want) {
-        None => Ok(()),
-        Some(text) => Err(format!(
-            "{} (output {}, report {}): {text}\n  pack ({} bytes): {}",
-            call.name,
-            lens.0,
-            lens.1,
-            pack.len(),
-            hex(pack)
-        )),
-    })
+    for &lens in &all {
+        let want = outcome.clone().answer(lens.0, lens.1);
+        if let Some(text) = fault(judge, call, pack, lens, &want) {
+            return Some(Err(format!(
+                "{} (output {}, report {}): {text}\n  pack ({} bytes): {}",
+                call.name,
+                lens.0,
+                lens.1,
+                pack.len(),
+                hex(pack)
+            )));
+        }
+    }
+    Some(Ok(all.len() as u64))
 }
 
 pub fn hex(bytes: &[u8]) -> String {
@@ -96,7 +113,10 @@ pub fn hex(bytes: &[u8]) -> String {
 
 #[derive(Debug, Clone, Copy, Default, PartialEq)]
 pub struct Tally {
+    /// Packs.
     pub compared: u64,
+    /// Calls, of which a pack gets several.
+    pub calls: u64,
     pub different: u64,
     pub skipped: u64,
 }
@@ -107,7 +127,7 @@ pub fn pack(judge: &mut Judge, calls: &[Call], pack: &[u8], tally: &mut Tally, s
     for call in calls {
         match one(judge, call, pack) {
             None => tally.skipped += 1,
-            Some(Ok(())) => {}
+            Some(Ok(calls)) => tally.calls += calls,
             Some(Err(text)) => {
                 differs = true;
                 say(text);
@@ -158,7 +178,7 @@ mod tests {
 
     #[test]
     fn a_right_call_passes() {
-        assert_eq!(run(right, 3_000), (Tally { compared: 3_000, different: 0, skipped: 0 }, vec![]));
+        assert_eq!(run(right, 3_000), (Tally { compared: 3_000, calls: 3_000, different: 0, skipped: 0 }, vec![]));
     }
 
     #[test]
@@ -173,6 +193,60 @@ mod tests {
         let (tally, said) = run(scribbles, 100);
         assert!(tally.different > 50 && tally.different < 100, "{tally:?}");
         assert!(said[0].contains("pack differs at"));
+    }
+
+    /// The reference behind the C interface.
+    unsafe extern "C" fn lowers(p: *const u8, n: usize, o: *mut u8, on: usize, r: *mut u8, rn: usize) -> u64 {
+        let pack = std::slice::from_raw_parts(p, n);
+        let want = crate::machines::expected(pack).expect("the reference can tell").answer(on, rn);
+        for (made, to) in [(&want.output, o), (&want.report, r)] {
+            if let Some(bytes) = made {
+                std::ptr::copy_nonoverlapping(bytes.as_ptr(), to, bytes.len());
+            }
+        }
+        want.word()
+    }
+
+    /// The same, but takes a buffer that is exactly long enough for too short.
+    unsafe extern "C" fn wants_more(p: *const u8, n: usize, o: *mut u8, on: usize, r: *mut u8, rn: usize) -> u64 {
+        lowers(p, n, o, on.saturating_sub(1), r, rn)
+    }
+
+    /// The same, but cleans the report first.
+    unsafe extern "C" fn cleans(p: *const u8, n: usize, o: *mut u8, on: usize, r: *mut u8, rn: usize) -> u64 {
+        std::slice::from_raw_parts_mut(r, rn).fill(0);
+        lowers(p, n, o, on, r, rn)
+    }
+
+    fn run_lowering(function: crate::calls::LowerFn, count: usize) -> (Tally, Vec<String>) {
+        let calls = [crate::calls::machines(function)];
+        let mut tally = Tally::default();
+        let mut said = Vec::new();
+        let mut judge = Judge::new(3);
+        let mut packs = Stream::new(8, Aim::Lower);
+        for _ in 0..count {
+            pack(&mut judge, &calls, &packs.pack(), &mut tally, &mut |text| said.push(text));
+        }
+        (tally, said)
+    }
+
+    #[test]
+    fn a_right_lowering_passes() {
+        let (tally, said) = run_lowering(lowers, 1_000);
+        assert_eq!((tally.compared, tally.different, said), (1_000, 0, vec![]));
+        assert!(tally.calls > 4_500, "{tally:?}");
+    }
+
+    #[test]
+    fn a_buffer_that_fits_must_be_taken() {
+        let (tally, said) = run_lowering(wants_more, 200);
+        assert!(tally.different > 100 && said[0].contains("returned 9"), "{tally:?}");
+    }
+
+    #[test]
+    fn a_report_must_stay_where_nothing_is_refused() {
+        let (tally, said) = run_lowering(cleans, 200);
+        assert!(tally.different > 150 && said[0].contains("report differs at 0"), "{tally:?}");
     }
 
     unsafe extern "C" fn writes_too_much(

@@ -4,7 +4,8 @@
 use crate::rng::Rng;
 
 const PAGE: usize = 4096;
-const ROOM: usize = 64 * PAGE;
+/// Longer than any report: a pack refuses fewer than 4,700 machines, with at most three names each.
+const ROOM: usize = 1024 * PAGE;
 /// Bytes watched on each side of a buffer, as far as the room goes.
 const GUARD: usize = 64;
 

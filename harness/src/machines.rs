@@ -23,13 +23,29 @@ pub fn expected(pack: &[u8]) -> Option<Outcome> {
 }
 
 fn outcome(p: &Package) -> Outcome {
-    let by_name = by_name(p);
-    let walks: Vec<Walk> = p.machines.iter().map(|m| walk(p, &by_name, m)).collect();
+    let walks = walks(p);
     if walks.contains(&Walk::TooLarge) || most_tokens(p, &walks) > MODEST {
         one_by_one(p, &walks)
     } else {
         at_once(p)
     }
+}
+
+pub fn walks(p: &Package) -> Vec<Walk> {
+    let by_name = by_name(p);
+    p.machines.iter().map(|m| walk(p, &by_name, m)).collect()
+}
+
+/// How many tokens the reference's own call writes; nothing where it has no answer, as a machine is too large.
+pub fn tokens(p: &Package) -> Option<usize> {
+    if walks(p).contains(&Walk::TooLarge) {
+        return None;
+    }
+    let to = To { p, expressions: Expressions::Counted };
+    let counted = Named::new(p.machines.iter().map(|m| to.machine(m)).collect());
+    // What is refused is not written.
+    let written = (0..p.machines.len()).filter_map(|i| counted.lower_distinct(i).ok());
+    Some(written.fold(0, usize::saturating_add))
 }
 
 /// No fewer tokens than the reference writes.
@@ -191,8 +207,7 @@ mod tests {
         for _ in 0..6_000 {
             let pack = packs.pack();
             let Ok(p) = decode(&pack) else { continue };
-            let by_name = by_name(&p);
-            let walks: Vec<Walk> = p.machines.iter().map(|m| walk(&p, &by_name, m)).collect();
+            let walks = walks(&p);
             if walks.contains(&Walk::TooLarge) || most_tokens(&p, &walks) > MODEST {
                 continue;
             }

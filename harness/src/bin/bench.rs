@@ -1,18 +1,28 @@
-//! The linked check against `decode`, on the same packs in one run.
+//! `bench [check] [machines] [stack]`: the linked calls against the Rust, on the same packs in one run; then the stack
+//! that they take.
 
-use harness::calls::{self, CheckFn};
+use harness::calls::{self, CheckFn, LowerFn};
+use harness::convert::to_project;
 use harness::decode::decode;
 use harness::encode::encode_any;
 use harness::gen::{self, Size};
+use harness::hostile;
 use harness::package::Package;
 use harness::rng::Rng;
-use harness::special;
+use harness::{deep, machines, special, stack};
 use std::hint::black_box;
+use std::ops::RangeInclusive;
 use std::time::{Duration, Instant};
 
 /// Each side runs in turns of this long, so that a busy machine hurts both alike.
 const TURN: Duration = Duration::from_millis(40);
 const TURNS: usize = 16;
+/// After this no further turns are taken.
+const LONGEST: Duration = Duration::from_secs(3);
+/// Where the reference's own call would write more tokens than this, it takes gigabytes.
+const MOST_TOKENS: usize = 20_000_000;
+/// The size of usual packs.
+const KB: RangeInclusive<usize> = 1_000..=20_000;
 
 struct Set {
     name: &'static str,
@@ -20,34 +30,115 @@ struct Set {
 }
 
 fn main() {
-    let linked = calls::linked_check();
-    if linked.is_none() {
+    let (check, lowering) = (calls::linked_check(), calls::linked_machines());
+    if check.is_none() {
         println!("{}; only the Rust side is timed", calls::ABSENT);
     }
-    println!("{:<34}{:>6}{:>9}{:>12}{:>12}{:>8}", "packs", "count", "bytes", "Rust us", "Rattle us", "ratio");
-    for set in sets() {
-        let (rust, rattle) = time(&set, linked);
-        let bytes: usize = set.packs.iter().map(|p| p.len()).sum();
-        let row = format!("{:<34}{:>6}{:>9}{:>12.1}", set.name, set.packs.len(), bytes / set.packs.len(), rust);
-        match rattle {
-            Some(us) => println!("{row}{us:>12.1}{:>8.2}", us / rust),
-            None => println!("{row}{:>12}{:>8}", "-", "-"),
-        }
+    let tables: Vec<String> = std::env::args().skip(1).collect();
+    let wanted = |name: &str| tables.is_empty() || tables.iter().any(|t| t == name);
+    if wanted("check") {
+        time_check(check);
+    }
+    if wanted("machines") {
+        deep::large(|| time_machines(lowering));
+    }
+    if wanted("stack") {
+        stack_use(check, lowering);
     }
 }
 
-/// Microseconds a pack: the best turn of each side.
-fn time(set: &Set, linked: Option<CheckFn>) -> (f64, Option<f64>) {
-    let (mut rust, mut rattle) = (f64::MAX, None);
+fn head(what: &str) {
+    println!("{what:<46}{:>6}{:>9}{:>12}{:>12}{:>8}", "count", "bytes", "Rust us", "Rattle us", "ratio");
+}
+
+fn row(set: &Set, mark: &str, rust: f64, rattle: Option<f64>) {
+    let bytes: usize = set.packs.iter().map(|p| p.len()).sum();
+    let name = format!("{}{mark}", set.name);
+    let row = format!("{name:<46}{:>6}{:>9}{rust:>12.1}", set.packs.len(), bytes / set.packs.len());
+    match rattle {
+        Some(us) => println!("{row}{us:>12.1}{:>8.2}", us / rust),
+        None => println!("{row}{:>12}{:>8}", "-", "-"),
+    }
+}
+
+/// The check against `decode`.
+fn time_check(linked: Option<CheckFn>) {
+    head("check");
+    for set in check_sets() {
+        // SAFETY: the pointer and the length are those of the pack.
+        let rattle = linked.map(|f| move |p: &[u8]| unsafe { f(p.as_ptr(), p.len()) });
+        let (rust, rattle) = time(&set, |p| decode(p).is_ok() as u64, rattle);
+        row(&set, "", rust, rattle);
+    }
+}
+
+/// Lowering machines against decoding, the reference's call and encoding.
+fn time_machines(linked: Option<LowerFn>) {
+    head("machines (~: the reference's call cannot do it)");
+    for set in machine_sets() {
+        let plain = set.packs.iter().all(|p| plain(p));
+        let rust = move |p: &[u8]| {
+            let outcome = match decode(p) {
+                Ok(p) if plain => Some(machines::at_once(&p)),
+                _ => machines::expected(p),
+            };
+            outcome.map_or(0, |o| o.bytes() as u64)
+        };
+        let (rust, rattle) = time(&set, rust, linked.map(|f| move |p: &[u8]| lower(f, p)));
+        row(&set, if plain { "" } else { " ~" }, rust, rattle);
+    }
+    println!("of the Rust's time on the generated packs, lowering alone: {:.1} us", lowering_alone());
+}
+
+fn legal(pack: &[u8]) -> bool {
+    decode(pack).is_ok()
+}
+
+/// Whether the reference's own call can lower the machines of a pack.
+fn plain(pack: &[u8]) -> bool {
+    decode(pack).is_ok_and(|p| machines::tokens(&p).is_some_and(|tokens| tokens <= MOST_TOKENS))
+}
+
+/// With buffers that all results and most reports fit in.
+fn lower(f: LowerFn, p: &[u8]) -> u64 {
+    thread_local! {
+        static BUFFERS: std::cell::RefCell<[Vec<u8>; 2]> = std::cell::RefCell::new([vec![0; 65_536], vec![0; 65_536]]);
+    }
+    BUFFERS.with_borrow_mut(|[o, r]| {
+        // SAFETY: each pointer is that of a live buffer of the length given with it.
+        unsafe { f(p.as_ptr(), p.len(), o.as_mut_ptr(), o.len(), r.as_mut_ptr(), r.len()) }
+    })
+}
+
+/// Microseconds that the reference's call takes of a generated pack, on a project that is ready.
+fn lowering_alone() -> f64 {
+    let projects: Vec<_> = generated(60, KB, &plain).iter().map(|p| to_project(&decode(p).unwrap())).collect();
+    let mut best = f64::MAX;
     for _ in 0..TURNS {
-        rust = rust.min(turn(set, |p| decode(p).is_ok() as u64));
-        if let Some(f) = linked {
-            // SAFETY: the pointer and the length are those of the pack.
-            let us = turn(set, |p| unsafe { f(p.as_ptr(), p.len()) });
-            rattle = Some(us.min(rattle.unwrap_or(f64::MAX)));
+        let mut ready = projects.clone();
+        let start = Instant::now();
+        for project in &mut ready {
+            black_box(project.lower_state_machines().is_ok());
+        }
+        best = best.min(start.elapsed().as_secs_f64() * 1e6 / projects.len() as f64);
+    }
+    best
+}
+
+/// Microseconds a pack: the best turn of each side.
+fn time(set: &Set, rust: impl Fn(&[u8]) -> u64, linked: Option<impl Fn(&[u8]) -> u64>) -> (f64, Option<f64>) {
+    let (mut best, mut rattle) = (f64::MAX, None);
+    let start = Instant::now();
+    for _ in 0..TURNS {
+        best = best.min(turn(set, &rust));
+        if let Some(f) = &linked {
+            rattle = Some(turn(set, f).min(rattle.unwrap_or(f64::MAX)));
+        }
+        if start.elapsed() > LONGEST {
+            break;
         }
     }
-    (rust, rattle)
+    (best, rattle)
 }
 
 fn turn(set: &Set, call: impl Fn(&[u8]) -> u64) -> f64 {
@@ -62,7 +153,42 @@ fn turn(set: &Set, call: impl Fn(&[u8]) -> u64) -> f64 {
     start.elapsed().as_secs_f64() * 1e6 / calls as f64
 }
 
-fn sets() -> Vec<Set> {
+/// The most stack that each call takes on these packs.
+fn stack_use(check: Option<CheckFn>, lowering: Option<LowerFn>) {
+    let packs =
+        || hostile::limits().into_iter().chain(hostile::quick()).map(|h| h.pack).chain(generated(20, KB, &legal));
+    if let Some(f) = check {
+        let most = packs().map(|p| {
+            stack::used(&mut || {
+                // SAFETY: the pointer and the length are those of the pack.
+                black_box(unsafe { f(p.as_ptr(), p.len()) });
+            })
+        });
+        println!("stack of a check: at most {} KB", most.max().unwrap_or(0) / 1024);
+    }
+    if let Some(f) = lowering {
+        let (mut o, mut r) = (vec![0u8; 65_536], vec![0u8; 65_536]);
+        let most = packs().map(|p| {
+            stack::used(&mut || {
+                // SAFETY: each pointer is that of a live buffer of the length given with it.
+                black_box(unsafe { f(p.as_ptr(), p.len(), o.as_mut_ptr(), o.len(), r.as_mut_ptr(), r.len()) });
+            })
+        });
+        println!("stack of lowering machines: at most {} KB", most.max().unwrap_or(0) / 1024);
+    }
+}
+
+fn machine_sets() -> Vec<Set> {
+    let mut sets = vec![
+        Set { name: "generated, 1 to 20 KB", packs: generated(60, KB, &plain) },
+        Set { name: "generated, 200 to 1,000 bytes", packs: generated(60, 200..=1_000, &plain) },
+        Set { name: "twelve zero bytes", packs: vec![vec![0; 12]] },
+    ];
+    sets.extend(hostile::costly().into_iter().map(|h| Set { name: h.name, packs: vec![h.pack] }));
+    sets
+}
+
+fn check_sets() -> Vec<Set> {
     let one = |name, p: Package| Set { name, packs: vec![encode_any(&p).0] };
     let mixed = || special::mixed_names(&mut Rng::new(1), 65_536);
     let padded = |mut p: Package| {
@@ -70,7 +196,7 @@ fn sets() -> Vec<Set> {
         p
     };
     vec![
-        Set { name: "generated, 2 to 20 KB", packs: generated(60) },
+        Set { name: "generated, 1 to 20 KB", packs: generated(60, KB, &legal) },
         one("worst: short names", special::names_only(65_536)),
         one("worst: short names, mixed", mixed()),
         one("worst: short names, last repeated", special::repeated(mixed(), mixed().old - 1)),
@@ -91,12 +217,13 @@ fn sets() -> Vec<Set> {
     ]
 }
 
-fn generated(count: usize) -> Vec<Vec<u8>> {
+fn generated(count: usize, bytes: RangeInclusive<usize>, wanted: &dyn Fn(&[u8]) -> bool) -> Vec<Vec<u8>> {
     let mut rng = Rng::new(1);
     let mut packs = Vec::new();
+    let size = if *bytes.end() > 2_000 { Size::Large } else { Size::Medium };
     while packs.len() < count {
-        let pack = encode_any(&gen::package(&mut rng, Size::Large)).0;
-        if (2_000..=20_000).contains(&pack.len()) && decode(&pack).is_ok() {
+        let pack = encode_any(&gen::package(&mut rng, size)).0;
+        if bytes.contains(&pack.len()) && wanted(&pack) {
             packs.push(pack);
         }
     }

@@ -1,0 +1,326 @@
+//! Packs that cost lowering machines the most for their size, or stand at its limits.
+
+use crate::encode::encode_any;
+use crate::gen::Builder;
+use crate::package::*;
+use crate::special::{self, machine, node, short_name, state};
+
+pub struct Hostile {
+    pub name: &'static str,
+    pub pack: Vec<u8>,
+}
+
+/// A port that holds a number.
+fn port(name: Name) -> Port {
+    Port { name, ty: Type::plain(4) }
+}
+
+fn equation(left: Name, rhs: Expr) -> Equation {
+    Equation { lhs: vec![left], rhs }
+}
+
+/// An expression of so many bytes.
+fn long_expr(b: &mut Builder, bytes: usize) -> Expr {
+    b.p.expr(std::iter::repeat_n(Tok::Pre, bytes - 3).chain([Tok::Tuple(0)]))
+}
+
+/// Names that nothing uses: 1 to 3 bytes each, none of which the builders here take.
+fn idle_names(b: &mut Builder, count: usize) {
+    for k in 0..count {
+        b.name(&short_name(k));
+    }
+}
+
+/// A state of this name that refines `to`.
+fn refining(name: Name, to: Name) -> State {
+    State { refines: Some(to), ..state(name) }
+}
+
+/// Machines of one state each, with names of their own.
+pub fn machines(count: usize) -> Package {
+    let mut b = Builder::new();
+    let s = b.name("S");
+    for k in 0..count {
+        let m = b.name(&short_name(k + 100));
+        b.p.machines.push(machine(m, s, vec![state(s)]));
+    }
+    b.done()
+}
+
+/// Machines without states that share a name of so many bytes: each is refused.
+pub fn stateless(count: usize, length: usize) -> Package {
+    let mut b = Builder::new();
+    let m = b.name(&"m".repeat(length));
+    b.p.machines = vec![machine(m, m, vec![]); count];
+    b.done()
+}
+
+/// Machines whose transition goes nowhere: each is refused with three names of so many bytes.
+pub fn lost_targets(count: usize, length: usize) -> Package {
+    let mut b = Builder::new();
+    let [m, s, t] = ["m", "s", "t"].map(|n| b.name(&n.repeat(length)));
+    let guard = b.p.expr([Tok::Tuple(0)]);
+    let lost = State { transitions: vec![Transition { guard, target: t }], ..state(s) };
+    b.p.machines = vec![machine(m, s, vec![lost]); count];
+    b.done()
+}
+
+/// Machines of one state and so many inputs that belong to the last of many nodes, or to one that is not there.
+pub fn owned(nodes: usize, machines: usize, inputs: usize, there: bool) -> Package {
+    let mut b = Builder::new();
+    let [n, last, m, s, i] = ["N", "Last", "M", "S", "i"].map(|n| b.name(n));
+    b.p.nodes = vec![node(n); nodes];
+    if there {
+        b.p.nodes.push(node(last));
+    }
+    let mut one = machine(m, s, vec![state(s)]);
+    one.owner = Some(last);
+    one.inputs = vec![port(i); inputs];
+    b.p.machines = vec![one; machines];
+    b.done()
+}
+
+/// One state with as many equations as there are outputs.
+pub fn outputs(count: usize) -> Package {
+    let mut b = Builder::new();
+    let [m, s] = ["M", "S"].map(|n| b.name(n));
+    let one = b.p.expr([Tok::Tuple(0)]);
+    let names: Vec<Name> = (0..count).map(|k| b.name(&short_name(k + 100))).collect();
+    let giving = State { equations: names.iter().map(|o| equation(*o, one)).collect(), ..state(s) };
+    let mut made = machine(m, s, vec![giving]);
+    made.outputs = names.iter().map(|o| port(*o)).collect();
+    b.p.machines.push(made);
+    b.done()
+}
+
+/// States that all refine a machine of one state, in which one output has a right side of so many bytes. The output is
+/// there `ports` times; after it comes one that nothing gives where the machine is to be refused.
+pub fn copies(copies: usize, bytes: usize, ports: usize, refused: bool) -> Package {
+    let mut b = Builder::new();
+    let [m, sub, s, o, missing] = ["M0", "Sub0", "S0", "o0", "p0"].map(|n| b.name(n));
+    let rhs = long_expr(&mut b, bytes);
+    let giving = State { equations: vec![equation(o, rhs)], ..state(s) };
+    b.p.machines.push(machine(sub, s, vec![giving]));
+    let states: Vec<State> = (0..copies).map(|k| refining(b.name(&short_name(k)), sub)).collect();
+    let mut made = machine(m, states[0].name, states);
+    made.outputs = vec![port(o); ports];
+    if refused {
+        made.outputs.push(port(missing));
+    }
+    b.p.machines.push(made);
+    b.done()
+}
+
+/// States that all refine a machine of one state with a guard of so many bytes.
+pub fn guards(copies: usize, bytes: usize) -> Package {
+    let mut b = Builder::new();
+    let [m, sub, s] = ["M0", "Sub0", "S0"].map(|n| b.name(n));
+    let guard = long_expr(&mut b, bytes);
+    let guarded = State { transitions: vec![Transition { guard, target: s }], ..state(s) };
+    b.p.machines.push(machine(sub, s, vec![guarded]));
+    let states: Vec<State> = (0..copies).map(|k| refining(b.name(&short_name(k)), sub)).collect();
+    b.p.machines.push(machine(m, states[0].name, states));
+    b.done()
+}
+
+/// Many names, and a machine of many states whose names come last.
+pub fn many_names(names: usize, states: usize) -> Package {
+    let mut b = Builder::new();
+    idle_names(&mut b, names);
+    let m = b.name("M000");
+    let states: Vec<State> = (0..states).map(|k| state(b.name(&format!("S{k:03}")))).collect();
+    b.p.machines.push(machine(m, states[0].name, states));
+    b.done()
+}
+
+/// Many names, and machines of one state that come after them.
+pub fn names_and_machines(names: usize, machines: usize) -> Package {
+    let mut b = Builder::new();
+    idle_names(&mut b, names);
+    let s = b.name("S000");
+    for k in 0..machines {
+        let m = b.name(&format!("M{k:03}"));
+        b.p.machines.push(machine(m, s, vec![state(s)]));
+    }
+    b.done()
+}
+
+/// Many names, and two states, the first of which has many transitions to the second.
+pub fn names_and_transitions(names: usize, count: usize) -> Package {
+    let mut b = Builder::new();
+    idle_names(&mut b, names);
+    let [m, s, t] = ["M000", "S000", "T000"].map(|n| b.name(n));
+    let guard = b.p.expr([Tok::Tuple(0)]);
+    let first = State { transitions: vec![Transition { guard, target: t }; count], ..state(s) };
+    b.p.machines.push(machine(m, s, vec![first, state(t)]));
+    b.done()
+}
+
+/// Machines that all resolve to 507 states, whose full names begin with the same 244 letters; with an initial state that
+/// is not there where they are to be refused.
+pub fn alike(count: usize, refused: bool) -> Package {
+    let mut b = Builder::new();
+    let [top, low, x, y] = ["Top", "Low", "x", "y"].map(|n| b.name(n));
+    let stem = "s".repeat(240);
+    let states: Vec<State> = (0..22).map(|k| refining(b.name(&format!("{stem}{k:02}")), low)).collect();
+    b.p.machines.push(machine(top, states[0].name, states));
+    let leaves: Vec<State> = (0..22).map(|k| state(b.name(&format!("{k:02}")))).collect();
+    b.p.machines.push(machine(low, leaves[0].name, leaves));
+    let initial = if refused { y } else { x };
+    b.p.machines.extend(vec![machine(y, initial, vec![refining(x, top)]); count]);
+    b.done()
+}
+
+/// Machines that each refine the next one, the last the first.
+pub fn ring(count: usize) -> Package {
+    let mut b = Builder::new();
+    let s = b.name("S");
+    let names: Vec<Name> = (0..count).map(|k| b.name(&short_name(k + 100))).collect();
+    for k in 0..count {
+        b.p.machines.push(machine(names[k], s, vec![refining(s, names[(k + 1) % count])]));
+    }
+    b.done()
+}
+
+/// Machines that all refine one of 511 states; with an initial state that is not there where they are to be refused.
+pub fn large_copies(count: usize, refused: bool) -> Package {
+    let mut b = Builder::new();
+    let [big, x, y] = ["Big", "Small", "Other"].map(|n| b.name(n));
+    let states: Vec<State> = (0..511).map(|k| state(b.name(&short_name(k + 100)))).collect();
+    b.p.machines.push(machine(big, states[0].name, states));
+    let initial = if refused { y } else { x };
+    b.p.machines.extend(vec![machine(y, initial, vec![refining(x, big)]); count]);
+    b.done()
+}
+
+/// A state with many regions, none of which has a state.
+pub fn empty_regions(count: usize) -> Package {
+    let mut b = Builder::new();
+    let [m, s] = ["M", "S"].map(|n| b.name(n));
+    let empty = Region { initial: s, history: false, states: vec![] };
+    b.p.machines.push(machine(m, s, vec![State { regions: vec![empty; count], ..state(s) }]));
+    b.done()
+}
+
+/// The first of many states has many transitions, all to the last; with one that goes nowhere after them where the
+/// machine is to be refused.
+pub fn transitions(states: usize, count: usize, refused: bool) -> Package {
+    let mut b = Builder::new();
+    let [m, nowhere] = ["M", "nowhere"].map(|n| b.name(n));
+    let guard = b.p.expr([Tok::Tuple(0)]);
+    let mut all: Vec<State> = (0..states).map(|k| state(b.name(&short_name(k + 100)))).collect();
+    let target = all[states - 1].name;
+    all[0].transitions = vec![Transition { guard, target }; count];
+    if refused {
+        all[0].transitions.push(Transition { guard, target: nowhere });
+    }
+    b.p.machines.push(machine(m, all[0].name, all));
+    b.done()
+}
+
+/// The package with idle names up to a pack of exactly 65,536 bytes.
+fn full(mut p: Package) -> Package {
+    special::pad(&mut p, MAX_PACK);
+    p
+}
+
+/// Packs at the limits of lowering machines.
+pub fn limits() -> Vec<Hostile> {
+    let all = [
+        ("512 states", special::wide(512, None)),
+        ("513 states", special::wide(513, None)),
+        ("512 states, the last in a refinement", special::wide(511, Some(1))),
+        ("513 states, the last in a refinement", special::wide(512, Some(1))),
+        ("8 levels inline", special::nest(8, 2)),
+        ("9 levels inline", special::nest(9, 1)),
+        ("8 levels by refinements", special::refined(7, 1, 2)),
+        ("9 levels by refinements", special::refined(8, 1, 2)),
+        ("474 states by refinements", special::refined(3, 6, 1)),
+        ("742 states by refinements", special::refined(3, 7, 1)),
+        ("a full name of 255 bytes", special::qualified(200, 54, 0)),
+        ("a full name of 256 bytes", special::qualified(200, 55, 0)),
+        ("65,536 bytes: 512 states", full(special::wide(512, None))),
+        ("65,536 bytes: refinements", full(special::refined(3, 6, 1))),
+        ("65,536 bytes: machines refused", full(stateless(4_000, 9))),
+        ("65,536 bytes: nothing to lower", full(special::nest(1, 1))),
+        ("65,537 bytes", {
+            let mut p = special::nest(1, 1);
+            special::pad(&mut p, MAX_PACK + 1);
+            p
+        }),
+    ];
+    packs(all)
+}
+
+/// Packs that cost the most.
+pub fn costly() -> Vec<Hostile> {
+    packs([
+        ("machines by the thousand, too long", machines(2_400)),
+        ("500 machines that fit", machines(500)),
+        ("machines without states", stateless(4_600, 2)),
+        ("machines without states, long report", stateless(4_650, 255)),
+        ("lost targets, longest report", lost_targets(2_200, 255)),
+        ("machines of the last of 3,900 nodes", owned(3_900, 250, 0, true)),
+        ("machines of the last of 1,200 nodes", owned(1_200, 500, 0, true)),
+        ("machines of one node, with inputs", owned(1, 700, 20, true)),
+        ("machines of a node that is not there", owned(3_600, 1_000, 0, false)),
+        ("5,900 nodes and a machine", owned(5_900, 1, 0, true)),
+        ("3,500 outputs of one state", outputs(3_500)),
+        ("an output 10,000 times in 500 states", special::repeated_ports(500, 10_000)),
+        ("right side of 50 KB, 255 times", copies(255, 50_000, 1, false)),
+        ("right side of 50 KB, 255 times, refused", copies(255, 50_000, 1, true)),
+        ("right side of 200 bytes, 100 times", copies(100, 200, 1, false)),
+        ("30 KB, 100 copies, 100 outputs, refused", copies(100, 30_000, 100, true)),
+        ("30 KB, 10,000 outputs, refused", copies(1, 30_000, 10_000, true)),
+        ("guard of 50 KB, 255 times", guards(255, 50_000)),
+        ("14,000 names, 512 states", many_names(14_000, 512)),
+        ("10,000 names, 450 states", many_names(10_000, 450)),
+        ("9,000 names, 450 machines", names_and_machines(9_000, 450)),
+        ("9,000 names, 4,000 transitions", names_and_transitions(9_000, 4_000)),
+        ("507 long names alike", alike(0, false)),
+        ("507 long names alike, 20 machines refused", alike(20, true)),
+        ("ring of 2,300 machines", ring(2_300)),
+        ("511 states, 100 machines refused", large_copies(100, true)),
+        ("511 states, 2,000 machines", large_copies(2_000, false)),
+        ("12,000 regions without states", empty_regions(12_000)),
+        ("500 states, 10,000 transitions to the last", transitions(500, 10_000, false)),
+        ("500 states, 10,000 transitions, refused", transitions(500, 10_000, true)),
+    ])
+}
+
+/// Costly packs on which calls are made quickly enough to be tried many times.
+pub fn quick() -> Vec<Hostile> {
+    packs([
+        ("machines by the thousand", machines(2_400)),
+        ("lost targets", lost_targets(2_200, 255)),
+        ("nodes by the thousand", owned(3_900, 250, 0, true)),
+        ("copies of a long right side", copies(60, 600, 1, false)),
+        ("guard of 50 KB", guards(255, 50_000)),
+        ("long names alike", alike(1, true)),
+        ("names by the thousand", many_names(14_000, 512)),
+    ])
+}
+
+fn packs<const N: usize>(all: [(&'static str, Package); N]) -> Vec<Hostile> {
+    all.into_iter().map(|(name, p)| Hostile { name, pack: encode_any(&p).0 }).collect()
+}
+
+#[cfg(test)]
+mod tests {
+    use super::*;
+    use crate::decode::decode;
+
+    #[test]
+    fn costly_packs_are_legal() {
+        for h in costly() {
+            assert!(decode(&h.pack).is_ok(), "{}: {} bytes, {:?}", h.name, h.pack.len(), decode(&h.pack).err());
+        }
+    }
+
+    #[test]
+    fn limits_are_met() {
+        for h in limits().iter().filter(|h| h.name.starts_with("65,53")) {
+            assert_eq!(h.pack.len(), if h.name.starts_with("65,536") { 65_536 } else { 65_537 }, "{}", h.name);
+        }
+    }
+}
