@@ -83,4 +83,4 @@ pub fn activations(function: LowerFn) -> Call {
     Call { name: "activations", function: Function::Lower(function), expected: crate::activations::expected }
 }
 
-pub const ABSENT: &str = "the library is not built: run `rt staticlib pack` in the repository's root first (or the crate that OL_LIBRARY names)";
+pub const ABSENT: &str = "no call is linked: run `rt staticlib` on the crate that OL_LIBRARY names (pack) first";

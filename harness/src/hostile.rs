@@ -156,8 +156,8 @@ pub fn names_and_transitions(names: usize, count: usize) -> Package {
     b.done()
 }
 
-/// Machines that all resolve to 507 states, whose full names begin with the same 244 letters; with an initial state that
-/// is not there where they are to be refused.
+/// Machines that all resolve to 507 states, most of whose full names begin with the same 242 letters; with an initial
+/// state that is not there where they are to be refused.
 pub fn alike(count: usize, refused: bool) -> Package {
     let mut b = Builder::new();
     let [top, low, x, y] = ["Top", "Low", "x", "y"].map(|n| b.name(n));
