@@ -74,7 +74,7 @@ zero-all (suc (suc (suc (suc (suc i))))) = refl
 tables : Ready s ns (M ∷ N ∷ []) (namesPlaced s 5 2 0 zeros) (machinesPlaced ns s 16 zeros)
 tables =
     let a = section-read s ns 12 names-here in
-    record { names = a; spot = names-placed s ns zeros a (omega arith); places = machines-placed ns s 16 (M ∷ N ∷ []) 81 zeros a (omega arith) zero-all machines-here }
+    record { names = a; spot = names-placed s (omega arith) ns zeros a (omega arith); places = machines-placed ns s 16 (M ∷ N ∷ []) 81 zeros (omega arith) a (omega arith) zero-all machines-here }
 
 -- the walk on these bytes, computed
 walks : machineW ns s (namesPlaced s 5 2 0 zeros) (machinesPlaced ns s 16 zeros) 0 31 ≡ wk.Went 45 2 3

@@ -1,6 +1,7 @@
 -- The table of machines is right: it finds what `machineOf` finds, the last machine of a name.
-use Prim.Native.Nat.{ℕ, zero, suc, _-_, _<_, _≤_}
+use Prim.Native.Nat.{ℕ, zero, suc, _-_, _<_, _≤_, _+_, _%_}
 use native.Mathlib.Omega.{arith}
+use native.Mathlib.Nat.{mod-eq-of-lt}
 use mathlib.Core.List.{List, [], _∷_}
 use mathlib.Core.Bool.{Bool, true, false, cond}
 use mathlib.Core.Option.{Option, none, some}
@@ -12,7 +13,7 @@ use borrow.Author.Tests.{eqb-true, eqb-false}
 use Rattle.wire.specs.Answer.{Answer, counted, many, u16, value}
 use Rattle.wire.specs.Code.{next, onward, skip, skips}
 use Rattle.wire.specs.declared.answer.Skipped.the-variants as sk
-use Rattle.wire.proofs.Answers.{bind-value}
+use Rattle.wire.proofs.Answers.{bind-value, u16-value}
 use Rattle.pack.specs.Names.{Name, eqName}
 use Rattle.pack.specs.Syntax.{Drawing}
 use Rattle.pack.specs.Forms.{nameAt}
@@ -56,16 +57,17 @@ module _ (ns : List Name) (s : List ℕ) where
       ∙ ap offsetOf (onward-to (counted (stateAt ns s) s) (r .head .to-states) (r .xs) q c)
 
   -- one machine: its name's index, and the table from the next machine on
-  placed-step : (n at : ℕ) (t : List ℕ) (d : Drawing) (q : ℕ) → (r : MachineRead ns s at d q) → (x : ℕ) × (x < length ns) × (nameAt ns x ≡ d .name) × (placedFrom ns s (suc n) at t ≡ placedFrom ns s n q (set t x (r .to-initial)))
+  placed-step : length s ≤ 65536 → (n at : ℕ) (t : List ℕ) (d : Drawing) (q : ℕ) → (r : MachineRead ns s at d q) → (x : ℕ) × (x < length ns) × (nameAt ns x ≡ d .name) × (placedFrom ns s (suc n) at t ≡ placedFrom ns s n q (set t x (r .to-initial)))
   unfolding placedFrom
-  placed-step n at t d q r =
+  placed-step short n at t d q r =
+      let low : r .to-initial % 65536 ≡ r .to-initial = mod-eq-of-lt (let u = name-number ns s (r .to-initial) (d .initial) (r .head .to-states) (r .head .initial) in let v = u16-value s (r .to-initial) (u .i) (r .head .to-states) (u .is) in let w = v .inside in omega arith) in
       let i = name-number ns s at (d .name) (r .to-owner) (r .name) in (
         i .i,
         i .small,
         i .named,
         number-to s at (i .i) (r .to-owner) _ (i .is)
-            ∙ ap (λ w. placedFrom ns s n (statesEnd ns s w) (set t (i .i) w)) (initial-to at d q r)
-            ∙ ap (λ p. placedFrom ns s n p (set t (i .i) (r .to-initial))) (states-to at d q r),
+            ∙ ap (λ w. placedFrom ns s n (statesEnd ns s w) (set t (i .i) (w % 65536))) (initial-to at d q r)
+            ∙ (λ j. placedFrom ns s n (states-to at d q r j) (set t (i .i) (low j))),
       )
 
   -- the place of a machine
@@ -79,7 +81,7 @@ module _ (ns : List Name) (s : List ℕ) where
   unfolding placedFrom
   placed-none at t = refl
 
-  module _ (fresh : Fresh [] ns) (i : ℕ) (low : i < length ns) where
+  module _ (short : length s ≤ 65536) (fresh : Fresh [] ns) (i : ℕ) (low : i < length ns) where
     other : (t : List ℕ) (x w : ℕ) (n : Name) → x < length ns → nameAt ns x ≡ n → eqName n (nameAt ns i) ≡ false → getD (set t x w) i 0 ≡ getD t i 0
     other t x w n l e f =
         let g : eqb x i ≡ false = sym (alone ns fresh i x low l) ∙ ap (λ y. eqName y (nameAt ns i)) e ∙ f in
@@ -97,7 +99,7 @@ module _ (ns : List Name) (s : List ℕ) where
     placed-miss (suc n) at (d ∷ ms) q t e m =
         let a = many-more (machineIn ns s) n at d ms q e in
         let r = machine-value ns s at d (a .0) (a .1) in
-        let k = placed-step n at t d (a .0) r in
+        let k = placed-step short n at t d (a .0) r in
         ap (λ l. getD l i 0) (k .3)
         ∙ go (machineOf ms (nameAt ns i)) refl (eqName (d .name) (nameAt ns i)) refl m (k .0) (r .to-initial) (k .1) (k .2) (λ f. placed-miss n (a .0) ms q (set t (k .0) (r .to-initial)) (a .2) f)
       where
@@ -116,7 +118,7 @@ module _ (ns : List Name) (s : List ℕ) where
     placed-find (suc n) at (d ∷ ms) q t c m e v =
         let a = many-more (machineIn ns s) n at d ms q e in
         let r = machine-value ns s at d (a .0) (a .1) in
-        let k = placed-step n at t d (a .0) r in
+        let k = placed-step short n at t d (a .0) r in
         let l : length ns ≤ length (set t (k .0) (r .to-initial)) = omega (arith, length-set t (k .0) (r .to-initial)) in
         subst (λ l. PlaceAt c (getD l i 0)) (sym (k .3))
         (go (a .0) r (k .0) (k .1) (k .2) (machineOf ms (nameAt ns i)) refl (eqName (d .name) (nameAt ns i)) refl v
@@ -155,13 +157,13 @@ found-at ns s place i d p =
     let r = p .read in
     record { k = r .k; b = r .b; q = p .q; xs = r .xs; head = subst (λ w. MachineAt ns s w (d .initial) (r .k) (r .b)) (p .here) (r .head); reads = r .inside; same = r .same }
 
-pub machines-placed : (ns : List Name) (s : List ℕ) (at : ℕ) (ms : List Drawing) (q : ℕ) (t : List ℕ) → NamesAre s ns → length ns ≤ length t → ((i : ℕ) → getD t i 0 ≡ 0) → counted (machineIn ns s) s at ≡ value ms q → Places ns s ms (machinesPlaced ns s at t)
+pub machines-placed : (ns : List Name) (s : List ℕ) (at : ℕ) (ms : List Drawing) (q : ℕ) (t : List ℕ) → length s ≤ 65536 → NamesAre s ns → length ns ≤ length t → ((i : ℕ) → getD t i 0 ≡ 0) → counted (machineIn ns s) s at ≡ value ms q → Places ns s ms (machinesPlaced ns s at t)
 unfolding machinesPlaced counted
-machines-placed ns s at ms q t h l z e =
+machines-placed ns s at ms q t short h l z e =
     let b = bind-value (u16 s at) _ ms q e in
     subst (Places ns s ms) (sym (number-to s at (b .0) (b .1) (λ n p. placedFrom ns s n p t) (b .2)))
     (record {
-      misses = λ i k m. placed-miss ns s (h .fresh) i k (b .0) (b .1) ms q t (b .3) m ∙ z i;
-      hits = λ i d k m y. never-first ns s d h (subst (PlaceAt ns s d) y (placed-find ns s (h .fresh) i k (b .0) (b .1) ms q t d l (b .3) m));
-      finds = λ i d k m. found-at ns s (λ j. getD (placedFrom ns s (b .0) (b .1) t) j 0) i d (placed-find ns s (h .fresh) i k (b .0) (b .1) ms q t d l (b .3) m);
+      misses = λ i k m. placed-miss ns s short (h .fresh) i k (b .0) (b .1) ms q t (b .3) m ∙ z i;
+      hits = λ i d k m y. never-first ns s d h (subst (PlaceAt ns s d) y (placed-find ns s short (h .fresh) i k (b .0) (b .1) ms q t d l (b .3) m));
+      finds = λ i d k m. found-at ns s (λ j. getD (placedFrom ns s (b .0) (b .1) t) j 0) i d (placed-find ns s short (h .fresh) i k (b .0) (b .1) ms q t d l (b .3) m);
     })

@@ -1,6 +1,7 @@
 -- The table of names is right: the spot of an index is where the name of that index stands.
-use Prim.Native.Nat.{ℕ, zero, suc, _+_, _*_, _-_, _<_, _≤_}
+use Prim.Native.Nat.{ℕ, zero, suc, _+_, _*_, _-_, _<_, _≤_, _%_}
 use native.Mathlib.Omega.{arith}
+use native.Mathlib.Nat.{mod-eq-of-lt}
 use mathlib.Core.List.{List, [], _∷_, _++_, append-assoc, append-nil}
 use mathlib.Core.Bool.{Bool, true, false, not}
 use mathlib.Core.Path.{_≡_, refl, sym, ap, subst, _∙_}
@@ -120,23 +121,23 @@ alone ns f i x h k = go (eqb x i) refl
 placed-before : (s : List ℕ) (n at k : ℕ) (t : List ℕ) (j : ℕ) → j < k → getD (namesPlaced s n at k t) j 0 ≡ getD t j 0
 unfolding namesPlaced
 placed-before s zero at k t j h = refl
-placed-before s (suc n) at k t j h = placed-before s n (nextName s at) (k + 1) (set t k at) j (omega arith) ∙ getD-set-other t k j at 0 (λ e. omega arith)
+placed-before s (suc n) at k t j h = placed-before s n (nextName s at) (k + 1) (set t k (at % 65536)) j (omega arith) ∙ getD-set-other t k j (at % 65536) 0 (λ e. omega arith)
 
-placed-at : (s : List ℕ) (n at k : ℕ) (t : List ℕ) (ns : List Name) → Spots s n at ns → k + n ≤ length t → (i j : ℕ) → i < n → k + i ≡ j → SpotAt s (getD (namesPlaced s n at k t) j 0) (getD ns i [])
-placed-at s zero at k t [] none l i j h g = absurd (omega arith)
-placed-at s (suc n) at k t (x ∷ xs) (more a r) l zero j h g =
+placed-at : (s : List ℕ) → length s ≤ 65536 → (n at k : ℕ) (t : List ℕ) (ns : List Name) → Spots s n at ns → k + n ≤ length t → (i j : ℕ) → i < n → k + i ≡ j → SpotAt s (getD (namesPlaced s n at k t) j 0) (getD ns i [])
+placed-at s short zero at k t [] none l i j h g = absurd (omega arith)
+placed-at s short (suc n) at k t (x ∷ xs) (more a r) l zero j h g =
     let m : j ≡ k = omega arith in
     let e : getD (namesPlaced s (suc n) at k t) j 0 ≡ at =
-    ap (λ l. getD l j 0) (names-step s n k at t) ∙ ap (λ i. getD (namesPlaced s n (nextName s at) (k + 1) (set t k at)) i 0) m
-    ∙ placed-before s n (nextName s at) (k + 1) (set t k at) k (omega arith) ∙ getD-set-same t k at 0 (omega arith) in
+    ap (λ l. getD l j 0) (names-step s n k at t) ∙ ap (λ i. getD (namesPlaced s n (nextName s at) (k + 1) (set t k (at % 65536))) i 0) m
+    ∙ placed-before s n (nextName s at) (k + 1) (set t k (at % 65536)) k (omega arith) ∙ getD-set-same t k (at % 65536) 0 (omega arith) ∙ mod-eq-of-lt (let w = a .inside in omega arith) in
     subst (λ (p : ℕ). SpotAt s p x) (sym e) a
-placed-at s (suc n) at k t (x ∷ xs) (more a r) l (suc i) j h g =
-    let m : k + 1 + n ≤ length (set t k at) = omega (arith, length-set t k at) in
-    subst (λ (l : List ℕ). SpotAt s (getD l j 0) (getD xs i [])) (sym (names-step s n k at t)) (placed-at s n (nextName s at) (k + 1) (set t k at) xs r m i j (omega arith) (omega arith))
+placed-at s short (suc n) at k t (x ∷ xs) (more a r) l (suc i) j h g =
+    let m : k + 1 + n ≤ length (set t k (at % 65536)) = omega (arith, length-set t k (at % 65536)) in
+    subst (λ (l : List ℕ). SpotAt s (getD l j 0) (getD xs i [])) (sym (names-step s n k at t)) (placed-at s short n (nextName s at) (k + 1) (set t k (at % 65536)) xs r m i j (omega arith) (omega arith))
 
-pub names-placed : (s : List ℕ) (ns : List Name) (t : List ℕ) → NamesAre s ns → length ns ≤ length t → (i : ℕ) → i < length ns → SpotAt s (getD (namesPlaced s (length ns) 2 0 t) i 0) (nameAt ns i)
+pub names-placed : (s : List ℕ) → length s ≤ 65536 → (ns : List Name) (t : List ℕ) → NamesAre s ns → length ns ≤ length t → (i : ℕ) → i < length ns → SpotAt s (getD (namesPlaced s (length ns) 2 0 t) i 0) (nameAt ns i)
 unfolding nameAt
-names-placed s ns t h l i k = placed-at s (length ns) 2 0 t ns (h .spots) (omega arith) i i k (omega arith)
+names-placed s short ns t h l i k = placed-at s short (length ns) 2 0 t ns (h .spots) (omega arith) i i k (omega arith)
 
 -- a name's length, by the table
 pub right-length : (s spots : List ℕ) (i : ℕ) (n : Name) → SpotAt s (getD spots i 0) n → lenOf s spots i ≡ length n

@@ -107,6 +107,6 @@ spots-here = refl
 -- what is written of it is the lowered package
 sections-here : SectionsWritten whole s (enc ns) (2 ∷ 4 ∷ []) (machinesPlaced ns s 10 zeros) (12 ∷ []) (0 ∷ []) (1 ∷ []) 1 (share ∷ []) sections
 sections-here =
-    let r = ready s sections whole zeros zeros stands-here (omega arith) (omega arith) zero-all in
+    let r = ready s sections whole zeros zeros stands-here (omega arith) (omega arith) (omega arith) zero-all in
     sections-written whole s (enc ns) (2 ∷ 4 ∷ []) (machinesPlaced ns s 10 zeros) (12 ∷ []) (0 ∷ []) (1 ∷ []) sections stands-here pack-here
     (subst (λ (y : List ℕ). Ready s ns (M ∷ []) y (machinesPlaced ns s 10 zeros)) spots-here r) (share ∷ []) lowered-here 1 refl

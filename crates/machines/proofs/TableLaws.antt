@@ -1,5 +1,5 @@
 -- Laws for the code that makes the tables, step by step.
-use Prim.Native.Nat.{ℕ, zero, suc, _+_, _-_, _<_, _≤_}
+use Prim.Native.Nat.{ℕ, zero, suc, _+_, _-_, _%_, _<_, _≤_}
 use native.Mathlib.Omega.{arith}
 use mathlib.Core.List.{List}
 use mathlib.Core.Path.{_≡_, refl, sym, ap, _∙_}
@@ -28,11 +28,11 @@ pub name-stays : (s : List ℕ) (at : ℕ) → length s ≤ at → at ≡ nextNa
 unfolding nextName
 name-stays s at h = rw (le-ltb at (length s) h)
 
-pub names-step : (s : List ℕ) (m k at : ℕ) (t : List ℕ) → namesPlaced s (suc m) at k t ≡ namesPlaced s m (nextName s at) (k + 1) (set t k at)
+pub names-step : (s : List ℕ) (m k at : ℕ) (t : List ℕ) → namesPlaced s (suc m) at k t ≡ namesPlaced s m (nextName s at) (k + 1) (set t k (at % 65536))
 unfolding namesPlaced
 names-step s m k at t = refl
 
-pub names-more : (s : List ℕ) (n k at : ℕ) (t u z : List ℕ) (p : ℕ) → k < n → u ≡ set t k at → p ≡ nextName s at → namesPlaced s (n - k) at k t ≡ z → namesPlaced s (n - (k + 1)) p (k + 1) u ≡ z
+pub names-more : (s : List ℕ) (n k at : ℕ) (t u z : List ℕ) (p : ℕ) → k < n → u ≡ set t k (at % 65536) → p ≡ nextName s at → namesPlaced s (n - k) at k t ≡ z → namesPlaced s (n - (k + 1)) p (k + 1) u ≡ z
 names-more s n k at t u z p h e f g = go (n - k) refl
   where
     go : (m : ℕ) → n - k ≡ m → namesPlaced s (n - (k + 1)) p (k + 1) u ≡ z
@@ -63,12 +63,12 @@ module _ (ns : List Name) (s : List ℕ) where
   unfolding statesEnd
   states-end at i c r x y z = on i _ _ r x (z ∙ ap offsetOf y)
 
-  pub placed-more : (n at w p : ℕ) (i : Num) (t u z : List ℕ) → 0 < n → i ≡ numberIn s at → w ≡ initialIn ns s (i .next) → u ≡ set t (i .value) w → p ≡ statesEnd ns s w → placedFrom ns s n at t ≡ z → placedFrom ns s (n - 1) p u ≡ z
+  pub placed-more : (n at w p : ℕ) (i : Num) (t u z : List ℕ) → 0 < n → i ≡ numberIn s at → w ≡ initialIn ns s (i .next) → u ≡ set t (i .value) (w % 65536) → p ≡ statesEnd ns s w → placedFrom ns s n at t ≡ z → placedFrom ns s (n - 1) p u ≡ z
   unfolding placedFrom
   placed-more zero at w p i t u z l a b c d e = absurd (omega arith)
   placed-more (suc n) at w p i t u z l a b c d e =
       let j : suc n - 1 ≡ n = omega arith in
-      rw (j, c, d, b) (on i (numberIn s at) (λ i p. placedFrom ns s n (statesEnd ns s (initialIn ns s p)) (set t i (initialIn ns s p))) _ a refl ∙ e)
+      rw (j, c, d, b) (on i (numberIn s at) (λ i p. placedFrom ns s n (statesEnd ns s (initialIn ns s p)) (set t i (initialIn ns s p % 65536))) _ a refl ∙ e)
 
   pub placed-end : (n at : ℕ) (t z : List ℕ) → n ≤ 0 → placedFrom ns s n at t ≡ z → t ≡ z
   unfolding placedFrom

@@ -74,7 +74,7 @@ module _ (s : List ℕ) (k : Pack) (p : Package) (h : Stands s k p) (bytes : Byt
         let lt = e .forMachines in
         subst (λ (x : List ℕ). Ready s (p .names) (p .machines) x to) (sym (f .names))
         (subst (λ (x : List ℕ). Ready s (p .names) (p .machines) (namesPlaced s (k .names) 2 0 spots₀) x) (sym (f .machines))
-        (ready s k p spots₀ to₀ h (omega arith) (omega arith) (e .noMachine)))
+        (ready s k p spots₀ to₀ h short (omega arith) (omega arith) (e .noMachine)))
 
     module _ (t reg lets : List ℕ) (long : Long t reg lets) where
       -- the regions of each machine, as tables t, reg and lets give them

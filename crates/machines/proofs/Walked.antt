@@ -40,14 +40,14 @@ pub record Ready (s : List ℕ) (ns : List Name) (ms : List Drawing) (spots to :
   pub places : Places ns s ms to
 
 -- and so they are where the code made them, on a pack that was read: in tables long enough, the second of zeros
-pub ready : (s : List ℕ) (k : Pack) (p : Package) (t u : List ℕ) → Stands s k p → length (p .names) ≤ length t → length (p .names) ≤ length u → ((i : ℕ) → getD u i 0 ≡ 0)
+pub ready : (s : List ℕ) (k : Pack) (p : Package) (t u : List ℕ) → Stands s k p → length s ≤ 65536 → length (p .names) ≤ length t → length (p .names) ≤ length u → ((i : ℕ) → getD u i 0 ≡ 0)
     → Ready s (p .names) (p .machines) (namesPlaced s (k .names) 2 0 t) (machinesPlaced (p .names) s (k .machines) u)
-ready s k p t u h l m z =
+ready s k p t u h short l m z =
     let a = section-read s (p .names) (k .enums) (h .names) in
     record {
       names = a;
-      spot = subst (λ (n : ℕ). (i : ℕ) → i < length (p .names) → SpotAt s (getD (namesPlaced s n 2 0 t) i 0) (nameAt (p .names) i)) (h .count) (names-placed s (p .names) t a l);
-      places = machines-placed (p .names) s (k .machines) (p .machines) (k .activations) u a m z (h .machines);
+      spot = subst (λ (n : ℕ). (i : ℕ) → i < length (p .names) → SpotAt s (getD (namesPlaced s n 2 0 t) i 0) (nameAt (p .names) i)) (h .count) (names-placed s short (p .names) t a l);
+      places = machines-placed (p .names) s (k .machines) (p .machines) (k .activations) u short a m z (h .machines);
     }
 
 -- what `Same` says of the code's answer

@@ -1,5 +1,5 @@
--- Tables by name index: where a name stands, and where the initial state of the last machine of that name is.
-use Prim.Native.Nat.{ℕ, zero, suc, _+_}
+-- Tables of 16-bit words by name index: where a name stands, and where the initial state of the last machine of that name is.
+use Prim.Native.Nat.{ℕ, zero, suc, _+_, _%_}
 use mathlib.Core.List.{List}
 use mathlib.Core.Bool.{cond}
 use lib.ListN.{length, getD, set}
@@ -19,7 +19,7 @@ nextName s at = cond (ltb at (length s)) (at + 1 + getD s at 0) at
 -- n names from `at` on, the first of them with the index k
 unfoldable pub namesPlaced : List ℕ → ℕ → ℕ → ℕ → List ℕ → List ℕ
 namesPlaced s zero at k t = t
-namesPlaced s (suc n) at k t = namesPlaced s n (nextName s at) (k + 1) (set t k at)
+namesPlaced s (suc n) at k t = namesPlaced s n (nextName s at) (k + 1) (set t k (at % 65536))
 
 -- a name's length, by where it stands
 unfoldable pub lenOf : List ℕ → List ℕ → ℕ → ℕ
@@ -39,7 +39,7 @@ module _ (ns : List Name) (s : List ℕ) where
   -- n machines from `at` on
   unfoldable pub placedFrom : ℕ → ℕ → List ℕ → List ℕ
   placedFrom zero at t = t
-  placedFrom (suc n) at t = with (numberIn s at) λ i p. placedFrom n (statesEnd (initialIn p)) (set t i (initialIn p))
+  placedFrom (suc n) at t = with (numberIn s at) λ i p. placedFrom n (statesEnd (initialIn p)) (set t i (initialIn p % 65536))
 
   unfoldable pub machinesPlaced : ℕ → List ℕ → List ℕ
   machinesPlaced at t = with (numberIn s at) λ n p. placedFrom n p t

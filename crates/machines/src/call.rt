@@ -43,8 +43,8 @@ ghost use Rattle.machines.specs.Call.{lowerMachines, machinesOf};
 fn fill_tables(
     s: &[u8],
     k: Pack,
-    spots: &mut [usize],
-    to: &mut [usize],
+    spots: &mut [u16],
+    to: &mut [u16],
     t: &mut [usize],
     reg: &mut [usize],
     lets: &mut [u8],
@@ -73,8 +73,8 @@ fn fill_tables(
 fn report_all(
     s: &[u8],
     names: usize,
-    spots: &[usize],
-    to: &[usize],
+    spots: &[u16],
+    to: &[u16],
     t: &mut [usize],
     reg: &mut [usize],
     lets: &mut [u8],
@@ -120,8 +120,8 @@ fn report_all(
 fn write_all(
     s: &[u8],
     k: Pack,
-    spots: &[usize],
-    to: &[usize],
+    spots: &[u16],
+    to: &[u16],
     t: &mut [usize],
     reg: &mut [usize],
     lets: &mut [u8],
@@ -160,8 +160,8 @@ fn write_all(
 fn lower_opened(
     s: &[u8],
     k: Pack,
-    spots: &mut [usize],
-    to: &mut [usize],
+    spots: &mut [u16],
+    to: &mut [u16],
     t: &mut [usize],
     reg: &mut [usize],
     lets: &mut [u8],
@@ -205,8 +205,8 @@ fn lower_whole(s: &[u8], k: Pack, output: &mut [u8], report: &mut [u8]) -> Outco
     requires { ⌜ (length (now s) ≤ 65536) × OpenedAs (now s) k ⌝ }
     ensures { λ r. ⌜ ((p : Package) → Stands (now (s .entry)) k p → Answers (machinesOf (length (now (output .entry))) (length (now (report .entry))) p) (r .number) (r .value) (now (output .entry)) (now (output .exit)) (now (report .entry)) (now (report .exit))) ⌝ }
 {
-    let mut spots = [0usize; 32768];
-    let mut to = [0usize; 32768];
+    let mut spots = [0u16; 32768];
+    let mut to = [0u16; 32768];
     let mut t = [0usize; 7698];
     let mut reg = [0usize; 514];
     let mut lets = [0u8; 131072];

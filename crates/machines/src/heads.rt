@@ -18,7 +18,7 @@ pub fn most(a: usize, b: usize) -> usize
 }
 
 // A transition: its target's length.
-fn target_len(s: &[u8], names: usize, spots: &[usize], at: usize) -> Num
+fn target_len(s: &[u8], names: usize, spots: &[u16], at: usize) -> Num
     requires { ⌜ length (now s) ≤ 65536 ⌝ }
     ensures { λ r. ⌜ ((ns : List Name) → length ns ≡ names → r ≡ targetT ns (now (s .entry)) (now (spots .entry)) at) ⌝ }
 {
@@ -30,7 +30,7 @@ fn target_len(s: &[u8], names: usize, spots: &[usize], at: usize) -> Num
 }
 
 // A state's name, equations and transitions: the longest name, and where its regions' count stands.
-pub fn head(s: &[u8], names: usize, spots: &[usize], at: usize) -> Num
+pub fn head(s: &[u8], names: usize, spots: &[u16], at: usize) -> Num
     requires { ⌜ length (now s) ≤ 65536 ⌝ }
     ensures { λ r. ⌜ ((ns : List Name) → length ns ≡ names → r ≡ headT ns (now (s .entry)) (now (spots .entry)) at) ⌝ }
 {

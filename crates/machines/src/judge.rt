@@ -178,8 +178,8 @@ fn judge_laid(
 pub fn judge(
     s: &[u8],
     names: usize,
-    spots: &[usize],
-    to: &[usize],
+    spots: &[u16],
+    to: &[u16],
     t: &mut [usize],
     reg: &mut [usize],
     lets: &mut [u8],

@@ -26,8 +26,8 @@ fn after_machine(s: &[u8], names: usize, at: usize) -> usize
 pub fn judge_all(
     s: &[u8],
     names: usize,
-    spots: &[usize],
-    to: &[usize],
+    spots: &[u16],
+    to: &[u16],
     t: &mut [usize],
     reg: &mut [usize],
     lets: &mut [u8],

@@ -1,5 +1,6 @@
 // Laying a resolved machine out in three tables: words of states and regions in preorder, the word of each region by its id,
 // the full names of states. What comes after looks at the tables alone, and meets no refinement and no prefix.
+use crate::cells::cell;
 use crate::cover::both;
 use crate::opening::Opening;
 use crate::opening::machine_as;
@@ -8,7 +9,6 @@ use crate::spell::spell;
 use crate::sure::after_equations;
 use crate::sure::after_transitions;
 use crate::sure::number;
-use crate::table::entry;
 use crate::table::put;
 use crate::words::put_region_words;
 use crate::words::put_state_ends;
@@ -83,7 +83,7 @@ fn tally(k: usize, w: usize, v: usize) -> usize
 fn open_state(
     s: &[u8],
     names: usize,
-    spots: &[usize],
+    spots: &[u16],
     t: &mut [usize],
     lets: &mut [u8],
     a: usize,
@@ -151,8 +151,8 @@ fn open_region(
 fn lay_state(
     s: &[u8],
     names: usize,
-    spots: &[usize],
-    to: &[usize],
+    spots: &[u16],
+    to: &[u16],
     t: &mut [usize],
     reg: &mut [usize],
     lets: &mut [u8],
@@ -201,7 +201,7 @@ fn lay_state(
     if f.value == 65535 {
         return close_state(t, c.words, k, f.next, e);
     }
-    let h = machine_as(s, 0, entry(to, f.value));
+    let h = machine_as(s, 0, cell(to, f.value));
     let d = lay_region(
         s,
         names,
@@ -226,8 +226,8 @@ fn lay_state(
 fn lay_region(
     s: &[u8],
     names: usize,
-    spots: &[usize],
-    to: &[usize],
+    spots: &[u16],
+    to: &[u16],
     t: &mut [usize],
     reg: &mut [usize],
     lets: &mut [u8],
@@ -275,8 +275,8 @@ fn lay_region(
 pub fn lay_machine(
     s: &[u8],
     names: usize,
-    spots: &[usize],
-    to: &[usize],
+    spots: &[u16],
+    to: &[u16],
     t: &mut [usize],
     reg: &mut [usize],
     lets: &mut [u8],

@@ -30,7 +30,7 @@ pub fn put_qualified(
     out: &mut [u8],
     w: Writer,
     s: &[u8],
-    spots: &[usize],
+    spots: &[u16],
     t: &[usize],
     lets: &[u8],
     q: usize,
@@ -47,7 +47,7 @@ pub fn put_qualified(
 pub fn put_in_region(
     old: &[u8],
     s: &[u8],
-    spots: &[usize],
+    spots: &[u16],
     t: &[usize],
     lets: &[u8],
     q: usize,

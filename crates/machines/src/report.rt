@@ -22,7 +22,7 @@ fn prefix_len(p: &[u8]) -> usize
 }
 
 // How many bytes a name takes, where there is one.
-fn called_len(s: &[u8], spots: &[usize], lets: &[u8], c: Called) -> usize
+fn called_len(s: &[u8], spots: &[u16], lets: &[u8], c: Called) -> usize
     requires { ⌜ (length (now s) ≤ 65536) × (length (now lets) ≤ 4294967296) ⌝ }
     ensures { λ r. ⌜ r ≡ length (namesBytes (calledOf (now (s .entry)) (now (spots .entry)) (now (lets .entry)) c)) ⌝ }
 {
@@ -40,7 +40,7 @@ fn called_len(s: &[u8], spots: &[usize], lets: &[u8], c: Called) -> usize
 }
 
 // How many bytes the refusal of the machine of the name m takes.
-pub fn entry_len(s: &[u8], spots: &[usize], lets: &[u8], m: usize, j: Judged) -> usize
+pub fn entry_len(s: &[u8], spots: &[u16], lets: &[u8], m: usize, j: Judged) -> usize
     requires { ⌜ (length (now s) ≤ 65536) × (length (now lets) ≤ 4294967296) ⌝ }
     ensures { λ r. ⌜ r ≡ length (entryBytes (now (s .entry)) (now (spots .entry)) (now (lets .entry)) m j) ⌝ }
 {
@@ -100,7 +100,7 @@ fn put_inside(p: &[u8], n: &[u8], report: &mut [u8], at: usize) -> usize
 // A name, where there is one.
 fn put_called(
     s: &[u8],
-    spots: &[usize],
+    spots: &[u16],
     lets: &[u8],
     c: Called,
     report: &mut [u8],
@@ -126,7 +126,7 @@ fn put_called(
 // The refusal of the machine of the name m.
 pub fn put_entry(
     s: &[u8],
-    spots: &[usize],
+    spots: &[u16],
     lets: &[u8],
     m: usize,
     j: Judged,

@@ -1,5 +1,5 @@
 // The layout as it is read: words of rows, and letters. All is total: 0 past the words, and a part is cut at the end.
-use crate::table::entry;
+use crate::cells::cell;
 use wire::writer::Writer;
 use wire::writer::capped;
 ghost use mathlib.Core.Bool.{cond};
@@ -72,10 +72,10 @@ pub fn letters<'a>(t: &[usize], lets: &'a [u8], p: usize) -> &'a [u8]
 }
 
 // A name of the pack by its index.
-pub fn pack_name<'a>(s: &'a [u8], spots: &[usize], x: usize) -> &'a [u8]
+pub fn pack_name<'a>(s: &'a [u8], spots: &[u16], x: usize) -> &'a [u8]
     ensures { λ r. ⌜ now r ≡ packName (now (s .entry)) (now (spots .entry)) x ⌝ }
 {
-    let at = entry(spots, x);
+    let at = cell(spots, x);
     if at < s.len() {
         return part(s, at + 1, s[at] as usize);
     }

@@ -1,6 +1,6 @@
 // Full names of states, one after the other in a table of letters: a length byte, then the letters.
+use crate::cells::cell;
 use crate::table::byte;
-use crate::table::entry;
 use crate::table::name_len;
 ghost use mathlib.Core.Path.{_≡_};
 ghost use Prim.Native.Nat.{suc, _+_, _<_, _≤_};
@@ -69,11 +69,11 @@ fn put_prefix(lets: &mut [u8], a: usize, m: usize, at: usize)
 }
 
 // The letters of the name i of the pack.
-fn put_name(s: &[u8], spots: &[usize], i: usize, lets: &mut [u8], at: usize)
+fn put_name(s: &[u8], spots: &[u16], i: usize, lets: &mut [u8], at: usize)
     requires { ⌜ at + lenOf (now s) (now spots) i ≤ length (now lets) ⌝ }
     ensures { λ r. ⌜ now (lets .exit) ≡ sets (now (lets .entry)) at (values (now (s .entry)) (suc (getD (now (spots .entry)) i 0)) (lenOf (now (s .entry)) (now (spots .entry)) i)) ⌝ }
 {
-    let p = entry(spots, i);
+    let p = cell(spots, i);
     if s.len() <= p {
         return;
     }
@@ -88,7 +88,7 @@ fn put_name(s: &[u8], spots: &[usize], i: usize, lets: &mut [u8], at: usize)
 // The full name of the name i: a prefix, m letters from a on and `_`, where m is not 0; then the name. How many letters it has.
 pub fn spell(
     s: &[u8],
-    spots: &[usize],
+    spots: &[u16],
     i: usize,
     a: usize,
     m: usize,

@@ -1,4 +1,6 @@
 // Tables by name index, made once: where a name stands, and where the machine of that name is.
+use crate::cells::cell;
+use crate::cells::put_cell;
 use crate::sure::number;
 use crate::sure::reached;
 use pack::charts::then_states;
@@ -45,23 +47,23 @@ fn next_name(s: &[u8], at: usize) -> usize
 }
 
 // Where each name's length byte stands.
-pub fn place_names(s: &[u8], names: usize, spots: &mut [usize])
+pub fn place_names(s: &[u8], names: usize, spots: &mut [u16])
     ensures { λ r. ⌜ now (spots .exit) ≡ namesPlaced (now (s .entry)) names 2 0 (now (spots .entry)) ⌝ }
 {
     let mut k = 0;
     let mut p = 2;
     while k < names {
-        put(spots, k, p);
+        put_cell(spots, k, p);
         p = next_name(s, p);
         k += 1;
     }
 }
 
 // How long a name is.
-pub fn name_len(s: &[u8], spots: &[usize], i: usize) -> usize
+pub fn name_len(s: &[u8], spots: &[u16], i: usize) -> usize
     ensures { λ r. ⌜ r ≡ lenOf (now (s .entry)) (now (spots .entry)) i ⌝ }
 {
-    let at = entry(spots, i);
+    let at = cell(spots, i);
     byte(s, at)
 }
 
@@ -96,7 +98,7 @@ pub fn after_states(s: &[u8], names: usize, at: usize) -> usize
 }
 
 // Where the initial state of the last machine of each name is. In a table of zeros, 0 stays where there is none.
-pub fn place_machines(s: &[u8], names: usize, at: usize, to: &mut [usize])
+pub fn place_machines(s: &[u8], names: usize, at: usize, to: &mut [u16])
     requires { ⌜ length (now s) ≤ 65536 ⌝ }
     ensures { λ r. ⌜ ((ns : List Name) → length ns ≡ names → now (to .exit) ≡ machinesPlaced ns (now (s .entry)) at (now (to .entry))) ⌝ }
 {
@@ -106,7 +108,7 @@ pub fn place_machines(s: &[u8], names: usize, at: usize, to: &mut [usize])
     while 0 < n {
         let i = number(s, p);
         let w = to_initial(s, names, i.next);
-        put(to, i.value, w);
+        put_cell(to, i.value, w);
         p = after_states(s, names, w);
         n = n - 1;
     }

@@ -1,5 +1,6 @@
 // Resolving a machine on the pack's bytes: a state's regions, then its refinement by going to the machine's place.
 // No tree is made. Of names only the longest length is kept, which decides whether qualified names fit.
+use crate::cells::cell;
 use crate::heads::head;
 use crate::heads::most;
 use crate::path::Path;
@@ -9,7 +10,6 @@ use crate::path::start;
 use crate::sure::machine;
 use crate::sure::number;
 use crate::sure::region;
-use crate::table::entry;
 use crate::table::name_len;
 use pack::record::Pack;
 ghost use mathlib.Core.List.{List};
@@ -28,7 +28,7 @@ pub enum Walked {
 }
 
 // The length of the name whose index stands at `at`.
-fn len_at(s: &[u8], spots: &[usize], at: usize) -> usize
+fn len_at(s: &[u8], spots: &[u16], at: usize) -> usize
     ensures { λ r. ⌜ r ≡ lenAt (now (s .entry)) (now (spots .entry)) at ⌝ }
 {
     let i = number(s, at);
@@ -36,13 +36,13 @@ fn len_at(s: &[u8], spots: &[usize], at: usize) -> usize
 }
 
 // Where the refinement m of the state i leads: its states' offset and count, and its initial state's length.
-fn enter(s: &[u8], spots: &[usize], to: &[usize], p: Path, i: usize, m: usize) -> Walked
+fn enter(s: &[u8], spots: &[u16], to: &[u16], p: Path, i: usize, m: usize) -> Walked
     ensures { λ r. ⌜ r ≡ enterW (now (s .entry)) (now (spots .entry)) (now (to .entry)) p i m ⌝ }
 {
     if on_path(p, m) {
         return Walked::Cycle(m);
     }
-    let w = entry(to, m);
+    let w = cell(to, m);
     if w == 0 {
         return Walked::Unknown { state: i, name: m };
     }
@@ -67,8 +67,8 @@ fn qualify(i: usize, w: usize, a: usize, next: usize, states: usize) -> Walked
 fn walk_state(
     s: &[u8],
     names: usize,
-    spots: &[usize],
-    to: &[usize],
+    spots: &[u16],
+    to: &[u16],
     levels: usize,
     p: Path,
     at: usize,
@@ -118,8 +118,8 @@ fn walk_state(
 fn walk_states(
     s: &[u8],
     names: usize,
-    spots: &[usize],
-    to: &[usize],
+    spots: &[u16],
+    to: &[u16],
     levels: usize,
     p: Path,
     count: usize,
@@ -153,8 +153,8 @@ fn walk_states(
 pub fn walk_machine(
     s: &[u8],
     names: usize,
-    spots: &[usize],
-    to: &[usize],
+    spots: &[u16],
+    to: &[u16],
     m: usize,
     at: usize,
 ) -> Walked

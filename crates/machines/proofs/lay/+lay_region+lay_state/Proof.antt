@@ -162,8 +162,8 @@ lay-state-same-length-3 t c = c .before .before .before .before .before .before 
 lay-state-returns : (t : ℕ) → lay-state-lts.Need-returns (lay-state-calls t) (lay-state-at t) lay-state.Post lay-state-Inv-loop lay-state-μ-loop
 lay-state-returns t c = λ ns e. state-on ns _ _ _ _ _ _ _ _ _ _ _ (c .before .before .before .before .before .before .before .before .before .before .before .before .before .open-state .ensures ns e (c .before .before .before .before .before .before .before .before .before .before .before .before .before .before .before .before .before .before .before .before .before .before .args .reg .now) .0) (c .before .before .before .before .before .before .before .before .before .before .before .before .before .open-state .ensures ns e (c .before .before .before .before .before .before .before .before .before .before .before .before .before .before .before .before .before .before .before .before .before .before .args .reg .now) .1) (refine-plain ns _ _ _ _ _ _ _ _ _ _ _ _ (c .before .before .before .before .before .before .number .ensures) (c .before .before .before .before .if1 .taken) (c .before .before .close-state .ensures (c .before .before .before .before .before .before .before .before .loop .reg) (c .before .before .before .before .before .before .before .before .loop .lets)) ∙ inner-done _ _ _ _ _ _ (c .before .before .before .before .before .before .before .loop-test .left) (c .before .before .before .before .before .before .before .before .loop .inv .3 ns e))
 
-lay-state-entry-requires : (t : ℕ) → lay-state-lts.Need-entry-requires (lay-state-calls t) (lay-state-at t) lay-state.Post lay-state-Inv-loop lay-state-μ-loop
-lay-state-entry-requires t c κs = search needs
+lay-state-cell-requires : (t : ℕ) → lay-state-lts.Need-cell-requires (lay-state-calls t) (lay-state-at t) lay-state.Post lay-state-Inv-loop lay-state-μ-loop
+lay-state-cell-requires t c κs = search needs
 
 lay-state-machine-as-requires : (t : ℕ) → lay-state-lts.Need-machine-as-requires (lay-state-calls t) (lay-state-at t) lay-state.Post lay-state-Inv-loop lay-state-μ-loop
 lay-state-machine-as-requires t c κs = search needs
@@ -187,7 +187,7 @@ lay-state-same-length-6 : (t : ℕ) → lay-state-lts.Need-same-length-6 (lay-st
 lay-state-same-length-6 t c = c .before .before .before .before .before .before .before .before .before .before .before .lay-region2 .kept .1 .1 .1 .1 .1 .1 .0 ∙ c .before .before .before .before .before .before .before .before .before .before .before .before .before .before .before .before .before .before .before .before .before .loop .inv .2 ∙ c .before .before .before .before .before .before .before .before .before .before .before .before .before .before .before .before .before .before .before .before .before .before .before .before .before .before .open-state .kept .1 .1 .1 .1 .0
 
 lay-state-returns-2 : (t : ℕ) → lay-state-lts.Need-returns-2 (lay-state-calls t) (lay-state-at t) lay-state.Post lay-state-Inv-loop lay-state-μ-loop
-lay-state-returns-2 t c = λ ns e. state-on ns _ _ _ _ _ _ _ _ _ _ _ (c .before .before .before .before .before .before .before .before .before .before .before .before .before .before .before .before .before .before .before .before .before .before .before .before .before .before .open-state .ensures ns e (c .before .before .before .before .before .before .before .before .before .before .before .before .before .before .before .before .before .before .before .before .before .before .before .before .before .before .before .before .before .before .before .before .before .before .before .args .reg .now) .0) (c .before .before .before .before .before .before .before .before .before .before .before .before .before .before .before .before .before .before .before .before .before .before .before .before .before .before .open-state .ensures ns e (c .before .before .before .before .before .before .before .before .before .before .before .before .before .before .before .before .before .before .before .before .before .before .before .before .before .before .before .before .before .before .before .before .before .before .before .args .reg .now) .1) (refine-into ns _ _ _ _ _ _ _ _ _ _ _ _ _ _ _ _ (c .before .before .before .before .before .before .before .before .before .before .before .before .before .before .before .before .before .before .before .number .ensures) (c .before .before .before .before .before .before .before .before .before .before .before .before .before .before .before .before .before .if1 .left) (c .before .before .before .before .before .before .before .before .before .before .before .before .before .before .before .before .entry .ensures) (c .before .before .before .before .before .before .before .before .before .before .before .before .before .before .before .machine-as .ensures) (c .before .before .before .before .before .before .before .before .before .before .before .lay-region2 .ensures ns e) (c .before .before .before .tally2 .ensures) (c .before .before .close-state2 .ensures _ _) ∙ inner-done _ _ _ _ _ _ (c .before .before .before .before .before .before .before .before .before .before .before .before .before .before .before .before .before .before .before .before .loop-test .left) (c .before .before .before .before .before .before .before .before .before .before .before .before .before .before .before .before .before .before .before .before .before .loop .inv .3 ns e))
+lay-state-returns-2 t c = λ ns e. state-on ns _ _ _ _ _ _ _ _ _ _ _ (c .before .before .before .before .before .before .before .before .before .before .before .before .before .before .before .before .before .before .before .before .before .before .before .before .before .before .open-state .ensures ns e (c .before .before .before .before .before .before .before .before .before .before .before .before .before .before .before .before .before .before .before .before .before .before .before .before .before .before .before .before .before .before .before .before .before .before .before .args .reg .now) .0) (c .before .before .before .before .before .before .before .before .before .before .before .before .before .before .before .before .before .before .before .before .before .before .before .before .before .before .open-state .ensures ns e (c .before .before .before .before .before .before .before .before .before .before .before .before .before .before .before .before .before .before .before .before .before .before .before .before .before .before .before .before .before .before .before .before .before .before .before .args .reg .now) .1) (refine-into ns _ _ _ _ _ _ _ _ _ _ _ _ _ _ _ _ (c .before .before .before .before .before .before .before .before .before .before .before .before .before .before .before .before .before .before .before .number .ensures) (c .before .before .before .before .before .before .before .before .before .before .before .before .before .before .before .before .before .if1 .left) (c .before .before .before .before .before .before .before .before .before .before .before .before .before .before .before .before .cell .ensures) (c .before .before .before .before .before .before .before .before .before .before .before .before .before .before .before .machine-as .ensures) (c .before .before .before .before .before .before .before .before .before .before .before .lay-region2 .ensures ns e) (c .before .before .before .tally2 .ensures) (c .before .before .close-state2 .ensures _ _) ∙ inner-done _ _ _ _ _ _ (c .before .before .before .before .before .before .before .before .before .before .before .before .before .before .before .before .before .before .before .before .loop-test .left) (c .before .before .before .before .before .before .before .before .before .before .before .before .before .before .before .before .before .before .before .before .before .loop .inv .3 ns e))
 
 pub +lay-region+lay-state-spec : {M : Type 1} → statement M
 +lay-region+lay-state-spec = close μ-lay-region μ-lay-state (λ t. lay-region-lts.spec (lay-region-calls t)
@@ -231,7 +231,7 @@ pub +lay-region+lay-state-spec : {M : Type 1} → statement M
     (lay-state-same-length-2 t)
     (lay-state-same-length-3 t)
     (lay-state-returns t)
-    (lay-state-entry-requires t)
+    (lay-state-cell-requires t)
     (lay-state-machine-as-requires t)
     (lay-state-lay-region-requires-2 t)
     (lay-state-tally-requires-2 t)

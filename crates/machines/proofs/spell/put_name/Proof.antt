@@ -16,11 +16,11 @@ Inv-loop s spots i lets₀ at p n k₀ lets k = (k ≤ n) × (length lets ≡ le
 abbrev μ-loop : tie.MeasureT-loop
 μ-loop s spots i lets₀ at p n k₀ lets k = n - k
 
-entry-requires : tie.Need-entry-requires Inv-loop μ-loop
-entry-requires c κs = search needs
+cell-requires : tie.Need-cell-requires Inv-loop μ-loop
+cell-requires c κs = search needs
 
 returns : tie.Need-returns Inv-loop μ-loop
-returns c = name-none (c .before .before .before .before .before .args .lets .now) (c .before .before .before .before .before .args .s .now) (c .before .before .before .before .before .args .spots .now) _ _ _ (c .before .entry .ensures) (c .if1 .taken)
+returns c = name-none (c .before .before .before .before .before .args .lets .now) (c .before .before .before .before .before .args .s .now) (c .before .before .before .before .before .args .spots .now) _ _ _ (c .before .cell .ensures) (c .if1 .taken)
 
 byte-requires : tie.Need-byte-requires Inv-loop μ-loop
 byte-requires c κs = search needs
@@ -29,13 +29,13 @@ loop-holds : tie.Need-loop-holds Inv-loop μ-loop
 loop-holds c = (omega arith, refl, copied-none (c .before .before .before .before .before .before .args .lets .now) _ _ _)
 
 add-put-letter : tie.Need-add-put-letter Inv-loop μ-loop
-add-put-letter c = omega (arith, c .before .before .before .before .before .before .before .before .before .pre, len-is (c .before .before .before .before .before .before .before .before .before .args .s .now) (c .before .before .before .before .before .before .before .before .before .args .spots .now) _ _ _ (c .before .before .before .before .before .entry .ensures) (c .before .before .before .byte .ensures))
+add-put-letter c = omega (arith, c .before .before .before .before .before .before .before .before .before .pre, len-is (c .before .before .before .before .before .before .before .before .before .args .s .now) (c .before .before .before .before .before .before .before .before .before .args .spots .now) _ _ _ (c .before .before .before .before .before .cell .ensures) (c .before .before .before .byte .ensures))
 
 add-letter : tie.Need-add-letter Inv-loop μ-loop
 add-letter c = search needs
 
 add-letter-2 : tie.Need-add-letter-2 Inv-loop μ-loop
-add-letter-2 c = omega (arith, c .before .before .before .before .before .before .before .before .shared-slice-known .given (c .before .before .before .before .before .entry .result), c .before .before .before .byte .ensures)
+add-letter-2 c = omega (arith, c .before .before .before .before .before .before .before .before .shared-slice-known .given (c .before .before .before .before .before .cell .result), c .before .before .before .byte .ensures)
 
 letter-requires : tie.Need-letter-requires Inv-loop μ-loop
 letter-requires c κs = search needs
@@ -50,13 +50,13 @@ loop-less : tie.Need-loop-less Inv-loop μ-loop
 loop-less c = omega (arith, c .before .before .before .before .before .loop-test .taken)
 
 loop-again : tie.Need-loop-again Inv-loop μ-loop
-loop-again c = (omega (arith, c .before .before .before .before .before .loop-test .taken), c .before .before .put-letter .kept .0 ∙ c .before .before .before .before .before .before .loop .inv .1, copied-more (c .before .before .before .before .before .before .before .before .before .before .before .before .before .args .lets .now) (c .before .before .before .before .before .before .loop .lets) _ (c .before .before .before .before .before .before .before .before .before .before .before .before .before .args .s .now) _ (suc (c .before .before .before .before .before .before .before .before .before .entry .result)) (c .before .before .before .before .before .before .loop .k) _ _ (c .before .before .before .before .before .before .loop .inv .2) (omega arith) (c .before .before .before .letter .ensures) (c .before .before .put-letter .ensures))
+loop-again c = (omega (arith, c .before .before .before .before .before .loop-test .taken), c .before .before .put-letter .kept .0 ∙ c .before .before .before .before .before .before .loop .inv .1, copied-more (c .before .before .before .before .before .before .before .before .before .before .before .before .before .args .lets .now) (c .before .before .before .before .before .before .loop .lets) _ (c .before .before .before .before .before .before .before .before .before .before .before .before .before .args .s .now) _ (suc (c .before .before .before .before .before .before .before .before .before .cell .result)) (c .before .before .before .before .before .before .loop .k) _ _ (c .before .before .before .before .before .before .loop .inv .2) (omega arith) (c .before .before .before .letter .ensures) (c .before .before .put-letter .ensures))
 
 same-length : tie.Need-same-length Inv-loop μ-loop
 same-length c = c .before .loop .inv .1
 
 returns-2 : tie.Need-returns-2 Inv-loop μ-loop
-returns-2 c = name-some (c .before .before .before .before .before .before .before .before .args .lets .now) (c .before .loop .lets) (c .before .before .before .before .before .before .before .before .args .s .now) (c .before .before .before .before .before .before .before .before .args .spots .now) _ _ _ _ (c .before .loop .k) (c .before .before .before .before .entry .ensures) (c .before .before .byte .ensures) (c .before .loop .inv .0) (c .loop-test .left) (c .before .loop .inv .2)
+returns-2 c = name-some (c .before .before .before .before .before .before .before .before .args .lets .now) (c .before .loop .lets) (c .before .before .before .before .before .before .before .before .args .s .now) (c .before .before .before .before .before .before .before .before .args .spots .now) _ _ _ _ (c .before .loop .k) (c .before .before .before .before .cell .ensures) (c .before .before .byte .ensures) (c .before .loop .inv .0) (c .loop-test .left) (c .before .loop .inv .2)
 
 pub put-name-spec : {M : Type 1} → statement M
 put-name-spec =
@@ -64,7 +64,7 @@ put-name-spec =
     (tie.spec
     Inv-loop
     μ-loop
-    entry-requires
+    cell-requires
     returns
     byte-requires
     loop-holds

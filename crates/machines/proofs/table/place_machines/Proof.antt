@@ -28,8 +28,8 @@ number-requires-2 c κs = search needs
 to-initial-requires : tie.Need-to-initial-requires Inv-loop μ-loop
 to-initial-requires c κs = search needs
 
-put-requires : tie.Need-put-requires Inv-loop μ-loop
-put-requires c κs = search needs
+put-cell-requires : tie.Need-put-cell-requires Inv-loop μ-loop
+put-cell-requires c κs = search needs
 
 after-states-requires : tie.Need-after-states-requires Inv-loop μ-loop
 after-states-requires c κs = search needs
@@ -41,7 +41,7 @@ loop-less : tie.Need-loop-less Inv-loop μ-loop
 loop-less c = search needs
 
 loop-again : tie.Need-loop-again Inv-loop μ-loop
-loop-again c = (put-length (c .before .before .before .before .before .before .before .before .loop .to) _ (c .before .before .before .before .before .before .before .before .before .before .before .before .args .to .now) (c .before .before .before .before .before .before .number2 .result .value) (c .before .before .before .before .before .to-initial .result) (c .before .before .before .put .ensures) (c .before .before .before .before .before .before .before .before .loop .inv .0), λ ns e. placed-more ns _ _ _ _ _ _ _ _ _ (c .before .before .before .before .before .before .before .loop-test .taken) (c .before .before .before .before .before .before .number2 .ensures) (c .before .before .before .before .before .to-initial .ensures ns e) (c .before .before .before .put .ensures) (c .after-states .ensures ns e) (c .before .before .before .before .before .before .before .before .loop .inv .1 ns e))
+loop-again c = (put-length (c .before .before .before .before .before .before .before .before .loop .to) _ (c .before .before .before .before .before .before .before .before .before .before .before .before .args .to .now) (c .before .before .before .before .before .before .number2 .result .value) _ (c .before .before .before .put-cell .ensures) (c .before .before .before .before .before .before .before .before .loop .inv .0), λ ns e. placed-more ns _ _ _ _ _ _ _ _ _ (c .before .before .before .before .before .before .before .loop-test .taken) (c .before .before .before .before .before .before .number2 .ensures) (c .before .before .before .before .before .to-initial .ensures ns e) (c .before .before .before .put-cell .ensures) (c .after-states .ensures ns e) (c .before .before .before .before .before .before .before .before .loop .inv .1 ns e))
 
 same-length : tie.Need-same-length Inv-loop μ-loop
 same-length c = c .before .loop .inv .0
@@ -59,7 +59,7 @@ place-machines-spec =
     loop-holds
     number-requires-2
     to-initial-requires
-    put-requires
+    put-cell-requires
     after-states-requires
     sub-n
     loop-less

@@ -17,8 +17,8 @@ abbrev μ-loop : tie.MeasureT-loop
 loop-holds : tie.Need-loop-holds Inv-loop μ-loop
 loop-holds c = (refl, names-start _ _ _ _ _ refl)
 
-put-requires : tie.Need-put-requires Inv-loop μ-loop
-put-requires c κs = search needs
+put-cell-requires : tie.Need-put-cell-requires Inv-loop μ-loop
+put-cell-requires c κs = search needs
 
 next-name-requires : tie.Need-next-name-requires Inv-loop μ-loop
 next-name-requires c κs = search needs
@@ -30,7 +30,7 @@ loop-less : tie.Need-loop-less Inv-loop μ-loop
 loop-less c = search needs
 
 loop-again : tie.Need-loop-again Inv-loop μ-loop
-loop-again c = (put-length (c .before .before .before .before .before .before .loop .spots) _ (c .before .before .before .before .before .before .before .before .before .args .spots .now) (c .before .before .before .before .before .before .loop .k) (c .before .before .before .before .before .before .loop .p) (c .before .before .before .put .ensures) (c .before .before .before .before .before .before .loop .inv .0), names-more _ _ _ _ _ _ _ _ (c .before .before .before .before .before .loop-test .taken) (c .before .before .before .put .ensures) (c .next-name .ensures) (c .before .before .before .before .before .before .loop .inv .1))
+loop-again c = (put-length (c .before .before .before .before .before .before .loop .spots) _ (c .before .before .before .before .before .before .before .before .before .args .spots .now) (c .before .before .before .before .before .before .loop .k) _ (c .before .before .before .put-cell .ensures) (c .before .before .before .before .before .before .loop .inv .0), names-more _ _ _ _ _ _ _ _ (c .before .before .before .before .before .loop-test .taken) (c .before .before .before .put-cell .ensures) (c .next-name .ensures) (c .before .before .before .before .before .before .loop .inv .1))
 
 same-length : tie.Need-same-length Inv-loop μ-loop
 same-length c = c .before .loop .inv .0
@@ -45,7 +45,7 @@ place-names-spec =
     Inv-loop
     μ-loop
     loop-holds
-    put-requires
+    put-cell-requires
     next-name-requires
     add-k
     loop-less
