@@ -89,3 +89,5 @@ pub mod CallLaws
 pub mod Opened
 pub mod Answered
 pub mod CallOpened
+pub mod LettersKept
+pub mod OutcomeSmall

@@ -27,7 +27,7 @@ ghost use Rattle.pack.specs.Names.{Name};
 ghost use Rattle.pack.specs.Syntax.{Package};
 ghost use Rattle.pack.specs.Write.{Item};
 ghost use Rattle.pack.specs.Intern.{render};
-ghost use Rattle.pack.specs.Outcome.{Gives, answered, reported};
+ghost use Rattle.pack.specs.Outcome.{Gives, answered, outputOf, reportOf, reported, returned};
 ghost use Rattle.pack.specs.Verdict.{Stands};
 ghost use Rattle.machines.specs.Laid.{sliceOf};
 ghost use Rattle.machines.specs.Brought.{totalT};
@@ -261,4 +261,15 @@ pub fn lower_state_machines(pack: &[u8], output: &mut [u8], report: &mut [u8]) -
             value: o as u64,
         },
     }
+}
+
+// Lowers the machines of a pack: the number times 2^32 plus the value.
+#[no_mangle]
+pub extern "C" fn ol_lower_state_machines(pack: &[u8], output: &mut [u8], report: &mut [u8]) -> u64
+    ensures { λ r. ⌜ r ≡ returned (lowerMachines (now (pack .entry)) (length (now (output .entry))) (length (now (report .entry)))) ⌝ }
+    ensures { λ r. ⌜ now (output .exit) ≡ outputOf (lowerMachines (now (pack .entry)) (length (now (output .entry))) (length (now (report .entry)))) (now (output .entry)) ⌝ }
+    ensures { λ r. ⌜ now (report .exit) ≡ reportOf (lowerMachines (now (pack .entry)) (length (now (output .entry))) (length (now (report .entry)))) (now (report .entry)) ⌝ }
+{
+    let r = lower_state_machines(pack, output, report);
+    r.number * 0x1_0000_0000 + r.value
 }
