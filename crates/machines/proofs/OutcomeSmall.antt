@@ -128,7 +128,7 @@ unfolding reportBytes two
 report-small s k p h bytes short =
     let few = names-few s (p .names) (section-read s (p .names) (k .enums) (h .names)) in
     let l = length-replicate {A = ℕ} 32768 0 in
-    let r = ready s k p (replicate 32768 0) (replicate 32768 0) h (omega arith) (omega arith) (scratch-empty .noMachine) in
+    let r = ready s k p (replicate 32768 0) (replicate 32768 0) h short (omega arith) (omega arith) (scratch-empty .noMachine) in
     let m = length-replicate {A = ℕ} 131072 0 in
     let b = all-most s (p .names) (p .machines) _ _ r bytes short _ _ _ scratch-long (omega arith) (length (p .machines)) (k .machines + 2) (p .machines) (k .activations) (nodeNames (p .nodes))
     (counted-many (machineIn (p .names) s) s (k .machines) (p .machines) (k .activations) (h .machines) .1) in

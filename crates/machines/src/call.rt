@@ -263,9 +263,8 @@ pub fn lower_state_machines(pack: &[u8], output: &mut [u8], report: &mut [u8]) -
     }
 }
 
-// Lowers the machines of a pack: the number times 2^32 plus the value.
-#[no_mangle]
-pub extern "C" fn ol_lower_state_machines(pack: &[u8], output: &mut [u8], report: &mut [u8]) -> u64
+// The same with number and value in one word, as the C interface has it: the number times 2^32 plus the value.
+pub fn lower_state_machines_word(pack: &[u8], output: &mut [u8], report: &mut [u8]) -> u64
     ensures { λ r. ⌜ r ≡ returned (lowerMachines (now (pack .entry)) (length (now (output .entry))) (length (now (report .entry)))) ⌝ }
     ensures { λ r. ⌜ now (output .exit) ≡ outputOf (lowerMachines (now (pack .entry)) (length (now (output .entry))) (length (now (report .entry)))) (now (output .entry)) ⌝ }
     ensures { λ r. ⌜ now (report .exit) ≡ reportOf (lowerMachines (now (pack .entry)) (length (now (output .entry))) (length (now (report .entry)))) (now (report .entry)) ⌝ }

@@ -1,8 +1,8 @@
 use native.Mathlib.Omega.{arith}
 use Rattle.machines.proofs.OutcomeSmall.{fit, returned-as}
 use borrow.Author.Needs.{needs}
-use Rattle.machines.proofs.call.ol_lower_state_machines.Statement.{statement}
-use Rattle.machines.proofs.call.ol_lower_state_machines.Tie as tie
+use Rattle.machines.proofs.call.lower_state_machines_word.Statement.{statement}
+use Rattle.machines.proofs.call.lower_state_machines_word.Tie as tie
 
 lower-state-machines-requires : tie.Need-lower-state-machines-requires
 lower-state-machines-requires c κs = search needs
@@ -22,8 +22,8 @@ same-length-2 c = search needs
 returns : tie.Need-returns
 returns c = (returned-as _ _ _ _ _ _ _ (λ i. omega (arith, c .before .before .before .before .before .before .before .before .before .before .before .shared-slice-known .given i)) (c .before .before .before .before .before .before .lower-state-machines .ensures), (c .before .before .before .before .before .before .lower-state-machines .ensures .gives .output-is, c .before .before .before .before .before .before .lower-state-machines .ensures .report-is))
 
-pub ol-lower-state-machines-spec : {M : Type 1} → statement M
-ol-lower-state-machines-spec =
+pub lower-state-machines-word-spec : {M : Type 1} → statement M
+lower-state-machines-word-spec =
     tie.close
     (tie.spec
     lower-state-machines-requires
