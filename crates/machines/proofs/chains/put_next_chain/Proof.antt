@@ -1,4 +1,5 @@
 use Prim.Native.Nat.{ℕ}
+use native.Mathlib.Omega.{arith}
 use mathlib.Core.Path.{_≡_, refl, _∙_}
 use mathlib.Core.List.{List}
 use lib.ListN.{length}
@@ -8,7 +9,7 @@ use Rattle.pack.specs.Intern.{render}
 use Rattle.pack.specs.Names.{Name}
 use Rattle.machines.specs.Emits.{chainT}
 use Rattle.machines.proofs.RowLaws.{left-less}
-use Rattle.machines.proofs.ChainLaws.{below, chain-from, chain-last, chain-more, chain-none}
+use Rattle.machines.proofs.ChainLaws.{chain-from, chain-last, chain-more, chain-none}
 use Rattle.machines.proofs.chains.put_next_chain.Statement.{statement}
 use Rattle.machines.proofs.chains.put_next_chain.Tie as tie
 
@@ -43,7 +44,7 @@ left-requires : tie.Need-left-requires Inv-loop μ-loop
 left-requires c κs = search needs
 
 loop-less : tie.Need-loop-less Inv-loop μ-loop
-loop-less c = left-less (c .before .before .before .before .before .before .put-transitions .result) _ _ (below _ _ (c .before .before .before .before .before .before .before .before .before .before .before .before .before .before .before .before .loop-test .taken)) (c .left .ensures)
+loop-less c = left-less (c .before .before .before .before .before .before .put-transitions .result) _ _ (omega (arith, c .before .before .before .before .before .before .before .before .before .before .before .before .before .before .before .before .loop-test .taken)) (c .left .ensures)
 
 loop-again : tie.Need-loop-again Inv-loop μ-loop
 loop-again c = (c .before .before .before .before .before .before .put-transitions .kept .1 .1 .1 .1 .1 .1 .1 .1 .0 ∙ c .before .before .before .before .before .before .before .before .before .before .before .before .before .put-test .kept .1 .1 .1 .1 .1 .0 ∙ c .before .before .before .before .before .before .before .before .before .before .before .before .before .before .before .before .before .loop .inv .0, c .before .before .before .before .before .before .put-transitions .kept .1 .1 .1 .1 .1 .1 .1 .1 .1 .0 ∙ c .before .before .before .before .before .before .before .before .before .before .before .before .before .put-test .kept .1 .1 .1 .1 .1 .1 .0 ∙ c .before .before .before .before .before .before .before .before .before .before .before .before .before .before .before .before .before .loop .inv .1, λ ns e. chain-more _ _ _ _ _ ns _ _ _ _ _ _ _ _ _ _ _ (c .before .before .before .before .before .before .before .before .before .before .before .before .before .before .before .before .loop-test .taken) (c .before .before .before .before .before .before .before .before .before .before .before .before .before .put-test .ensures) (c .before .before .before .before .before .before .put-transitions .ensures ns e) (c .before .word2 .ensures) (c .left .ensures) (c .before .before .before .before .before .before .before .before .before .before .before .before .before .before .before .before .before .loop .inv .2 ns e))
