@@ -13,7 +13,8 @@ use Rattle.pack.specs.Names.{Name, member}
 use Rattle.pack.specs.Syntax.{Drawing, Regions, States, Transition, rCons, rNil, sCons, sNil}
 use Rattle.pack.specs.Forms.{nameAt}
 use Rattle.pack.specs.Read.{OneRegion, OneState, drawnOf, optionalIn, regionAt, regionsOf, stateWith}
-use Rattle.machines.specs.Refusals.{refineCycle, tooLarge, unknownRefine}
+use Rattle.pack.specs.Report.{Refusal}
+use Rattle.machines.specs.Refusals.{tooLarge, unknownRefine}
 use Rattle.machines.specs.Resolve.{Target, Walk, arrive, asTarget, deeper, machineOf, prefixR, prefixS, prefixTransitions, refineAt, refineWith, resolveR, resolveS, shortName, shortS, snoc, stop, walkOn, went, withRefine, withTarget}
 use Rattle.machines.specs.Stands.{MachineAt, StandsR, StandsS, rInto, rMore, rPlain, sEnd, sMore}
 use Rattle.machines.proofs.Reading.{many-cut, many-end, many-more, many-over, optional-none, optional-some, overs, region-none, region-value, state-value}
@@ -61,21 +62,21 @@ pub record Entered (top : Name) (ms : List Drawing) (l : ℕ) (n : Name) (c : �
 
 pub refine-went : (f : ℕ) (top : Name) (ms : List Drawing) (path : List Name) (l : ℕ) (nm n : Name) (c : ℕ) (t : Target) (m : ℕ) → refineAt f top ms path l nm n c ≡ went t m → Entered top ms l n c t m
 unfolding refineAt refineWith asTarget
-refine-went zero top ms path l nm n c t m e = absurd (go (member n path) (machineOf ms n) e)
+refine-went zero top ms path l nm n c t m e = absurd (go _ (member n path) (machineOf ms n) e)
   where
-    go : (b : Bool) (o : Option Drawing) → elim b [ true ↦ stop (refineCycle top n) | false ↦ elim o [ none ↦ stop (unknownRefine top nm n) | some d ↦ stop (tooLarge top) ] ] ≡ went t m → ⊥
-    go true o x = let z : _≡_ {A = ℕ} 0 1 = cc in omega arith
-    go false none x = let z : _≡_ {A = ℕ} 0 1 = cc in omega arith
-    go false (some d) x = let z : _≡_ {A = ℕ} 0 1 = cc in omega arith
-refine-went (suc f) top ms path l nm n c t m e = go (member n path) (machineOf ms n) refl e
+    go : (r : Refusal) (b : Bool) (o : Option Drawing) → elim b [ true ↦ stop r | false ↦ elim o [ none ↦ stop (unknownRefine top nm n) | some d ↦ stop (tooLarge top) ] ] ≡ went t m → ⊥
+    go r true o x = let z : _≡_ {A = ℕ} 0 1 = cc in omega arith
+    go r false none x = let z : _≡_ {A = ℕ} 0 1 = cc in omega arith
+    go r false (some d) x = let z : _≡_ {A = ℕ} 0 1 = cc in omega arith
+refine-went (suc f) top ms path l nm n c t m e = go _ (member n path) (machineOf ms n) refl e
   where
     body : Drawing → Walk Target
     body d = deeper top (refineAt f top ms (d .name ∷ path)) l (λ k. walkOn (resolveS top (refineAt f top ms (d .name ∷ path)) k (d .states) c) (λ ss i. went (asTarget (d .initial) ss) i))
 
-    go : (b : Bool) (o : Option Drawing) → machineOf ms n ≡ o → elim b [ true ↦ stop (refineCycle top n) | false ↦ elim o [ none ↦ stop (unknownRefine top nm n) | some d ↦ body d ] ] ≡ went t m → Entered top ms l n c t m
-    go true o y x = let z : _≡_ {A = ℕ} 0 1 = cc in absurd (omega arith)
-    go false none y x = let z : _≡_ {A = ℕ} 0 1 = cc in absurd (omega arith)
-    go false (some d) y x =
+    go : (r : Refusal) (b : Bool) (o : Option Drawing) → machineOf ms n ≡ o → elim b [ true ↦ stop r | false ↦ elim o [ none ↦ stop (unknownRefine top nm n) | some d ↦ body d ] ] ≡ went t m → Entered top ms l n c t m
+    go r true o y x = let z : _≡_ {A = ℕ} 0 1 = cc in absurd (omega arith)
+    go r false none y x = let z : _≡_ {A = ℕ} 0 1 = cc in absurd (omega arith)
+    go r false (some d) y x =
         let a = deeper-went top (refineAt f top ms (d .name ∷ path)) l _ t m x in
         let b = walkOn-went (resolveS top (refineAt f top ms (d .name ∷ path)) (a .0) (d .states) c) _ t m (a .2) in
         let i : asTarget (d .initial) (b .0) ≡ t = cc (b .3) in
