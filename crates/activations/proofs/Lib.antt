@@ -1,5 +1,12 @@
 pub mod MadeLaws
 pub mod CountLaws
+pub mod BaseLaws
+pub mod NodesRead
+pub mod MetLaws
+pub mod Moving
+pub mod Views
+pub mod Walking
+pub mod HeadCopies
 pub mod Computed
 pub mod Charts
 pub mod Examples

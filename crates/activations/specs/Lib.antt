@@ -22,3 +22,6 @@ pub mod EmptyLeft
 pub mod Lower
 pub mod Activations
 pub mod Call
+pub mod Met
+pub mod Kids
+pub mod Walks

@@ -1,0 +1,51 @@
+-- Laws for looking names up.
+use Prim.Native.Nat.{ℕ, _+_, _<_}
+use native.Mathlib.Omega.{arith}
+use mathlib.Core.List.{List, [], _∷_}
+use mathlib.Core.Bool.{Bool, true, false}
+use mathlib.Core.Path.{_≡_, refl, sym, ap, _∙_}
+use lib.ListN.{length}
+use lib.Dec.{eqb}
+use borrow.Author.Tests.{eq-eqb, ne-eqb}
+use Rattle.pack.specs.Names.{Name, eqName}
+use Rattle.pack.specs.Forms.{nameAt}
+use Rattle.pack.specs.Legal.{Fresh, place}
+use Rattle.pack.specs.Write.{At, Found, Missing, lookup}
+use Rattle.pack.specs.Intern.{foundOf}
+use Rattle.pack.specs.declared.intern.Found as code
+use Rattle.pack.specs.declared.intern.Found.the-variants as codes
+use Rattle.pack.proofs.Tables.{eqName-false, eqName-true, name-at-place, place-at-name}
+use Rattle.activations.specs.LastCalls.{lastName}
+use Rattle.activations.specs.Walks.{LastIs}
+
+-- the number that a search answers
+unfoldable numberOf : Found → ℕ
+numberOf (At k) = k
+numberOf (Missing k) = k
+
+found-place : (ns : List Name) (n : Name) (k : ℕ) → numberOf (lookup ns n k) ≡ k + place ns n
+unfolding lookup place numberOf
+found-place [] n k = omega arith
+found-place (m ∷ ms) n k = go (eqName m n) refl (found-place ms n (k + 1))
+  where
+    go : (b : Bool) → eqName m n ≡ b → numberOf (lookup ms n (k + 1)) ≡ k + 1 + place ms n → numberOf (lookup (m ∷ ms) n k) ≡ k + place (m ∷ ms) n
+    go true e ih = rw (e, lookup, place) (omega arith)
+    go false e ih = rw (e, lookup, place) (omega (arith, ih))
+
+-- an answer of either kind is the place
+pub found-at : (ns : List Name) (n : Name) (f : code.Found) (k : ℕ) → f ≡ codes.At k → foundOf f ≡ lookup ns n 0 → k ≡ place ns n
+unfolding foundOf numberOf
+found-at ns n f k e h = let a : k ≡ numberOf (lookup ns n 0) = ap (λ y. numberOf (foundOf y)) (sym e) ∙ ap numberOf h in omega (arith, a, found-place ns n 0)
+
+pub found-missing : (ns : List Name) (n : Name) (f : code.Found) (k : ℕ) → f ≡ codes.Missing k → foundOf f ≡ lookup ns n 0 → k ≡ place ns n
+unfolding foundOf numberOf
+found-missing ns n f k e h = let a : k ≡ numberOf (lookup ns n 0) = ap (λ y. numberOf (foundOf y)) (sym e) ∙ ap numberOf h in omega (arith, a, found-place ns n 0)
+
+-- the place of `last` tells its name
+pub last-is : (ns : List Name) → Fresh [] ns → LastIs ns (place ns lastName)
+unfolding LastIs
+last-is ns fresh i h = go (eqName (nameAt ns i) lastName) refl
+  where
+    go : (b : Bool) → eqName (nameAt ns i) lastName ≡ b → eqb i (place ns lastName) ≡ b
+    go true e = eq-eqb i (place ns lastName) (sym (place-at-name ns i fresh h) ∙ ap (place ns) (eqName-true (nameAt ns i) lastName e))
+    go false e = ne-eqb i (place ns lastName) (λ d. eqName-false (nameAt ns i) lastName e (ap (nameAt ns) d ∙ name-at-place ns lastName (let l : i < length ns = h in omega (arith, d, l))))
