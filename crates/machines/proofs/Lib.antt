@@ -25,6 +25,7 @@ pub mod SectionExample
 pub mod RowLaws
 pub mod ValidLaws
 pub mod RepeatLaws
+pub mod MarkLaws
 pub mod JudgeLaws
 pub mod EnumLaws
 pub mod ChainLaws

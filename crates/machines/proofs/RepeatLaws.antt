@@ -101,7 +101,7 @@ again-cut l n e r p q = q ∙ ap againAt (⊎-elim (λ (h : length l < n). over 
     over h = let g : e ≡ length l = omega arith in ap (λ y. take y l) g ∙ take-length l ∙ sym (take-all n l (omega arith))
 
 -- one name more in a table
-enc-snoc : (pre : List Name) (m : Name) → enc (pre ++ (m ∷ [])) ≡ enc pre ++ (length m ∷ m)
+pub enc-snoc : (pre : List Name) (m : Name) → enc (pre ++ (m ∷ [])) ≡ enc pre ++ (length m ∷ m)
 unfolding enc
 enc-snoc pre m = enc-append pre (m ∷ []) ∙ ap (λ (l : List ℕ). enc pre ++ (length m ∷ l)) (append-nil m)
 

@@ -13,6 +13,7 @@ pub mod Laid
 pub mod Lays
 pub mod Valid
 pub mod Repeats
+pub mod Marks
 pub mod Counts
 pub mod Lower
 pub mod Locals

@@ -20,6 +20,7 @@ pub mod qualified; // names as they are called in a region
 pub mod chains; // the next state of a region
 pub mod regions; // the equations of regions
 pub mod valid; // state names, initial states and targets
+pub mod marks; // numbers by which names are told apart
 pub mod repeats; // a name that stands twice
 pub mod values; // the values of outputs
 pub mod refusal; // a machine that was judged

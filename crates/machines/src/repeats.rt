@@ -1,4 +1,7 @@
 // The first name of a table that stood before it.
+use crate::marks::mark;
+use crate::marks::may_be;
+use crate::marks::put_mark;
 use pack::intern::Found;
 use pack::intern::find_name;
 use wire::writer::capped;
@@ -7,6 +10,7 @@ ghost use lib.ListN.{take};
 ghost use Rattle.pack.specs.Names.{member};
 ghost use Rattle.pack.specs.Intern.{table};
 ghost use Rattle.machines.specs.Repeats.{againAt};
+ghost use Rattle.machines.specs.Marks.{Marks, markOf};
 
 // Whether a name is in a table.
 fn stands_in(t: &[u8], n: &[u8]) -> bool
@@ -19,19 +23,36 @@ fn stands_in(t: &[u8], n: &[u8]) -> bool
     }
 }
 
-// Where the first name stands that stood before; the table's length where there is none.
-fn first_again(t: &[u8]) -> usize
+// The same where the marks of the table's names are known, and m is the name's own.
+fn stands_marked(t: &[u8], n: &[u8], marks: &[u32], k: usize, m: u32) -> bool
+    requires { ⌜ (m ≡ markOf (now n)) × Marks (now marks) k (now t) ⌝ }
+    ensures { λ r. ⌜ r ≡ member (now (n .entry)) (table (now (t .entry))) ⌝ }
+{
+    if may_be(marks, k, m) {
+        stands_in(t, n)
+    } else {
+        false
+    }
+}
+
+// Where the first name stands that stood before; the table's length where there is none. The marks of names are kept in
+// `marks`, as many as there is room for.
+fn first_again(t: &[u8], marks: &mut [u32]) -> usize
     ensures { λ r. ⌜ r ≡ againAt (now (t .entry)) ⌝ }
 {
     let mut at = 0;
+    let mut k = 0;
     while at < t.len() {
         let b = at + 1;
         let l = t[at] as usize;
         let e = capped(t.len(), b, l);
-        if stands_in(&t[..at], &t[b..e]) {
+        let m = mark(&t[b..e]);
+        if stands_marked(&t[..at], &t[b..e], marks, k, m) {
             return at;
         }
+        put_mark(marks, k, m);
         at = e;
+        k += 1;
     }
     at
 }
@@ -41,5 +62,6 @@ pub fn repeated_name(lets: &[u8], end: usize) -> usize
     ensures { λ r. ⌜ r ≡ againAt (take end (now (lets .entry))) ⌝ }
 {
     let e = capped(lets.len(), 0, end);
-    first_again(&lets[..e])
+    let mut marks = [0u32; 512];
+    first_again(&lets[..e], &mut marks)
 }

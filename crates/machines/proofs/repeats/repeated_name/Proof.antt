@@ -12,12 +12,21 @@ capped-requires c κs = search needs
 slice-aggregate-first-again : tie.Need-slice-aggregate-first-again
 slice-aggregate-first-again c = sym (length-take-le _ _ (omega (arith, c .before .capped .ensures)))
 
+slice-aggregate-first-again-2 : tie.Need-slice-aggregate-first-again-2
+slice-aggregate-first-again-2 c = search needs
+
 first-again-requires : tie.Need-first-again-requires
 first-again-requires c κs = search needs
 
 returns : tie.Need-returns
-returns c = again-cut _ _ _ _ (c .before .before .capped .ensures) (c .first-again .ensures)
+returns c = again-cut _ _ _ _ (c .before .before .before .before .capped .ensures) (c .before .first-again .ensures)
 
 pub repeated-name-spec : {M : Type 1} → statement M
 repeated-name-spec =
-    tie.close (tie.spec capped-requires slice-aggregate-first-again first-again-requires returns)
+    tie.close
+    (tie.spec
+    capped-requires
+    slice-aggregate-first-again
+    slice-aggregate-first-again-2
+    first-again-requires
+    returns)

@@ -1,0 +1,140 @@
+-- Marks of names: the steps that make and look for them, and that a name with another mark is another name.
+use Prim.Native.Nat.{ℕ, zero, suc, _+_, _-_, _*_, _%_, _≤_, _<_, min}
+use native.Mathlib.Numerals.{add-one}
+use native.Mathlib.Omega.{arith}
+use mathlib.Core.List.{List, [], _∷_, _++_}
+use mathlib.Core.Bool.{Bool, true, false, cond, _||_}
+use mathlib.Core.Logic.{⊎-elim}
+use mathlib.Core.Path.{_≡_, refl, sym, ap, _∙_}
+use lib.ListN.{length, getD, set, take, drop, drop-of-length-le, length-drop, length-set}
+use lib.Seq.{drop-cons, length-take-le, take-suc-set}
+use lib.Dec.{eqb}
+use borrow.Author.Tests.{eq-eqb, le-ltb, lt-ltb, ne-eqb}
+use Rattle.wire.proofs.Writers.{lt-or-le}
+use Rattle.pack.specs.Names.{Name, eqName, member}
+use Rattle.pack.specs.Write.{enc}
+use Rattle.pack.specs.Intern.{table, tableF}
+use Rattle.machines.specs.Marks.{Marks, among, markFrom, markOf, marksOf, maybe}
+use Rattle.pack.proofs.Tables.{eqName-true}
+use Rattle.pack.proofs.Written.{table-enc}
+use Rattle.machines.proofs.RepeatLaws.{enc-snoc}
+
+-- the making of a mark: a byte more, the end
+pub mark-start : (n : Name) → markFrom 1 (drop 0 n) ≡ markOf n
+unfolding markOf
+mark-start n = refl
+
+pub mark-more : (n : Name) (i h z : ℕ) → i < length n → markFrom h (drop i n) ≡ z → markFrom ((h * 16777619 + getD n i 0) % 4294967296) (drop (i + 1) n) ≡ z
+unfolding markFrom
+mark-more n i h z l e = ap (λ j. markFrom ((h * 16777619 + getD n i 0) % 4294967296) (drop j n)) (add-one i) ∙ ap (markFrom h) (sym (drop-cons n i 0 l)) ∙ e
+
+pub mark-end : (n : Name) (i h z : ℕ) → length n ≤ i → markFrom h (drop i n) ≡ z → h ≡ z
+unfolding markFrom
+mark-end n i h z l e = ap (markFrom h) (sym (drop-of-length-le n l)) ∙ e
+
+-- the search among marks: here, not here, not at all
+module _ (ms : List ℕ) (m i : ℕ) (z : Bool) where
+  pub among-here : i < length ms → getD ms i 0 ≡ m → among m (drop i ms) ≡ z → true ≡ z
+  unfolding among
+  among-here l g e = sym (ap (λ b. b || among m (drop (suc i) ms)) (eq-eqb _ _ g)) ∙ ap (among m) (sym (drop-cons ms i 0 l)) ∙ e
+
+  pub among-past : i < length ms → (getD ms i 0 ≡ m → ⊥) → among m (drop i ms) ≡ z → among m (drop (i + 1) ms) ≡ z
+  unfolding among
+  among-past l g e = ap (λ j. among m (drop j ms)) (add-one i) ∙ sym (ap (λ b. b || among m (drop (suc i) ms)) (ne-eqb _ _ g)) ∙ ap (among m) (sym (drop-cons ms i 0 l)) ∙ e
+
+  pub among-end : length ms ≤ i → among m (drop i ms) ≡ z → false ≡ z
+  unfolding among
+  among-end l e = ap (among m) (sym (drop-of-length-le ms l)) ∙ e
+
+pub maybe-over : (ms : List ℕ) (k m : ℕ) → length ms < k → true ≡ maybe ms k m
+unfolding maybe
+maybe-over ms k m l = sym (ap (λ b. cond b true (among m (take k ms))) (lt-ltb (length ms) k l))
+
+pub maybe-within : (ms : List ℕ) (k m : ℕ) (r : Bool) → k ≤ length ms → r ≡ among m (take k ms) → r ≡ maybe ms k m
+unfolding maybe
+maybe-within ms k m r l e = e ∙ sym (ap (λ b. cond b true (among m (take k ms))) (le-ltb (length ms) k l))
+
+-- a name whose mark is not among the marks is not among the names
+or-false : (a b : Bool) → (a || b) ≡ false → (a ≡ false) × (b ≡ false)
+or-false true b e = absurd (let y : _≡_ {A = ℕ} 1 0 = ap (λ c. cond c 1 0) e in omega arith)
+or-false false b e = (refl, e)
+
+other-name : (n m : Name) → eqb (markOf m) (markOf n) ≡ false → eqName n m ≡ false
+other-name n m e = go (eqName n m) refl
+  where
+    go : (b : Bool) → eqName n m ≡ b → b ≡ false
+    go true h = sym (eq-eqb (markOf m) (markOf n) (ap markOf (sym (eqName-true n m h)))) ∙ e
+    go false h = refl
+
+unmarked : (n : Name) (ns : List Name) → among (markOf n) (marksOf ns) ≡ false → member n ns ≡ false
+unfolding among marksOf member
+unmarked n [] e = refl
+unmarked n (m ∷ ms) e =
+    let o = or-false (eqb (markOf m) (markOf n)) (among (markOf n) (marksOf ms)) e in
+    ap (λ b. b || member n ms) (other-name n m (o .0)) ∙ unmarked n ms (o .1)
+
+pub unmarked-out : (t n ms : List ℕ) (k m : ℕ) (r : Bool) → (m ≡ markOf n) × Marks ms k t → r ≡ maybe ms k m → r ≡ false → false ≡ member n (table t)
+unfolding maybe Marks
+unmarked-out t n ms k m r (e, h) p g = ⊎-elim (λ (l : length ms < k). over l) (λ (l : k ≤ length ms). within l) (lt-or-le (length ms) k)
+  where
+    over : length ms < k → false ≡ member n (table t)
+    over l = sym (or-false true (member n (table t)) (ap (λ b. cond b true (among m (take k ms))) (sym (lt-ltb (length ms) k l)) ∙ sym p ∙ g) .1)
+
+    within : k ≤ length ms → false ≡ member n (table t)
+    within l = sym (unmarked n (table t) (sym (λ j. among (e j) (h l j)) ∙ ap (λ b. cond b true (among m (take k ms))) (sym (le-ltb (length ms) k l)) ∙ sym p ∙ g))
+
+-- what the search for a name that stands again knows: the bytes before are whole names, and their marks are kept
+abbrev pub Kept : List ℕ → ℕ → ℕ → List ℕ → Type 0
+Kept t at k ms = at < length t → (take at t ≡ enc (table (take at t))) × Marks ms k (take at t)
+
+pub kept-start : (t ms : List ℕ) → Kept t 0 0 ms
+unfolding Marks marksOf table tableF enc
+kept-start t ms l = (refl, λ h. refl)
+
+-- a name more: its bytes, with the length byte before them
+cut : (n a : ℕ) (t : List ℕ) → a < length t → n ≤ length t - (a + 1) → take (a + 1 + n) t ≡ take a t ++ (getD t a 0 ∷ take n (drop (a + 1) t))
+cut n zero [] l h = absurd (let g : 1 ≤ 0 = l in omega arith)
+cut n zero (x ∷ xs) l h = ap (λ j. take j (x ∷ xs)) (let e : 0 + 1 + n ≡ suc n = omega arith in e)
+cut n (suc a) [] l h = absurd (let g : suc (suc a) ≤ 0 = l in omega arith)
+cut n (suc a) (x ∷ xs) l h = ap (λ j. take j (x ∷ xs)) (let e : suc a + 1 + n ≡ suc (a + 1 + n) = omega arith in e)
+    ∙ ap (λ (r : List ℕ). x ∷ r) (cut n a xs (omega arith) (omega arith))
+    ∙ ap (λ j. x ∷ (take a xs ++ (getD xs a 0 ∷ take n (drop j (x ∷ xs))))) (let e : suc (a + 1) ≡ suc a + 1 = omega arith in e)
+
+marks-snoc : (ns : List Name) (n : Name) → marksOf (ns ++ (n ∷ [])) ≡ marksOf ns ++ (markOf n ∷ [])
+unfolding marksOf
+marks-snoc [] n = refl
+marks-snoc (m ∷ ms) n = ap (λ (l : List ℕ). markOf m ∷ l) (marks-snoc ms n)
+
+module _ (t ms ns : List ℕ) (at e k m : ℕ) (h : at < length t) (p : e ≡ min (at + 1 + getD t at 0) (length t)) (q : m ≡ markOf (take (e - (at + 1)) (drop (at + 1) t))) (w : ns ≡ set ms k m) where
+  word : Name
+  word = take (e - (at + 1)) (drop (at + 1) t)
+
+  -- the names up to e, where the last of them is whole
+  more : e < length t → take at t ≡ enc (table (take at t)) → take e t ≡ enc (table (take at t) ++ (word ∷ []))
+  unfolding word
+  more l g =
+      let n : at + 1 + (e - (at + 1)) ≡ e = omega arith in
+      let b : getD t at 0 ≡ length word = omega (arith, length-take-le (e - (at + 1)) (drop (at + 1) t) (omega (arith, length-drop (at + 1) t))) in
+      ap (λ j. take j t) (sym n)
+      ∙ cut (e - (at + 1)) at t h (omega arith)
+      ∙ (λ j. g j ++ (b j ∷ word))
+      ∙ sym (enc-snoc (table (take at t)) word)
+
+  names : e < length t → take at t ≡ enc (table (take at t)) → table (take e t) ≡ table (take at t) ++ (word ∷ [])
+  names l g = ap table (more l g) ∙ table-enc (table (take at t) ++ (word ∷ []))
+
+  pub kept-more : Kept t at k ms → Kept t e (k + 1) ns
+  unfolding Marks word
+  kept-more d l =
+      let g = d h .0 in
+      let n = names l g in (
+        more l g ∙ ap enc (sym n),
+        λ r.
+            let s : k < length ms = omega (arith, ap length w, length-set ms k m) in
+            ap (λ (x : List ℕ). take (k + 1) x) w
+            ∙ ap (λ j. take j (set ms k m)) (add-one k)
+            ∙ take-suc-set ms k m s
+            ∙ (λ j. d h .1 (omega arith) j ++ (q j ∷ []))
+            ∙ sym (marks-snoc (table (take at t)) word)
+            ∙ ap marksOf (sym n),
+      )
