@@ -1,5 +1,6 @@
 pub mod MadeLaws
 pub mod CountLaws
+pub mod CellLaws
 pub mod BaseLaws
 pub mod NodesRead
 pub mod MetLaws
@@ -7,6 +8,10 @@ pub mod Moving
 pub mod Views
 pub mod Walking
 pub mod HeadCopies
+pub mod PlaceLaws
+pub mod ActRead
+pub mod MisusedLaws
+pub mod MisusedFound
 pub mod Computed
 pub mod Charts
 pub mod Examples

@@ -1,7 +1,7 @@
 -- Each node moves the walk forward: passes end, and go on as the loop does.
 use Prim.Native.Nat.{ℕ, zero, suc, _+_, _-_, _<_, _≤_}
 use native.Mathlib.Omega.{arith}
-use mathlib.Core.List.{List}
+use mathlib.Core.List.{List, [], _∷_}
 use mathlib.Core.Bool.{Bool, true, false, cond}
 use mathlib.Core.Path.{_≡_, refl, sym, ap, subst, _∙_}
 use lib.ListN.{length, getD}
@@ -98,8 +98,13 @@ module _ (ns : List Name) (s : List ℕ) where
     unfolding metAt
     met-moves p = node-moves p p (metNode ns s last p) (λ n q a b. each-moves p n q a b)
 
+-- only the number of names matters to a loop's end
+tables : (k : ℕ) → (ns : List Name) × (length ns ≡ k)
+tables zero = ([], refl)
+tables (suc k) = let r = tables k in ([] ∷ r .0, ap suc (r .1))
+
 -- a loop over nodes ends: what is left falls
-pub falls : (ns : List Name) (s : List ℕ) (last n p k q : ℕ) (m : Met) → 0 < n → m ≡ metAt ns s last p → k ≡ openT m n → q ≡ onwardT m → leftT s k q < leftT s n p
+falls : (ns : List Name) (s : List ℕ) (last n p k q : ℕ) (m : Met) → 0 < n → m ≡ metAt ns s last p → k ≡ openT m n → q ≡ onwardT m → leftT s k q < leftT s n p
 unfolding leftT openT
 falls ns s last n p k q m l e f g = go m (subst (Moved s p) (sym e) (met-moves ns s last p)) f g (eqb n 0) refl (eqb k 0) refl
   where
@@ -108,6 +113,9 @@ falls ns s last n p k q m l e f g = go m (subst (Moved s p) (sym e) (met-moves n
     go m v f g false a true b = omega arith
     go m stays f g false a false b = absurd (eqb-false k 0 b f)
     go m (goes h i) f g false a false b = omega arith
+
+pub meets-fall : (s : List ℕ) (names last n p k q : ℕ) (m : Met) → 0 < n → ((ns : List Name) → length ns ≡ names → m ≡ metAt ns s last p) → k ≡ openT m n → q ≡ onwardT m → leftT s k q < leftT s n p
+meets-fall s names last n p k q m l e f g = let t = tables names in falls (t .0) s last n p k q m l (e (t .0) (t .1)) f g
 
 module _ (ns : List Name) (s : List ℕ) (last : ℕ) {S : Type 0} (step : Met → ℕ → S → S) where
   none-walks : (f p : ℕ) (z : S) → walkT ns s last step f zero p z ≡ z

@@ -25,3 +25,6 @@ pub mod Call
 pub mod Met
 pub mod Kids
 pub mod Walks
+pub mod Places
+pub mod MisusedAt
+pub mod Cells

@@ -1,5 +1,8 @@
 // Activations: checked and lowered.
 pub mod made; // the names that lowering makes
 pub mod interface; // the C interface
+pub mod cells; // tables of 16-bit words
 pub mod base; // what is known of a pack as a whole
 pub mod met; // the nodes of an expression, one by one
+pub mod parts; // where the parts of activations stand
+pub mod misused; // calls of `last` with other arguments

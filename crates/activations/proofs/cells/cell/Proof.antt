@@ -1,0 +1,24 @@
+use native.Mathlib.Omega.{arith}
+use mathlib.Core.Path.{refl}
+use Rattle.machines.proofs.TableLaws.{past-end}
+use borrow.Author.Needs.{needs}
+use Rattle.activations.proofs.cells.cell.Statement.{statement}
+use Rattle.activations.proofs.cells.cell.Tie as tie
+
+mul-result : tie.Need-mul-result
+mul-result c = search needs
+
+shared-slice-read-result : tie.Need-shared-slice-read-result
+shared-slice-read-result c = search needs
+
+cast-result : tie.Need-cast-result
+cast-result c = omega (arith, c .shared-slice-known .given (c .before .before .args .i))
+
+returns : tie.Need-returns
+returns c = (c .shared-slice-known .given (c .before .before .args .i) .fits, refl)
+
+returns-2 : tie.Need-returns-2
+returns-2 c = (omega arith, past-end (c .before .args .t .now) _ (c .if1 .left))
+
+pub cell-spec : {M : Type 1} → statement M
+cell-spec = tie.close (tie.spec mul-result shared-slice-read-result cast-result returns returns-2)

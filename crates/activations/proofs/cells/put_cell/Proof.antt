@@ -1,0 +1,25 @@
+use Rattle.activations.proofs.CellLaws.{put-is, put-out}
+use borrow.Author.Needs.{needs}
+use Rattle.activations.proofs.cells.put_cell.Statement.{statement}
+use Rattle.activations.proofs.cells.put_cell.Tie as tie
+
+cast-t : tie.Need-cast-t
+cast-t c = search needs
+
+mul-t : tie.Need-mul-t
+mul-t c = search needs
+
+slice-write-t : tie.Need-slice-write-t
+slice-write-t c = search needs
+
+same-length : tie.Need-same-length
+same-length c = search needs
+
+returns : tie.Need-returns
+returns c = put-is _ _ _
+
+returns-2 : tie.Need-returns-2
+returns-2 c = put-out _ _ _ (c .if1 .left)
+
+pub put-cell-spec : {M : Type 1} → statement M
+put-cell-spec = tie.close (tie.spec cast-t mul-t slice-write-t same-length returns returns-2)

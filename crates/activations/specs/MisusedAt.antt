@@ -1,0 +1,45 @@
+-- Calls of `last` that are misused, as the code finds them in the bytes.
+use Prim.Native.Nat.{ℕ, zero, suc}
+use mathlib.Core.List.{List}
+use mathlib.Core.Bool.{Bool, false, _||_}
+use Rattle.pack.specs.Names.{Name}
+use Rattle.machines.specs.Sure.{numberIn, with}
+use Rattle.activations.specs.declared.met.Met.{Met}
+use Rattle.activations.specs.declared.parts.Act.{Act}
+use Rattle.activations.specs.Met.{isBad}
+use Rattle.activations.specs.Places.{bodyIn, branchEnd, equationEnd, rightSideIn}
+use Rattle.activations.specs.Walks.{walked}
+
+-- whether f holds of one of n things from p on
+unfoldable pub anyT : (ℕ → Bool) → (ℕ → ℕ) → ℕ → ℕ → Bool
+anyT f next zero p = false
+anyT f next (suc n) p = f p || anyT f next n (next p)
+
+-- whether f holds of a branch, where the count of branches stands at `at`
+unfoldable pub anyBranchT : List Name → List ℕ → (ℕ → Bool) → ℕ → Bool
+anyBranchT ns s f at = with (numberIn s at) λ n p. anyT f (branchEnd ns s) n p
+
+-- a pass that looks for a bad call
+unfoldable pub badStep : Met → ℕ → Bool → Bool
+badStep m p z = z || isBad m
+
+module _ (ns : List Name) (s : List ℕ) (last : ℕ) where
+  unfoldable pub misusedT : ℕ → Bool
+  misusedT at = walked ns s last badStep 1 at false
+
+  -- in an equation, in a scope whose count of equations stands at `at`
+  unfoldable pub misusedEquationT : ℕ → Bool
+  misusedEquationT at = misusedT (rightSideIn ns s at)
+
+  unfoldable pub misusedScopeT : ℕ → Bool
+  misusedScopeT at = with (numberIn s at) λ n p. anyT misusedEquationT (equationEnd ns s) n p
+
+  -- in the condition of a branch, in its scope
+  unfoldable pub misusedConditionT : ℕ → Bool
+  misusedConditionT at = with (numberIn s at) λ i p. misusedT p
+
+  unfoldable pub misusedBodyT : ℕ → Bool
+  misusedBodyT at = misusedScopeT (bodyIn ns s at)
+
+  unfoldable pub anyMisusedT : Act → Bool
+  anyMisusedT a = anyBranchT ns s misusedConditionT (a .branches) || (anyBranchT ns s misusedBodyT (a .branches) || misusedScopeT (a .other))

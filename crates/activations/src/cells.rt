@@ -1,0 +1,64 @@
+// Tables of 16-bit words, wide enough for a pack's offsets and indexes. All is total: 0 past the end, and nothing is written there.
+ghost use mathlib.Core.Path.{_≡_};
+ghost use Prim.Native.Nat.{_+_, _<_};
+ghost use lib.ListN.{getD};
+ghost use Rattle.activations.specs.Cells.{putT, clearT, copyT};
+
+pub fn cell(t: &[u16], i: usize) -> usize
+    ensures { λ r. ⌜ (r < 65536) × (r ≡ getD (now (t .entry)) i 0) ⌝ }
+{
+    if i < t.len() { t[i] as usize } else { 0 }
+}
+
+pub fn put_cell(t: &mut [u16], i: usize, v: usize)
+    ensures { λ r. ⌜ now (t .exit) ≡ putT (now (t .entry)) i v ⌝ }
+{
+    if i < t.len() {
+        t[i] = (v % 65536) as u16;
+    }
+}
+
+// The word k words after p.
+pub fn word(t: &[u16], p: usize, k: usize) -> usize
+    ensures { λ r. ⌜ (r < 65536) × (r ≡ getD (now (t .entry)) (p + k) 0) ⌝ }
+{
+    if p < t.len() {
+        if k < t.len() - p {
+            return t[p + k] as usize;
+        }
+    }
+    0
+}
+
+pub fn put_word(t: &mut [u16], p: usize, k: usize, v: usize)
+    ensures { λ r. ⌜ now (t .exit) ≡ putT (now (t .entry)) (p + k) v ⌝ }
+{
+    if t.len() <= p {
+        return;
+    }
+    if k < t.len() - p {
+        t[p + k] = (v % 65536) as u16;
+    }
+}
+
+// Zero in the first n cells.
+pub fn clear(t: &mut [u16], n: usize)
+    ensures { λ r. ⌜ now (t .exit) ≡ clearT n (now (t .entry)) ⌝ }
+{
+    let mut i = 0;
+    while i < n {
+        put_cell(t, i, 0);
+        i += 1;
+    }
+}
+
+// The first n cells, over those of another table.
+pub fn copy(from: &[u16], to: &mut [u16], n: usize)
+    ensures { λ r. ⌜ now (to .exit) ≡ copyT (now (from .entry)) n (now (to .entry)) ⌝ }
+{
+    let mut i = 0;
+    while i < n {
+        put_cell(to, i, cell(from, i));
+        i += 1;
+    }
+}
