@@ -12,6 +12,8 @@ pub mod PlaceLaws
 pub mod ActRead
 pub mod MisusedLaws
 pub mod MisusedFound
+pub mod LookupLaws
+pub mod MetExample
 pub mod Computed
 pub mod Charts
 pub mod Examples

@@ -18,9 +18,9 @@ use Rattle.activations.specs.Misused.{anyMisused, misused, misusedIn}
 use Rattle.activations.specs.Sought.{bodies, conditions, expressions, rightSides}
 use Rattle.activations.specs.Kids.{kids, listOf}
 use Rattle.activations.specs.Met.{isBad}
-use Rattle.activations.specs.Places.{actAt, branchEnd, equationEnd}
+use Rattle.activations.specs.Places.{actAt, anyT, branchEnd, equationEnd}
 use Rattle.activations.specs.Walks.{LastIs, through}
-use Rattle.activations.specs.MisusedAt.{anyBranchT, anyMisusedT, anyT, badStep, misusedBodyT, misusedConditionT, misusedEquationT, misusedScopeT, misusedT}
+use Rattle.activations.specs.MisusedAt.{anyBranchT, anyMisusedT, badStep, misusedBodyT, misusedConditionT, misusedEquationT, misusedScopeT, misusedT}
 use Rattle.activations.proofs.Views.{View, toCome, vArray, vArrow, vBad, vBinary, vCall, vCast, vConst, vField, vIf, vIndex, vIterate, vLast, vMerge, vPre, vStruct, vTuple, vUnary, vVar, vWhen}
 use Rattle.activations.proofs.Walking.{walks-one}
 use Rattle.activations.proofs.ActRead.{act-to, activation-value, body-to, branch-end-to, branch-number-to, branch-value, counted-value, equation-end-to, equation-value, right-side-to}

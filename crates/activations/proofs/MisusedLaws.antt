@@ -12,9 +12,9 @@ use Rattle.machines.proofs.SureLaws.{on}
 use Rattle.activations.specs.declared.met.Met.{Met}
 use Rattle.activations.specs.declared.parts.Act.{Act}
 use Rattle.activations.specs.Met.{isBad, metAt, onwardT, openT}
-use Rattle.activations.specs.Places.{bodyIn, branchEnd, equationEnd, rightSideIn}
+use Rattle.activations.specs.Places.{anyT, bodyIn, branchEnd, equationEnd, rightSideIn}
 use Rattle.activations.specs.Walks.{walkT, walked}
-use Rattle.activations.specs.MisusedAt.{anyBranchT, anyMisusedT, anyT, badStep, misusedBodyT, misusedConditionT, misusedEquationT, misusedScopeT, misusedT}
+use Rattle.activations.specs.MisusedAt.{anyBranchT, anyMisusedT, badStep, misusedBodyT, misusedConditionT, misusedEquationT, misusedScopeT, misusedT}
 use Rattle.activations.proofs.Moving.{ended, went}
 
 module _ (ns : List Name) (s : List ℕ) (last : ℕ) where

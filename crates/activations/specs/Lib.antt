@@ -28,3 +28,4 @@ pub mod Walks
 pub mod Places
 pub mod MisusedAt
 pub mod Cells
+pub mod Lookups

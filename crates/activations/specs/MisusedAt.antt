@@ -1,5 +1,5 @@
 -- Calls of `last` that are misused, as the code finds them in the bytes.
-use Prim.Native.Nat.{ℕ, zero, suc}
+use Prim.Native.Nat.{ℕ}
 use mathlib.Core.List.{List}
 use mathlib.Core.Bool.{Bool, false, _||_}
 use Rattle.pack.specs.Names.{Name}
@@ -7,13 +7,8 @@ use Rattle.machines.specs.Sure.{numberIn, with}
 use Rattle.activations.specs.declared.met.Met.{Met}
 use Rattle.activations.specs.declared.parts.Act.{Act}
 use Rattle.activations.specs.Met.{isBad}
-use Rattle.activations.specs.Places.{bodyIn, branchEnd, equationEnd, rightSideIn}
+use Rattle.activations.specs.Places.{anyT, bodyIn, branchEnd, equationEnd, rightSideIn}
 use Rattle.activations.specs.Walks.{walked}
-
--- whether f holds of one of n things from p on
-unfoldable pub anyT : (ℕ → Bool) → (ℕ → ℕ) → ℕ → ℕ → Bool
-anyT f next zero p = false
-anyT f next (suc n) p = f p || anyT f next n (next p)
 
 -- whether f holds of a branch, where the count of branches stands at `at`
 unfoldable pub anyBranchT : List Name → List ℕ → (ℕ → Bool) → ℕ → Bool

@@ -1,7 +1,7 @@
 -- Where the parts of activations stand, as the code finds them: 0 where reading would stop.
 use Prim.Native.Nat.{ℕ, zero, suc, _-_}
 use mathlib.Core.List.{List}
-use mathlib.Core.Bool.{cond}
+use mathlib.Core.Bool.{Bool, false, cond, _||_}
 use lib.Dec.{ltb}
 use Rattle.pack.specs.Names.{Name}
 use Rattle.pack.specs.Read.{equationsIn, exprIn, namesIn, portsIn}
@@ -13,6 +13,11 @@ use Rattle.activations.specs.declared.parts.Act.{Act}
 unfoldable pub along : (ℕ → ℕ) → ℕ → ℕ → ℕ
 along next zero p = p
 along next (suc n) p = along next n (next p)
+
+-- whether f holds of one of n things from p on
+unfoldable pub anyT : (ℕ → Bool) → (ℕ → ℕ) → ℕ → ℕ → Bool
+anyT f next zero p = false
+anyT f next (suc n) p = f p || anyT f next n (next p)
 
 -- the first left name of an equation, 0 where there is none
 unfoldable pub firstLeftIn : List ℕ → ℕ → ℕ

@@ -3,8 +3,8 @@ use mathlib.Core.List.{List}
 use mathlib.Core.Path.{_≡_, refl}
 use lib.ListN.{length}
 use Rattle.pack.specs.Names.{Name}
-use Rattle.activations.specs.Places.{branchEnd}
-use Rattle.activations.specs.MisusedAt.{anyT, misusedBodyT}
+use Rattle.activations.specs.Places.{anyT, branchEnd}
+use Rattle.activations.specs.MisusedAt.{misusedBodyT}
 use Rattle.activations.proofs.MisusedLaws.{any-end, any-hit, any-on, body-misused, branches-is}
 use Rattle.activations.proofs.misused.misused_bodies.Statement.{statement}
 use Rattle.activations.proofs.misused.misused_bodies.Tie as tie

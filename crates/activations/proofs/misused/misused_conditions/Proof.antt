@@ -3,8 +3,8 @@ use mathlib.Core.List.{List}
 use mathlib.Core.Path.{_≡_, refl}
 use lib.ListN.{length}
 use Rattle.pack.specs.Names.{Name}
-use Rattle.activations.specs.Places.{branchEnd}
-use Rattle.activations.specs.MisusedAt.{anyT, misusedConditionT}
+use Rattle.activations.specs.Places.{anyT, branchEnd}
+use Rattle.activations.specs.MisusedAt.{misusedConditionT}
 use Rattle.activations.proofs.MisusedLaws.{any-end, any-hit, any-on, branches-is, condition-is}
 use Rattle.activations.proofs.misused.misused_conditions.Statement.{statement}
 use Rattle.activations.proofs.misused.misused_conditions.Tie as tie

@@ -3,8 +3,8 @@ use mathlib.Core.List.{List}
 use mathlib.Core.Path.{_≡_, refl}
 use lib.ListN.{length}
 use Rattle.pack.specs.Names.{Name}
-use Rattle.activations.specs.Places.{equationEnd}
-use Rattle.activations.specs.MisusedAt.{anyT, misusedEquationT}
+use Rattle.activations.specs.Places.{anyT, equationEnd}
+use Rattle.activations.specs.MisusedAt.{misusedEquationT}
 use Rattle.activations.proofs.MisusedLaws.{any-end, any-hit, any-on, equation-is, scope-is}
 use Rattle.activations.proofs.PlaceLaws.{equation-over}
 use Rattle.activations.proofs.misused.misused_scope.Statement.{statement}
