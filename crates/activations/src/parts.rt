@@ -16,7 +16,7 @@ ghost use Rattle.pack.specs.Names.{Name};
 ghost use Rattle.pack.specs.Read.{typeIn};
 ghost use Rattle.machines.specs.Stands.{endOf};
 ghost use Rattle.machines.specs.Sure.{numberIn};
-ghost use Rattle.activations.specs.Places.{firstLeftIn, rightSideIn, equationEnd, bodyIn, branchEnd, branchesEnd, actAt, actEnd, holdingT};
+ghost use Rattle.activations.specs.Places.{firstLeftIn, rightSideIn, bodyIn, branchEnd, branchesEnd, actAt, actEnd, holdingT};
 
 // An activation: its name's index; where its outputs, its branches and its else scope stand; how many branches it has; its first
 // holder and how many it has; where its scopes are laid out.
