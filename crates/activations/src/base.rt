@@ -51,7 +51,7 @@ pub fn lookup_made(old: &[u8], b: Base, buf: &[u8], t: Writer) -> usize
 }
 
 // Whether the name of an index begins with `__act_`.
-fn made_at(s: &[u8], spots: &[usize], k: usize) -> bool
+fn made_at(s: &[u8], spots: &[u16], k: usize) -> bool
     ensures { λ r. ⌜ r ≡ madeAt (now (s .entry)) (now (spots .entry)) k ⌝ }
 {
     let n = pack_name(s, spots, k);
@@ -59,7 +59,7 @@ fn made_at(s: &[u8], spots: &[usize], k: usize) -> bool
 }
 
 // Whether one of the names does.
-pub fn some_made(s: &[u8], names: usize, spots: &[usize]) -> bool
+pub fn some_made(s: &[u8], names: usize, spots: &[u16]) -> bool
     ensures { λ r. ⌜ r ≡ someMadeT (now (s .entry)) (now (spots .entry)) names ⌝ }
 {
     let mut k = 0;
