@@ -1,4 +1,5 @@
 pub mod MadeLaws
+pub mod ClockLaws
 pub mod CountLaws
 pub mod CellLaws
 pub mod BaseLaws

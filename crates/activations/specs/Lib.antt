@@ -29,3 +29,4 @@ pub mod Places
 pub mod MisusedAt
 pub mod Cells
 pub mod Lookups
+pub mod ByNumber

@@ -6,3 +6,4 @@ pub mod base; // what is known of a pack as a whole
 pub mod met; // the nodes of an expression, one by one
 pub mod parts; // where the parts of activations stand
 pub mod misused; // calls of `last` with other arguments
+pub mod terms; // variables of branches and clocks, written

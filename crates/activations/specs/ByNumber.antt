@@ -1,0 +1,62 @@
+-- Clocks, guards and merges by the number of branches: they do not depend on the conditions.
+use mathlib.Core.List.{List, [], _∷_, _++_}
+use Prim.Native.Nat.{ℕ, zero, suc}
+use Rattle.wire.specs.Bytes.{two}
+use Rattle.pack.specs.Names.{Name}
+use Rattle.pack.specs.Syntax.{Equation, Expr, Port, eMerge, eVar, tBool}
+use Rattle.pack.specs.Write.{Item, exprItems, nm, raw}
+use Rattle.activations.specs.MadeNames.{Scope, branch, clockVar, flagVar, noneVar, other, valueVar}
+use Rattle.activations.specs.Defines.{eqn}
+use Rattle.activations.specs.Clocks.{under}
+use Rattle.activations.specs.Merges.{mergeFrom}
+
+-- a `when` on the clock of branch k, up to its argument
+unfoldable pub whenItems : Name → ℕ → ℕ → List Item
+whenItems a k b = raw (14 ∷ []) ∷ nm (clockVar a k) ∷ raw (b ∷ []) ∷ []
+
+-- `under`, up to its argument
+unfoldable pub underItems : Name → ℕ → List Item
+underItems a zero = []
+underItems a (suc k) = whenItems a k 0 ++ underItems a k
+
+-- `onto`, up to its argument
+unfoldable pub ontoItems : Name → ℕ → Scope → List Item
+ontoItems a n (branch k) = whenItems a k 1 ++ underItems a k
+ontoItems a n other = underItems a n
+
+-- a Boolean local
+unfoldable pub boolPort : Name → Port
+boolPort x = record { name = x; ty = tBool }
+
+-- the guard of branch k
+unfoldable pub guardOf : Name → ℕ → Equation
+guardOf a k = eqn (clockVar a k) (under a k (eVar (flagVar a k)))
+
+-- the guards of n branches from k on
+unfoldable pub guardsFrom : Name → ℕ → ℕ → List Equation
+guardsFrom a k zero = []
+guardsFrom a k (suc n) = guardOf a k ∷ guardsFrom a (suc k) n
+
+-- their locals
+unfoldable pub guardPorts : Name → ℕ → ℕ → List Port
+guardPorts a k zero = []
+guardPorts a k (suc n) = boolPort (clockVar a k) ∷ guardPorts a (suc k) n
+
+-- the flags of branch k where a branch follows
+unfoldable pub pairPorts : Name → ℕ → List Port
+pairPorts a k = boolPort (flagVar a k) ∷ boolPort (noneVar a k) ∷ []
+
+-- the locals of the flags of n branches from k on
+unfoldable pub flagPorts : Name → ℕ → ℕ → List Port
+flagPorts a k zero = []
+flagPorts a k (suc zero) = boolPort (flagVar a k) ∷ []
+flagPorts a k (suc (suc n)) = pairPorts a k ++ flagPorts a (suc k) (suc n)
+
+-- an output from the scopes of n branches from k on, and the else scope
+unfoldable pub mergedFrom : Name → Name → ℕ → ℕ → Expr
+mergedFrom a o k zero = eVar (valueVar a other o)
+mergedFrom a o k (suc n) = eMerge (clockVar a k) (eVar (valueVar a (branch k) o)) (mergedFrom a o (suc k) n)
+
+-- the equation of an output o, whose left name is written by its index x
+unfoldable pub mergeItems : Name → ℕ → Name → List Expr → List Item
+mergeItems a x o cs = raw (two 1) ∷ raw (two x) ∷ exprItems (mergeFrom a o 0 cs)
