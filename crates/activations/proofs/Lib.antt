@@ -1,5 +1,6 @@
 pub mod MadeLaws
 pub mod ClockLaws
+pub mod GuardLaws
 pub mod CountLaws
 pub mod CellLaws
 pub mod BaseLaws

@@ -7,3 +7,4 @@ pub mod met; // the nodes of an expression, one by one
 pub mod parts; // where the parts of activations stand
 pub mod misused; // calls of `last` with other arguments
 pub mod terms; // variables of branches and clocks, written
+pub mod guards; // guards, and the locals of flags and guards
