@@ -1,8 +1,8 @@
--- Laws of guards and of the locals of flags and guards: by the number of branches they are those of the definitions, and as the code writes them.
+-- Laws of guards and of the locals of flags and guards: as the code writes them, by the number of branches.
 use Prim.Native.Nat.{ℕ, zero, suc, _+_, _-_, _<_, _≤_}
 use native.Mathlib.Numerals.{add-one}
 use native.Mathlib.Omega.{arith}
-use mathlib.Core.List.{List, [], _∷_, _++_, append-nil}
+use mathlib.Core.List.{List, [], _∷_, append-nil}
 use mathlib.Core.Bool.{cond}
 use mathlib.Core.Option.{Option, none, some}
 use mathlib.Core.Path.{_≡_, refl, sym, ap, _∙_}

@@ -2,6 +2,7 @@ pub mod MadeLaws
 pub mod ClockLaws
 pub mod GuardLaws
 pub mod MergeLaws
+pub mod MergesEmitted
 pub mod CountLaws
 pub mod CellLaws
 pub mod BaseLaws
