@@ -21,3 +21,4 @@ pub mod MetExample
 pub mod Computed
 pub mod Charts
 pub mod Examples
+pub mod UnlastLaws

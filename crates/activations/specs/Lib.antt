@@ -30,3 +30,4 @@ pub mod MisusedAt
 pub mod Cells
 pub mod Lookups
 pub mod ByNumber
+pub mod UnlastAt
