@@ -72,7 +72,7 @@ Kept (mt.Clocked c u q) = Unit {0}
 Kept (mt.Other u q) = Unit {0}
 Kept mt.Nothing = Unit {0}
 
-kept-come : (m : Met) (e : Expr) → Kept m → toCome m e ≡ kids e
+pub kept-come : (m : Met) (e : Expr) → Kept m → toCome m e ≡ kids e
 unfolding Kept toCome
 kept-come (mt.Last v i q) e k = absurd k
 kept-come (mt.Bad u q) e k = refl

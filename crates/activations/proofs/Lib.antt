@@ -22,3 +22,4 @@ pub mod Computed
 pub mod Charts
 pub mod Examples
 pub mod UnlastLaws
+pub mod UnlastWritten

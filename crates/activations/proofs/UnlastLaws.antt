@@ -13,7 +13,6 @@ use denote.Enum.Declared.{tagOf}
 use Rattle.wire.specs.declared.writer.Writer.{Writer}
 use Rattle.wire.specs.Writer.{State, full, put, puts, stateOf}
 use Rattle.pack.specs.Names.{Name}
-use Rattle.pack.specs.Write.{Item, nm, raw}
 use Rattle.pack.specs.Intern.{putItem, putName, render}
 use Rattle.pack.proofs.Written.{render-full}
 use Rattle.machines.specs.Laid.{sliceOf}
