@@ -164,16 +164,21 @@ mod tests {
         right(pack, len)
     }
 
-    fn run(function: crate::calls::CheckFn, count: usize) -> (Tally, Vec<String>) {
-        let calls = [Call { name: "check", function: Function::Check(function), expected: expected_check }];
+    /// A call on the packs of a stream: what was counted, and what was said.
+    fn tallied(call: Call, seed: u64, mut packs: Stream, count: usize) -> (Tally, Vec<String>) {
+        let calls = [call];
         let mut tally = Tally::default();
         let mut said = Vec::new();
-        let mut judge = Judge::new(1);
-        let mut packs = Stream::new(7, Aim::Check);
+        let mut judge = Judge::new(seed);
         for _ in 0..count {
             pack(&mut judge, &calls, &packs.pack(), &mut tally, &mut |text| said.push(text));
         }
         (tally, said)
+    }
+
+    fn run(function: crate::calls::CheckFn, count: usize) -> (Tally, Vec<String>) {
+        let call = Call { name: "check", function: Function::Check(function), expected: expected_check };
+        tallied(call, 1, Stream::new(7, Aim::Check), count)
     }
 
     #[test]
@@ -219,15 +224,7 @@ mod tests {
     }
 
     fn run_lowering(function: crate::calls::LowerFn, count: usize) -> (Tally, Vec<String>) {
-        let calls = [crate::calls::machines(function)];
-        let mut tally = Tally::default();
-        let mut said = Vec::new();
-        let mut judge = Judge::new(3);
-        let mut packs = Stream::new(8, Aim::Lower);
-        for _ in 0..count {
-            pack(&mut judge, &calls, &packs.pack(), &mut tally, &mut |text| said.push(text));
-        }
-        (tally, said)
+        tallied(crate::calls::machines(function), 3, Stream::new(8, Aim::Lower), count)
     }
 
     #[test]

@@ -3,7 +3,7 @@ use Prim.Native.Nat.{ℕ, _+_, _-_, _%_, _<_, _≤_}
 use native.Mathlib.Nat.{mod-eq-of-lt}
 use mathlib.Core.List.{List}
 use mathlib.Core.Path.{_≡_, refl, sym, ap, _∙_}
-use lib.ListN.{length, getD, length-set, set}
+use lib.ListN.{length, getD, set}
 use lib.Seq.{set-out}
 use Rattle.machines.specs.Settling.{fillT}
 use Rattle.machines.proofs.SettleLaws.{fill-done, fill-more}
@@ -17,20 +17,9 @@ pub put-out : (t : List ℕ) (i v : ℕ) → length t ≤ i → t ≡ putT t i v
 unfolding putT
 put-out t i v h = sym (set-out t i (v % 65536) h)
 
-pub put-small : (t : List ℕ) (i v : ℕ) → v < 65536 → putT t i v ≡ set t i v
-unfolding putT
-put-small t i v h = ap (set t i) (mod-eq-of-lt h)
-
-pub put-long : (t : List ℕ) (i v : ℕ) → length (putT t i v) ≡ length t
-unfolding putT
-put-long t i v = length-set t i (v % 65536)
-
 -- as a loop puts them
-pub put-kept : (t u w : List ℕ) (i v : ℕ) → u ≡ putT t i v → length t ≡ length w → length u ≡ length w
-put-kept t u w i v e f = ap length e ∙ put-long t i v ∙ f
-
-pub filled : (f : ℕ → ℕ) (n i v : ℕ) (t u z : List ℕ) → i < n → v < 65536 → v ≡ f i → u ≡ putT t i v → fillT f (n - i) i t ≡ z → fillT f (n - (i + 1)) (i + 1) u ≡ z
-filled f n i v t u z l s e g h = fill-more f n i v t u z l e (g ∙ put-small t i v s) h
+pub filled : (f : ℕ → ℕ) (n i v : ℕ) (t u z : List ℕ) → i < n → v < 65536 → v ≡ f i → u ≡ set t i (v % 65536) → fillT f (n - i) i t ≡ z → fillT f (n - (i + 1)) (i + 1) u ≡ z
+filled f n i v t u z l s e g h = fill-more f n i v t u z l e (g ∙ ap (set t i) (mod-eq-of-lt s)) h
 
 pub cleared : (n i : ℕ) (t z : List ℕ) → n ≤ i → fillT (λ j. 0) (n - i) i t ≡ fillT (λ j. 0) n 0 z → t ≡ clearT n z
 unfolding clearT

@@ -1,22 +1,10 @@
 // Tables of 16-bit words, wide enough for a pack's offsets and indexes. All is total: 0 past the end, and nothing is written there.
+use machines::cells::cell;
+use machines::cells::put_cell;
 ghost use mathlib.Core.Path.{_≡_};
 ghost use Prim.Native.Nat.{_+_, _<_};
 ghost use lib.ListN.{getD};
 ghost use Rattle.activations.specs.Cells.{putT, clearT, copyT};
-
-pub fn cell(t: &[u16], i: usize) -> usize
-    ensures { λ r. ⌜ (r < 65536) × (r ≡ getD (now (t .entry)) i 0) ⌝ }
-{
-    if i < t.len() { t[i] as usize } else { 0 }
-}
-
-pub fn put_cell(t: &mut [u16], i: usize, v: usize)
-    ensures { λ r. ⌜ now (t .exit) ≡ putT (now (t .entry)) i v ⌝ }
-{
-    if i < t.len() {
-        t[i] = (v % 65536) as u16;
-    }
-}
 
 // The word k words after p.
 pub fn word(t: &[u16], p: usize, k: usize) -> usize

@@ -4,8 +4,9 @@ use native.Mathlib.Omega.{arith}
 use mathlib.Core.Path.{_≡_, refl}
 use lib.ListN.{length}
 use Rattle.machines.specs.Settling.{fillT}
+use Rattle.machines.proofs.TableLaws.{put-length}
 use Rattle.machines.proofs.SettleLaws.{fill-start}
-use Rattle.activations.proofs.CellLaws.{cleared, filled, put-kept}
+use Rattle.activations.proofs.CellLaws.{cleared, filled}
 use Rattle.activations.proofs.cells.clear.Statement.{statement}
 use Rattle.activations.proofs.cells.clear.Tie as tie
 
@@ -28,7 +29,7 @@ loop-less : tie.Need-loop-less Inv-loop μ-loop
 loop-less c = search needs
 
 loop-again : tie.Need-loop-again Inv-loop μ-loop
-loop-again c = (put-kept _ _ (c .before .before .before .before .before .before .before .args .t .now) _ _ (c .before .before .put-cell .ensures) (c .before .before .before .before .before .loop .inv .0), filled (λ j. 0) _ _ 0 _ _ _ (c .before .before .before .before .loop-test .taken) (omega arith) refl (c .before .before .put-cell .ensures) (c .before .before .before .before .before .loop .inv .1))
+loop-again c = (put-length (c .before .before .before .before .before .loop .t) _ (c .before .before .before .before .before .before .before .args .t .now) (c .before .before .before .before .before .loop .i) _ (c .before .before .put-cell .ensures) (c .before .before .before .before .before .loop .inv .0), filled (λ j. 0) _ _ 0 _ _ _ (c .before .before .before .before .loop-test .taken) (omega arith) refl (c .before .before .put-cell .ensures) (c .before .before .before .before .before .loop .inv .1))
 
 same-length : tie.Need-same-length Inv-loop μ-loop
 same-length c = c .before .loop .inv .0

@@ -1,10 +1,12 @@
 use borrow.Author.Needs.{needs}
 use Prim.Native.Nat.{_-_}
+use native.Mathlib.Omega.{arith}
 use mathlib.Core.Path.{_≡_, refl}
 use lib.ListN.{length, getD}
 use Rattle.machines.specs.Settling.{fillT}
+use Rattle.machines.proofs.TableLaws.{put-length}
 use Rattle.machines.proofs.SettleLaws.{fill-start}
-use Rattle.activations.proofs.CellLaws.{copied, filled, put-kept}
+use Rattle.activations.proofs.CellLaws.{copied, filled}
 use Rattle.activations.proofs.cells.copy.Statement.{statement}
 use Rattle.activations.proofs.cells.copy.Tie as tie
 
@@ -30,7 +32,7 @@ loop-less : tie.Need-loop-less Inv-loop μ-loop
 loop-less c = search needs
 
 loop-again : tie.Need-loop-again Inv-loop μ-loop
-loop-again c = (put-kept _ _ (c .before .before .before .before .before .before .before .before .before .args .to .now) _ _ (c .before .before .put-cell .ensures) (c .before .before .before .before .before .before .loop .inv .0), filled (λ j. getD (c .before .before .before .before .before .before .before .before .before .args .from .now) j 0) _ _ _ _ _ _ (c .before .before .before .before .before .loop-test .taken) (c .before .before .before .cell .ensures .0) (c .before .before .before .cell .ensures .1) (c .before .before .put-cell .ensures) (c .before .before .before .before .before .before .loop .inv .1))
+loop-again c = (put-length (c .before .before .before .before .before .before .loop .to) _ (c .before .before .before .before .before .before .before .before .before .args .to .now) (c .before .before .before .before .before .before .loop .i) _ (c .before .before .put-cell .ensures) (c .before .before .before .before .before .before .loop .inv .0), filled (λ j. getD (c .before .before .before .before .before .before .before .before .before .args .from .now) j 0) _ _ _ _ _ _ (c .before .before .before .before .before .loop-test .taken) (omega (arith, c .before .before .before .before .before .before .before .before .shared-slice-known .given (c .before .before .before .before .before .before .loop .i), c .before .before .before .cell .ensures)) (c .before .before .before .cell .ensures) (c .before .before .put-cell .ensures) (c .before .before .before .before .before .before .loop .inv .1))
 
 same-length : tie.Need-same-length Inv-loop μ-loop
 same-length c = c .before .loop .inv .0
