@@ -135,10 +135,10 @@ module _ (ns : List Name) (s : List ℕ) where
     branches-end-to = number-to s (r .to-branches) (length (x .branches)) (r .b) _ (r .count) ∙ branches-along (length (x .branches)) (r .b) (x .branches) (r .to-else) (r .branches)
 
     -- the activation as the code has it
-    pub act-to : (first held rows : ℕ) → (i : ℕ) × (i < length ns) × (nameAt ns i ≡ x .name)
-        × (actAt ns s at first held rows ≡ record { name = i; outputs = r .to-outputs; branches = r .to-branches; other = r .to-else; n = length (x .branches); first = first; held = held; rows = rows })
+    pub act-to : (i : ℕ) × (i < length ns) × (nameAt ns i ≡ x .name)
+        × (actAt ns s at ≡ record { name = i; outputs = r .to-outputs; branches = r .to-branches; other = r .to-else; n = length (x .branches) })
     unfolding actAt actOf
-    act-to first held rows =
+    act-to =
         let n = name-number ns s at (x .name) (r .to-owner) (r .name) in
         let o = name-number ns s (r .to-owner) (x .owner) (r .to-outputs) (r .owner) in (
           n .i,
@@ -146,10 +146,10 @@ module _ (ns : List Name) (s : List ℕ) where
           n .named,
           number-to s at (n .i) (r .to-owner) _ (n .is)
               ∙ number-to s (r .to-owner) (o .i) (r .to-outputs) _ (o .is)
-              ∙ ap (λ y. actOf ns s (n .i) (r .to-outputs) y first held rows) (end-to (portsIn ns s (r .to-outputs)) (x .outputs) (r .to-branches) (r .outputs))
-              ∙ (λ j. record { name = n .i; outputs = r .to-outputs; branches = r .to-branches; other = branches-end-to j; n = first-branch-to j .value; first = first; held = held; rows = rows }),
+              ∙ ap (λ y. actOf ns s (n .i) (r .to-outputs) y) (end-to (portsIn ns s (r .to-outputs)) (x .outputs) (r .to-branches) (r .outputs))
+              ∙ (λ j. record { name = n .i; outputs = r .to-outputs; branches = r .to-branches; other = branches-end-to j; n = first-branch-to j .value }),
         )
 
     pub act-end-to : actEnd ns s at ≡ q
     unfolding actEnd
-    act-end-to = ap (λ (y : Act). endOf (equationsIn ns s (y .other))) (act-to 0 0 0 .3) ∙ end-to (equationsIn ns s (r .to-else)) (x .otherwise) q (r .otherwise)
+    act-end-to = ap (λ (y : Act). endOf (equationsIn ns s (y .other))) (act-to .3) ∙ end-to (equationsIn ns s (r .to-else)) (x .otherwise) q (r .otherwise)

@@ -157,14 +157,14 @@ module _ (ns : List Name) (s : List ℕ) (few : length ns < 65536) (by : Bytes s
       (λ i. f i || g i) ∙ sym (any-append (rightSides (x .equations)) (bodies xs))
 
   -- THE LINK: in the activation that was read there
-  pub any-misused-is : (at : ℕ) (x : Activation) (q first held rows : ℕ) → activationIn ns s at ≡ value x q → anyMisusedT ns s last (actAt ns s at first held rows) ≡ anyMisused (expressions x)
+  pub any-misused-is : (at : ℕ) (x : Activation) (q : ℕ) → activationIn ns s at ≡ value x q → anyMisusedT ns s last (actAt ns s at) ≡ anyMisused (expressions x)
   unfolding anyMisusedT anyBranchT expressions
-  any-misused-is at x q first held rows e =
+  any-misused-is at x q e =
       let r = activation-value ns s at x q e in
       let f = number-to s (r .to-branches) (length (x .branches)) (r .b) (anyT (misusedConditionT ns s last) (branchEnd ns s)) (r .count) ∙ conditions-misused (length (x .branches)) (r .b) (x .branches) (r .to-else) (r .branches) in
       let g = number-to s (r .to-branches) (length (x .branches)) (r .b) (anyT (misusedBodyT ns s last) (branchEnd ns s)) (r .count) ∙ bodies-misused (length (x .branches)) (r .b) (x .branches) (r .to-else) (r .branches) in
       let h = scope-misused (r .to-else) (x .otherwise) q (r .otherwise) in
-      ap (anyMisusedT ns s last) (act-to ns s at x q r first held rows .3)
+      ap (anyMisusedT ns s last) (act-to ns s at x q r .3)
       ∙ (λ i. f i || (g i || h i))
       ∙ ap (λ y. anyMisused (conditions (x .branches)) || y) (sym (any-append (bodies (x .branches)) (rightSides (x .otherwise))))
       ∙ sym (any-append (conditions (x .branches)) (bodies (x .branches) ++ rightSides (x .otherwise)))

@@ -3,7 +3,6 @@ use Prim.Native.Nat.{ℕ, zero, suc, _-_, _<_, _≤_}
 use native.Mathlib.Omega.{arith}
 use mathlib.Core.List.{List}
 use mathlib.Core.Path.{_≡_, refl, sym, ap, _∙_}
-use borrow.Author.Tests.{le-ltb, lt-ltb}
 use Rattle.wire.specs.Code.{onward}
 use Rattle.wire.specs.declared.answer.Skipped.{Skipped}
 use Rattle.wire.specs.declared.answer.Skipped.the-variants as sk
@@ -15,7 +14,7 @@ use Rattle.machines.specs.Stands.{endOf}
 use Rattle.machines.specs.Sure.{numberIn}
 use Rattle.machines.proofs.SureLaws.{end-is, on}
 use Rattle.activations.specs.declared.parts.Act.{Act}
-use Rattle.activations.specs.Places.{actAt, actEnd, actOf, along, bodyIn, branchEnd, branchesEnd, equationEnd, firstLeftIn, holdingT, rightSideIn}
+use Rattle.activations.specs.Places.{actAt, actEnd, actOf, along, bodyIn, branchEnd, branchesEnd, equationEnd, firstLeftIn, rightSideIn}
 
 pub left-is : (s : List ℕ) (at : ℕ) (c x : Num) → c ≡ numberIn s at → x ≡ numberIn s (c .next) → x .value ≡ firstLeftIn s at
 unfolding firstLeftIn
@@ -55,22 +54,14 @@ module _ (ns : List Name) (s : List ℕ) where
   unfolding branchesEnd
   branches-over at c r e f = on c _ _ r e f
 
-  pub act-is : (at first held rows : ℕ) (a o : Num) (b : ℕ) (n : Num) (d : ℕ) → a ≡ numberIn s at → o ≡ numberIn s (a .next) → b ≡ endOf (portsIn ns s (o .next)) → n ≡ numberIn s b → d ≡ branchesEnd ns s b
-      → _≡_ {A = Act} (record { name = a .value; outputs = o .next; branches = b; other = d; n = n .value; first = first; held = held; rows = rows }) (actAt ns s at first held rows)
+  pub act-is : (at : ℕ) (a o : Num) (b : ℕ) (n : Num) (d : ℕ) → a ≡ numberIn s at → o ≡ numberIn s (a .next) → b ≡ endOf (portsIn ns s (o .next)) → n ≡ numberIn s b → d ≡ branchesEnd ns s b
+      → _≡_ {A = Act} (record { name = a .value; outputs = o .next; branches = b; other = d; n = n .value }) (actAt ns s at)
   unfolding actAt actOf
-  act-is at first held rows a o b n d e f g h i =
+  act-is at a o b n d e f g h i =
       on a _ _ _ e (on o _ _ _ f
-      ((λ j. record { name = a .value; outputs = o .next; branches = b; other = i j; n = h j .value; first = first; held = held; rows = rows })
-      ∙ ap (λ y. actOf ns s (a .value) (o .next) y first held rows) g))
+      ((λ j. record { name = a .value; outputs = o .next; branches = b; other = i j; n = h j .value })
+      ∙ ap (λ y. actOf ns s (a .value) (o .next) y) g))
 
-  pub act-over : (at : ℕ) (a : Act) (r : ℕ) → a ≡ actAt ns s at 0 0 0 → r ≡ endOf (equationsIn ns s (a .other)) → r ≡ actEnd ns s at
+  pub act-over : (at : ℕ) (a : Act) (r : ℕ) → a ≡ actAt ns s at → r ≡ endOf (equationsIn ns s (a .other)) → r ≡ actEnd ns s at
   unfolding actEnd
   act-over at a r e f = f ∙ ap (λ (y : Act). endOf (equationsIn ns s (y .other))) e
-
-pub holding-some : (a : Act) (end : ℕ) → a .first < end → _≡_ {A = Act} (record { name = a .name; outputs = a .outputs; branches = a .branches; other = a .other; n = a .n; first = a .first; held = end - a .first; rows = a .rows }) (holdingT a end)
-unfolding holdingT
-holding-some a end h = rw (lt-ltb (a .first) end h)
-
-pub holding-none : (a : Act) (end : ℕ) → end ≤ a .first → _≡_ {A = Act} (record { name = a .name; outputs = a .outputs; branches = a .branches; other = a .other; n = a .n; first = a .first; held = 0; rows = a .rows }) (holdingT a end)
-unfolding holdingT
-holding-none a end h = rw (le-ltb (a .first) end h)

@@ -31,3 +31,5 @@ pub mod Cells
 pub mod Lookups
 pub mod ByNumber
 pub mod UnlastAt
+pub mod Ids
+pub mod TypeCodes

@@ -1,8 +1,7 @@
 -- Where the parts of activations stand, as the code finds them: 0 where reading would stop.
-use Prim.Native.Nat.{ℕ, zero, suc, _-_}
+use Prim.Native.Nat.{ℕ, zero, suc}
 use mathlib.Core.List.{List}
-use mathlib.Core.Bool.{Bool, false, cond, _||_}
-use lib.Dec.{ltb}
+use mathlib.Core.Bool.{Bool, false, _||_}
 use Rattle.pack.specs.Names.{Name}
 use Rattle.pack.specs.Read.{equationsIn, exprIn, namesIn, portsIn}
 use Rattle.machines.specs.Stands.{endOf}
@@ -22,19 +21,6 @@ anyT f next (suc n) p = f p || anyT f next n (next p)
 -- the first left name of an equation, 0 where there is none
 unfoldable pub firstLeftIn : List ℕ → ℕ → ℕ
 firstLeftIn s at = with (numberIn s at) λ c p. with (numberIn s p) λ x q. x
-
--- the same activation with its holders up to `end`
-unfoldable pub holdingT : Act → ℕ → Act
-holdingT a end = record {
-  name = a .name;
-  outputs = a .outputs;
-  branches = a .branches;
-  other = a .other;
-  n = a .n;
-  first = a .first;
-  held = cond (ltb (a .first) end) (end - a .first) 0;
-  rows = a .rows;
-}
 
 module _ (ns : List Name) (s : List ℕ) where
   -- from an equation to its right side, and past it
@@ -56,21 +42,18 @@ module _ (ns : List Name) (s : List ℕ) where
   branchesEnd at = with (numberIn s at) λ n p. along branchEnd n p
 
   -- an activation whose branches stand at b
-  unfoldable pub actOf : ℕ → ℕ → ℕ → ℕ → ℕ → ℕ → Act
-  actOf name outputs b first held rows = record {
+  unfoldable pub actOf : ℕ → ℕ → ℕ → Act
+  actOf name outputs b = record {
     name = name;
     outputs = outputs;
     branches = b;
     other = branchesEnd b;
     n = numberIn s b .value;
-    first = first;
-    held = held;
-    rows = rows;
   }
 
   -- the activation at an offset
-  unfoldable pub actAt : ℕ → ℕ → ℕ → ℕ → Act
-  actAt at first held rows = with (numberIn s at) λ a p. with (numberIn s p) λ o q. actOf a q (endOf (portsIn ns s q)) first held rows
+  unfoldable pub actAt : ℕ → Act
+  actAt at = with (numberIn s at) λ a p. with (numberIn s p) λ o q. actOf a q (endOf (portsIn ns s q))
 
   unfoldable pub actEnd : ℕ → ℕ
-  actEnd at = endOf (equationsIn ns s (actAt at 0 0 0 .other))
+  actEnd at = endOf (equationsIn ns s (actAt at .other))

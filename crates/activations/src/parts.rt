@@ -16,19 +16,15 @@ ghost use Rattle.pack.specs.Names.{Name};
 ghost use Rattle.pack.specs.Read.{typeIn};
 ghost use Rattle.machines.specs.Stands.{endOf};
 ghost use Rattle.machines.specs.Sure.{numberIn};
-ghost use Rattle.activations.specs.Places.{firstLeftIn, rightSideIn, bodyIn, branchEnd, branchesEnd, actAt, actEnd, holdingT};
+ghost use Rattle.activations.specs.Places.{firstLeftIn, rightSideIn, bodyIn, branchEnd, branchesEnd, actAt, actEnd};
 
-// An activation: its name's index; where its outputs, its branches and its else scope stand; how many branches it has; its first
-// holder and how many it has; where its scopes are laid out.
+// An activation: its name's index; where its outputs, its branches and its else scope stand; how many branches it has.
 pub struct Act {
     pub name: usize,
     pub outputs: usize,
     pub branches: usize,
     pub other: usize,
     pub n: usize,
-    pub first: usize,
-    pub held: usize,
-    pub rows: usize,
 }
 
 pub fn after_type(s: &[u8], names: usize, at: usize) -> usize
@@ -86,10 +82,10 @@ pub fn after_branches(s: &[u8], names: usize, at: usize) -> usize
     p
 }
 
-// The activation at an offset, with `held` holders from `first` on and its scopes laid out from `rows` on.
-pub fn act_at(s: &[u8], names: usize, at: usize, first: usize, held: usize, rows: usize) -> Act
+// The activation at an offset.
+pub fn act_at(s: &[u8], names: usize, at: usize) -> Act
     requires { ⌜ length (now s) ≤ 65536 ⌝ }
-    ensures { λ r. ⌜ ((ns : List Name) → length ns ≡ names → r ≡ actAt ns (now (s .entry)) at first held rows) ⌝ }
+    ensures { λ r. ⌜ ((ns : List Name) → length ns ≡ names → r ≡ actAt ns (now (s .entry)) at) ⌝ }
 {
     let a = number(s, at);
     let o = number(s, a.next);
@@ -102,9 +98,6 @@ pub fn act_at(s: &[u8], names: usize, at: usize, first: usize, held: usize, rows
         branches: b,
         other,
         n: n.value,
-        first,
-        held,
-        rows,
     }
 }
 
@@ -113,24 +106,8 @@ pub fn after_act(s: &[u8], names: usize, at: usize) -> usize
     requires { ⌜ length (now s) ≤ 65536 ⌝ }
     ensures { λ r. ⌜ ((ns : List Name) → length ns ≡ names → r ≡ actEnd ns (now (s .entry)) at) ⌝ }
 {
-    let a = act_at(s, names, at, 0, 0, 0);
+    let a = act_at(s, names, at);
     after_equations(s, names, a.other)
-}
-
-// The same activation with its holders up to `end`.
-pub fn holding(a: Act, end: usize) -> Act
-    ensures { λ r. ⌜ r ≡ holdingT a end ⌝ }
-{
-    Act {
-        name: a.name,
-        outputs: a.outputs,
-        branches: a.branches,
-        other: a.other,
-        n: a.n,
-        first: a.first,
-        held: if a.first < end { end - a.first } else { 0 },
-        rows: a.rows,
-    }
 }
 
 // How many branches there are, and where the first stands.

@@ -19,7 +19,7 @@ after-branches-requires : tie.Need-after-branches-requires
 after-branches-requires c κs = search needs
 
 returns : tie.Need-returns
-returns c = λ ns e. act-is ns _ _ _ _ _ _ _ _ _ _ (c .before .before .before .before .number .ensures) (c .before .before .before .number2 .ensures) (c .before .before .after-ports .ensures ns e) (c .before .number3 .ensures) (c .after-branches .ensures ns e)
+returns c = λ ns e. act-is ns _ _ _ _ _ _ _ (c .before .before .before .before .number .ensures) (c .before .before .before .number2 .ensures) (c .before .before .after-ports .ensures ns e) (c .before .number3 .ensures) (c .after-branches .ensures ns e)
 
 pub act-at-spec : {M : Type 1} → statement M
 act-at-spec =
