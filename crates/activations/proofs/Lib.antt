@@ -24,3 +24,6 @@ pub mod Examples
 pub mod UnlastLaws
 pub mod UnlastWritten
 pub mod Joined
+pub mod PassLaws
+pub mod FlagLaws
+pub mod FlagsWritten

@@ -63,7 +63,7 @@ module _ (old s spots : List ℕ) (a : Name) where
         ap (walkT ns s last (metStep old s spots a) f (openT (metAt ns s last p) (suc n)) (onwardT (metAt ns s last p))) (render-full old (metItems s spots a (metAt ns s last p) p))
         ∙ full-stays f (openT (metAt ns s last p) (suc n)) (onwardT (metAt ns s last p))
 
-    full-walked : (n p : ℕ) → walked ns s last (metStep old s spots a) n p full ≡ full
+    pub full-walked : (n p : ℕ) → walked ns s last (metStep old s spots a) n p full ≡ full
     unfolding walked
     full-walked n p = full-stays (suc (length s)) n p
 

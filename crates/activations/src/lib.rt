@@ -7,6 +7,7 @@ pub mod met; // the nodes of an expression, one by one
 pub mod parts; // where the parts of activations stand
 pub mod misused; // calls of `last` with other arguments
 pub mod terms; // variables of branches and clocks, written
+pub mod flags; // the flags of branches
 pub mod guards; // guards, and the locals of flags and guards
 pub mod merges; // outputs, merged from the scopes
 pub mod unlast; // expressions with calls of `last` replaced
