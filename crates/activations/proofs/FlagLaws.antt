@@ -20,7 +20,8 @@ use Rattle.activations.specs.declared.made.Var.the-variants as vr
 use Rattle.activations.specs.Vars.{branchVar}
 use Rattle.activations.specs.UnlastAt.{unlastT}
 use Rattle.activations.specs.Places.{branchEnd}
-use Rattle.activations.specs.FlagsAt.{branchFlagsT, flagItems, flagT, flagsT, passT, priorItems, untakenItems, untakenT}
+use Rattle.activations.specs.Passes.{passT}
+use Rattle.activations.specs.FlagsAt.{branchFlagsT, flagItems, flagT, flagsT, priorItems, untakenItems, untakenT}
 use Rattle.activations.proofs.UnlastLaws.{full-walked}
 
 module _ (old : List ℕ) (a : Name) where

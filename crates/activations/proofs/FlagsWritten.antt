@@ -29,7 +29,8 @@ use Rattle.activations.specs.Flags.{andAlso, flagEquations}
 use Rattle.activations.specs.Places.{actAt, branchEnd}
 use Rattle.activations.specs.Walks.{LastIs}
 use Rattle.activations.specs.UnlastAt.{unlastT}
-use Rattle.activations.specs.FlagsAt.{branchFlagsT, flagItems, flagT, flagsT, passT, priorItems, priorOf, untakenItems, untakenT}
+use Rattle.activations.specs.Passes.{passT}
+use Rattle.activations.specs.FlagsAt.{branchFlagsT, flagItems, flagT, flagsT, priorItems, priorOf, untakenItems, untakenT}
 use Rattle.activations.specs.declared.parts.Act.{Act}
 use Rattle.activations.proofs.ActRead.{BranchRead, act-to, activation-value, branch-end-to, branch-number-to, branch-value}
 use Rattle.activations.proofs.UnlastWritten.{unlast-written}

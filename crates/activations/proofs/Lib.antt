@@ -27,3 +27,4 @@ pub mod Joined
 pub mod PassLaws
 pub mod FlagLaws
 pub mod FlagsWritten
+pub mod CheckLaws

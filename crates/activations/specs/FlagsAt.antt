@@ -12,12 +12,8 @@ use Rattle.pack.specs.Intern.{render}
 use Rattle.machines.specs.Sure.{numberIn, with}
 use Rattle.activations.specs.MadeNames.{flagVar, noneVar}
 use Rattle.activations.specs.Places.{branchEnd}
+use Rattle.activations.specs.Passes.{passT}
 use Rattle.activations.specs.UnlastAt.{unlastT}
-
--- what is written of n things from p on, each by how many are left with it, its index and where it stands
-unfoldable pub passT : (ℕ → ℕ → ℕ → State → State) → (ℕ → ℕ) → ℕ → ℕ → ℕ → State → State
-passT f next zero k p z = z
-passT f next (suc n) k p z = passT f next n (suc k) (next p) (f (suc n) k p z)
 
 -- that no branch before k is taken; nothing is before the first
 unfoldable pub priorOf : Name → ℕ → Option Expr

@@ -34,4 +34,6 @@ pub mod UnlastAt
 pub mod Ids
 pub mod TypeCodes
 pub mod Joining
+pub mod Passes
 pub mod FlagsAt
+pub mod ChecksAt

@@ -5,7 +5,9 @@ pub mod cells; // tables of 16-bit words
 pub mod base; // what is known of a pack as a whole
 pub mod met; // the nodes of an expression, one by one
 pub mod parts; // where the parts of activations stand
+pub mod refused; // refusals in numbers
 pub mod misused; // calls of `last` with other arguments
+pub mod checks; // what is refused before `last` is sought
 pub mod terms; // variables of branches and clocks, written
 pub mod flags; // the flags of branches
 pub mod guards; // guards, and the locals of flags and guards

@@ -8,7 +8,8 @@ use Rattle.wire.specs.Writer.{stateOf}
 use Rattle.pack.specs.Names.{Name}
 use Rattle.machines.proofs.RowLaws.{left-less}
 use Rattle.activations.specs.Places.{branchEnd}
-use Rattle.activations.specs.FlagsAt.{branchFlagsT, passT}
+use Rattle.activations.specs.Passes.{passT}
+use Rattle.activations.specs.FlagsAt.{branchFlagsT}
 use Rattle.activations.proofs.PassLaws.{number-small, pass-done, pass-more}
 use Rattle.activations.proofs.FlagLaws.{branch-full, flags-over}
 use Rattle.activations.proofs.flags.put_flags.Statement.{statement}
