@@ -28,3 +28,4 @@ pub mod PassLaws
 pub mod FlagLaws
 pub mod FlagsWritten
 pub mod CheckLaws
+pub mod ChecksFound
