@@ -29,3 +29,4 @@ pub mod FlagLaws
 pub mod FlagsWritten
 pub mod CheckLaws
 pub mod ChecksFound
+pub mod IdLaws
