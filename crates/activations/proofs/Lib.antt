@@ -30,3 +30,4 @@ pub mod FlagsWritten
 pub mod CheckLaws
 pub mod ChecksFound
 pub mod IdLaws
+pub mod TypeLaws

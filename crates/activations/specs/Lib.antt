@@ -37,3 +37,4 @@ pub mod Joining
 pub mod Passes
 pub mod FlagsAt
 pub mod ChecksAt
+pub mod TypesAt
