@@ -31,3 +31,4 @@ pub mod CheckLaws
 pub mod ChecksFound
 pub mod IdLaws
 pub mod TypeLaws
+pub mod TypesKnown
