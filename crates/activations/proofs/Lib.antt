@@ -32,3 +32,4 @@ pub mod ChecksFound
 pub mod IdLaws
 pub mod TypeLaws
 pub mod TypesKnown
+pub mod Starts
