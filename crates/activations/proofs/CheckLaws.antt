@@ -16,9 +16,9 @@ use Rattle.machines.proofs.SureLaws.{on}
 use Rattle.activations.specs.declared.parts.Act.{Act}
 use Rattle.activations.specs.declared.refused.Refused.{Refused}
 use Rattle.activations.specs.Cells.{clearT, putT}
-use Rattle.activations.specs.Places.{along, anyT, bodyIn, branchEnd}
+use Rattle.activations.specs.Places.{along, anyT, bodyIn, branchEnd, eachOf}
 use Rattle.activations.specs.MisusedAt.{anyBranchT, anyMisusedT}
-use Rattle.activations.specs.Passes.{passT, throughT}
+use Rattle.activations.specs.Passes.{passT}
 use Rattle.activations.specs.ChecksAt.{assignBranchesT, assignScopeT, assignT, assignedT, checksT, inScopesT, leftlessScopeT, leftlessT, namelessT, orElseT, overEquation, refusedT, repeatedIn, repeatedT, scopeNameT, unassignedT}
 
 -- a single left name that all scopes before assign, and any other equation
@@ -56,7 +56,7 @@ module _ (ns : List Name) (s : List ℕ) where
   repeated-over at names c t u r d e f g = on c _ _ _ e (g ∙ ap (repeatedT ns s (c .value) (c .next)) (f ∙ ap (λ y. clearT y t) (sym d)))
 
   -- scopes
-  pub scope-over : (k at : ℕ) (c : Num) (t u : List ℕ) → c ≡ numberIn s at → u ≡ throughT (assignT s k) (overEquation ns s) (c .value) (c .next) t → u ≡ assignScopeT ns s k at t
+  pub scope-over : (k at : ℕ) (c : Num) (t u : List ℕ) → c ≡ numberIn s at → u ≡ eachOf (assignT s k) (overEquation ns s) (c .value) (c .next) t → u ≡ assignScopeT ns s k at t
   unfolding assignScopeT
   scope-over k at c t u e f = on c _ _ _ e f
 

@@ -10,24 +10,30 @@ use lib.ListN.{length, getD, length-set}
 use lib.Seq.{getD-set-other, getD-set-same}
 use lib.Dec.{eqb, ltb}
 use borrow.Author.Tests.{eq-eqb, eqb-true, le-ltb, lt-ltb, ltb-false, ltb-true, ne-eqb}
-use Rattle.wire.specs.Answer.{many, value}
+use Rattle.wire.specs.Answer.{counted, many, u16, value}
+use Rattle.wire.proofs.Answers.{bind-value}
 use Rattle.pack.specs.Names.{Name, eqName, member}
 use Rattle.pack.specs.Syntax.{Activation, Branch, Equation, Port}
 use Rattle.pack.specs.Forms.{nameAt}
 use Rattle.pack.specs.Legal.{Fresh}
-use Rattle.pack.specs.Read.{branchIn, equationIn, equationsIn, nameIn}
+use Rattle.pack.specs.Report.{Refusal, firstOf}
+use Rattle.pack.specs.Read.{branchIn, equationIn, equationsIn, nameIn, namesIn}
 use Rattle.machines.specs.Checks.{repeated}
 use Rattle.machines.specs.Lower.{isOnly, isSome, ownValue}
+use Rattle.machines.specs.declared.sure.Num.{Num}
 use Rattle.machines.specs.Sure.{numberIn, with}
+use Rattle.machines.proofs.Covered.{lhs-link}
 use Rattle.machines.proofs.NamesPlaced.{alone}
+use Rattle.machines.proofs.TablesFilled.{fill-at, fill-length}
 use Rattle.machines.proofs.Reading.{many-cut, many-more, many-over}
 use Rattle.machines.proofs.SureLaws.{end-to, number-to, then-to}
 use Rattle.activations.specs.Cells.{clearT, putT}
-use Rattle.activations.specs.Places.{bodyIn, branchEnd}
-use Rattle.activations.specs.Passes.{passT, throughT}
-use Rattle.activations.specs.Checks.{branchNames}
+use Rattle.activations.specs.Places.{along, bodyIn, branchEnd, eachOf}
+use Rattle.activations.specs.Passes.{passT}
+use Rattle.activations.specs.Refusals.{outputUnassigned}
+use Rattle.activations.specs.Checks.{branchNames, inBranches, unlessAssigned}
 use Rattle.activations.specs.ChecksAt.{assignBranchesT, assignScopeT, assignT, overEquation, repeatedIn, repeatedT}
-use Rattle.activations.proofs.ActRead.{branch-end-to, branch-number-to, branch-value, body-to, counted-value}
+use Rattle.activations.proofs.ActRead.{branch-end-to, branch-number-to, branch-value, body-to, counted-value, equation-value}
 
 -- a word that was put, and the others
 pub put-same : (t : List ℕ) (i v : ℕ) → i < length t → v < 65536 → getD (putT t i v) i 0 ≡ v
@@ -87,3 +93,177 @@ module _ (ns : List Name) (fresh : Fresh [] ns) (s : List ℕ) where
           → RepeatedAs (cond (eqb (getD t j 0) 0) (repeatedT ns s n (branchEnd ns s at) (putT t j 1)) j) (elim d [ true ↦ some (b .name) | false ↦ repeated (b .name ∷ seen) (branchNames bs) ])
       go j h k true f ih = rw f (h, k)
       go j h k false f ih = rw f ih
+
+  pub repeated-is : (at : ℕ) (bs : List Branch) (k q : ℕ) (t : List ℕ) → u16 s at ≡ value (length bs) k → many (branchIn ns s) (length bs) k ≡ value bs q → length ns ≤ length t → RepeatedAs (repeatedIn ns s at t) (repeated [] (branchNames bs))
+  unfolding repeatedIn MarksAre member clearT
+  repeated-is at bs k q t c e l =
+      subst (λ (y : ℕ). RepeatedAs y (repeated [] (branchNames bs))) (sym (number-to s at (length bs) k _ c))
+      (repeated-found (length bs) k bs q [] (clearT (length ns) t) e (omega (arith, l, fill-length (λ j. 0) (length ns) 0 t))
+      (λ i h. ap (λ y. eqb y 0) (fill-at (λ j. 0) (length ns) 0 t i (omega arith) (omega arith) (omega (arith, l)))))
+
+  -- a name that all scopes before assign is assigned in one more
+  unfoldable pub taken : List ℕ → ℕ → ℕ → Bool → ℕ
+  taken t k x b = cond (b && eqb (getD t x 0) k) (suc k) (getD t x 0)
+
+  module _ (k : ℕ) (small : k < 65535) where
+    over-to : (p : ℕ) (e : Equation) (q : ℕ) → equationIn ns s p ≡ value e q → overEquation ns s p ≡ q
+    unfolding overEquation
+    over-to p e q d = end-to (equationIn ns s p) e q d
+
+    assign-at : (p : ℕ) (e : Equation) (q : ℕ) (t : List ℕ) (x : ℕ) → equationIn ns s p ≡ value e q → x < length ns → length ns ≤ length t → getD (assignT s k p t) x 0 ≡ taken t k x (isOnly (nameAt ns x) (e .lhs))
+    unfolding assignT namesIn counted taken with
+    assign-at p e q t x d h l =
+        let r = equation-value ns s p e q d in
+        let b = bind-value (u16 s p) _ (e .lhs) (r .to-rhs) (r .lhs) in
+        ap (λ (y : List ℕ). getD y x 0) (number-to s p (b .0) (b .1) (λ n j. with (numberIn s j) λ y m. cond (eqb n 1 && eqb (getD t y 0) k) (putT t y (suc k)) t) (b .2))
+        ∙ go (numberIn s (b .1) .value) (b .0) (lhs-link ns s fresh x h (b .0) (b .1) (e .lhs) (r .to-rhs) (b .3))
+      where
+        set-at : (y : ℕ) → getD (putT t y (suc k)) x 0 ≡ cond (eqb y x) (suc k) (getD t x 0)
+        set-at y = at-index (eqb y x) refl
+          where
+            at-index : (b : Bool) → eqb y x ≡ b → getD (putT t y (suc k)) x 0 ≡ cond b (suc k) (getD t x 0)
+            at-index true f = ap (λ z. getD (putT t z (suc k)) x 0) (eqb-true y x f) ∙ put-same t x (suc k) (omega arith) (omega arith)
+            at-index false f = put-other t y x (suc k) (λ g. let z : _≡_ {A = ℕ} 0 1 = ap (λ u. cond u 0 1) (sym (eq-eqb y x (sym g)) ∙ f) in omega arith)
+
+        go : (y n : ℕ) → eqb n 1 && eqb y x ≡ isOnly (nameAt ns x) (e .lhs)
+            → getD (cond (eqb n 1 && eqb (getD t y 0) k) (putT t y (suc k)) t) x 0 ≡ cond (isOnly (nameAt ns x) (e .lhs) && eqb (getD t x 0) k) (suc k) (getD t x 0)
+        go y n f = subst (λ (z : Bool). getD (cond (eqb n 1 && eqb (getD t y 0) k) (putT t y (suc k)) t) x 0 ≡ cond (z && eqb (getD t x 0) k) (suc k) (getD t x 0)) f (by-count (eqb n 1))
+          where
+            by-count : (b : Bool) → getD (cond (b && eqb (getD t y 0) k) (putT t y (suc k)) t) x 0 ≡ cond ((b && eqb y x) && eqb (getD t x 0) k) (suc k) (getD t x 0)
+            by-count false = refl
+            by-count true = by-index (eqb y x) refl
+              where
+                by-index : (b : Bool) → eqb y x ≡ b → getD (cond (eqb (getD t y 0) k) (putT t y (suc k)) t) x 0 ≡ cond (b && eqb (getD t x 0) k) (suc k) (getD t x 0)
+                by-index true g = ap (λ z. getD (cond (eqb (getD t z 0) k) (putT t z (suc k)) t) x 0) (eqb-true y x g) ∙ here (eqb (getD t x 0) k)
+                  where
+                    here : (b : Bool) → getD (cond b (putT t x (suc k)) t) x 0 ≡ cond b (suc k) (getD t x 0)
+                    here true = put-same t x (suc k) (omega arith) (omega arith)
+                    here false = refl
+                by-index false g = there (eqb (getD t y 0) k)
+                  where
+                    there : (b : Bool) → getD (cond b (putT t y (suc k)) t) x 0 ≡ getD t x 0
+                    there true = set-at y ∙ ap (λ z. cond z (suc k) (getD t x 0)) g
+                    there false = refl
+
+    assign-length : (p : ℕ) (t : List ℕ) → length (assignT s k p t) ≡ length t
+    unfolding assignT with
+    assign-length p t = go (eqb (numberIn s p .value) 1 && eqb (getD t (numberIn s (numberIn s p .next) .value) 0) k)
+      where
+        go : (b : Bool) → length (cond b (putT t (numberIn s (numberIn s p .next) .value) (suc k)) t) ≡ length t
+        go true = put-length t (numberIn s (numberIn s p .next) .value) (suc k)
+        go false = refl
+
+    -- one equation, and then the others
+    taken-twice : (e : Equation) (es : List Equation) (o : Name) (v : ℕ) (b : Bool) → isOnly o (e .lhs) ≡ b
+        → cond (isSome (ownValue o es) && eqb (cond (b && eqb v k) (suc k) v) k) (suc k) (cond (b && eqb v k) (suc k) v) ≡ cond (isSome (ownValue o (e ∷ es)) && eqb v k) (suc k) v
+    unfolding ownValue isSome
+    taken-twice e es o v true f = rw f (go (eqb v k) refl (isSome (ownValue o es)))
+      where
+        go : (c : Bool) → eqb v k ≡ c → (d : Bool) → cond (d && eqb (cond c (suc k) v) k) (suc k) (cond c (suc k) v) ≡ cond c (suc k) v
+        go true g true = either (eqb (suc k) k)
+          where
+            either : (x : Bool) → cond x (suc k) (suc k) ≡ suc k
+            either true = refl
+            either false = refl
+        go true g false = refl
+        go false g true = rw g
+        go false g false = refl
+    taken-twice e es o v false f = rw f
+
+    equations-at : (n p : ℕ) (es : List Equation) (q : ℕ) (t : List ℕ) (x : ℕ) → many (equationIn ns s) n p ≡ value es q → x < length ns → length ns ≤ length t
+        → (getD (eachOf (assignT s k) (overEquation ns s) n p t) x 0 ≡ taken t k x (isSome (ownValue (nameAt ns x) es))) × (length (eachOf (assignT s k) (overEquation ns s) n p t) ≡ length t)
+    unfolding eachOf taken ownValue isSome
+    equations-at zero p [] q t x e h l = (refl, refl)
+    equations-at zero p (y ∷ es) q t x e h l = absurd (many-cut (equationIn ns s) p y es q e)
+    equations-at (suc n) p [] q t x e h l = absurd (many-over (equationIn ns s) n p q e)
+    equations-at (suc n) p (y ∷ es) q t x e h l =
+        let a = many-more (equationIn ns s) n p y es q e in
+        let u = equations-at n (a .0) es q (assignT s k p t) x (a .2) h (omega (arith, l, assign-length p t)) in
+        let to : overEquation ns s p ≡ a .0 = over-to p y (a .0) (a .1) in
+        (ap (λ z. getD (eachOf (assignT s k) (overEquation ns s) n z (assignT s k p t)) x 0) to
+          ∙ u .0
+          ∙ ap (λ z. cond (isSome (ownValue (nameAt ns x) es) && eqb z k) (suc k) z) (assign-at p y (a .0) t x (a .1) h l)
+          ∙ taken-twice y es (nameAt ns x) (getD t x 0) (isOnly (nameAt ns x) (y .lhs)) refl,
+        ap (λ z. length (eachOf (assignT s k) (overEquation ns s) n z (assignT s k p t))) to ∙ u .1 ∙ assign-length p t)
+
+    -- a scope that was read
+    scope-at : (at : ℕ) (es : List Equation) (q : ℕ) (t : List ℕ) (x : ℕ) → equationsIn ns s at ≡ value es q → x < length ns → length ns ≤ length t
+        → (getD (assignScopeT ns s k at t) x 0 ≡ taken t k x (isSome (ownValue (nameAt ns x) es))) × (length (assignScopeT ns s k at t) ≡ length t)
+    unfolding assignScopeT equationsIn
+    scope-at at es q t x e h l =
+        let c = counted-value (equationIn ns s) s at es q e in
+        let m = number-to s at (length es) (c .0) (λ n p. eachOf (assignT s k) (overEquation ns s) n p t) (c .1) in
+        let u = equations-at (length es) (c .0) es q t x (c .2) h l in
+        (ap (λ (y : List ℕ). getD y x 0) m ∙ u .0, ap (λ (y : List ℕ). length y) m ∙ u .1)
+
+  -- how far scopes assign o, from the scope k on, where v is how far it got
+  unfoldable pub reached : Name → ℕ → ℕ → List Branch → ℕ
+  reached o k v [] = v
+  reached o k v (b ∷ bs) = reached o (suc k) (cond (isSome (ownValue o (b .equations)) && eqb v k) (suc k) v) bs
+
+  branches-at : (n k p : ℕ) (bs : List Branch) (q : ℕ) (t : List ℕ) (x : ℕ) → many (branchIn ns s) n p ≡ value bs q → k + n < 65535 → x < length ns → length ns ≤ length t
+      → (getD (passT (λ m j r z. assignScopeT ns s j (bodyIn ns s r) z) (branchEnd ns s) n k p t) x 0 ≡ reached (nameAt ns x) k (getD t x 0) bs)
+      × (length (passT (λ m j r z. assignScopeT ns s j (bodyIn ns s r) z) (branchEnd ns s) n k p t) ≡ length t)
+  unfolding passT reached taken
+  branches-at zero k p [] q t x e f h l = (refl, refl)
+  branches-at zero k p (b ∷ bs) q t x e f h l = absurd (many-cut (branchIn ns s) p b bs q e)
+  branches-at (suc n) k p [] q t x e f h l = absurd (many-over (branchIn ns s) n p q e)
+  branches-at (suc n) k p (b ∷ bs) q t x e f h l =
+      let a = many-more (branchIn ns s) n p b bs q e in
+      let r = branch-value ns s p b (a .0) (a .1) in
+      let g : List ℕ → ℕ → List ℕ = λ z y. passT (λ m j r z. assignScopeT ns s j (bodyIn ns s r) z) (branchEnd ns s) n (suc k) y z in
+      let u = scope-at k (omega arith) (r .to-equations) (b .equations) (a .0) t x (r .equations) h l in
+      let m : g (assignScopeT ns s k (bodyIn ns s p) t) (branchEnd ns s p) ≡ g (assignScopeT ns s k (r .to-equations) t) (a .0) = λ i. g (assignScopeT ns s k (body-to ns s p b (a .0) r i) t) (branch-end-to ns s p b (a .0) r i) in
+      let w = branches-at n (suc k) (a .0) bs q (assignScopeT ns s k (r .to-equations) t) x (a .2) (omega arith) h (omega (arith, l, u .1)) in
+      (ap (λ (y : List ℕ). getD y x 0) m ∙ w .0 ∙ ap (λ y. reached (nameAt ns x) (suc k) y bs) (u .0), ap (λ (y : List ℕ). length y) m ∙ w .1 ∙ u .1)
+
+  -- names of branches by their number
+  unfoldable pub nameFrom : List Branch → ℕ → Name
+  nameFrom [] j = []
+  nameFrom (b ∷ bs) zero = b .name
+  nameFrom (b ∷ bs) (suc j) = nameFrom bs j
+
+  named-at : (n p : ℕ) (bs : List Branch) (q j : ℕ) → many (branchIn ns s) n p ≡ value bs q → j < length bs
+      → (i : ℕ) × (i < length ns) × (nameAt ns i ≡ nameFrom bs j) × (numberIn s (along (branchEnd ns s) j p) .value ≡ i)
+  unfolding along nameFrom
+  named-at zero p [] q j e h = absurd (omega arith)
+  named-at zero p (b ∷ bs) q j e h = absurd (many-cut (branchIn ns s) p b bs q e)
+  named-at (suc n) p [] q j e h = absurd (omega arith)
+  named-at (suc n) p (b ∷ bs) q zero e h =
+      let a = many-more (branchIn ns s) n p b bs q e in
+      let i = branch-number-to ns s p b (a .0) (branch-value ns s p b (a .0) (a .1)) in
+      (i .0, i .1, i .2, ap (λ (y : Num). y .value) (i .3))
+  named-at (suc n) p (b ∷ bs) q (suc j) e h =
+      let a = many-more (branchIn ns s) n p b bs q e in
+      let u = named-at n (a .0) bs q j (a .2) (omega arith) in
+      (u .0, u .1, u .2, ap (λ y. numberIn s (along (branchEnd ns s) j y) .value) (branch-end-to ns s p b (a .0) (branch-value ns s p b (a .0) (a .1))) ∙ u .3)
+
+  -- what got not so far stays
+  reached-stays : (o : Name) (k v : ℕ) (bs : List Branch) → v < k → reached o k v bs ≡ v
+  unfolding reached
+  reached-stays o k v [] h = refl
+  reached-stays o k v (b ∷ bs) h =
+      ap (λ y. reached o (suc k) y bs) (rw (ne-eqb v k (λ e. omega arith)) (go (isSome (ownValue o (b .equations))))) ∙ reached-stays o (suc k) v bs (omega arith)
+    where
+      go : (b : Bool) → cond (b && false) (suc k) v ≡ v
+      go true = refl
+      go false = refl
+
+  -- the refusal of an output by how far it gets: past all branches, or up to one
+  unfoldable pub Unassigned : Name → Name → List Branch → ℕ → Option Refusal → Type 0
+  Unassigned a o bs v none = v ≡ length bs
+  Unassigned a o bs v (some r) = (v < length bs) × (r ≡ outputUnassigned a o (nameFrom bs v))
+
+  in-branches : (a o : Name) (k : ℕ) (bs : List Branch) → (v : ℕ) × (reached o k k bs ≡ k + v) × Unassigned a o bs v (inBranches a o bs)
+  unfolding reached inBranches Unassigned unlessAssigned firstOf nameFrom
+  in-branches a o k [] = (0, omega arith, refl)
+  in-branches a o k (b ∷ bs) = go (isSome (ownValue o (b .equations))) (in-branches a o (suc k) bs)
+    where
+      shifted : (v : ℕ) (x : Option Refusal) → Unassigned a o bs v x → Unassigned a o (b ∷ bs) (suc v) x
+      shifted v none u = ap suc u
+      shifted v (some r) u = (omega (arith, u .0), u .1)
+
+      go : (c : Bool) → (v : ℕ) × (reached o (suc k) (suc k) bs ≡ suc k + v) × Unassigned a o bs v (inBranches a o bs)
+          → (v : ℕ) × (reached o (suc k) (cond (c && eqb k k) (suc k) k) bs ≡ k + v) × Unassigned a o (b ∷ bs) v (firstOf (cond c none (some (outputUnassigned a o (b .name)))) (inBranches a o bs))
+      go true u = (suc (u .0), rw (eq-eqb k k refl) (u .1 ∙ omega arith), shifted (u .0) (inBranches a o bs) (u .2))
+      go false u = (0, reached-stays o (suc k) k bs (omega arith) ∙ omega arith, (omega arith, refl))

@@ -13,7 +13,7 @@ use Rattle.machines.specs.declared.sure.Num.{Num}
 use Rattle.machines.specs.Sure.{numberIn, sureOf}
 use Rattle.wire.specs.declared.writer.Writer.{Writer}
 use Rattle.wire.specs.Writer.{State, full, stateOf}
-use Rattle.activations.specs.Passes.{passT, throughT}
+use Rattle.activations.specs.Passes.{passT}
 
 module _ (f : ℕ → ℕ → ℕ → State → State) (next : ℕ → ℕ) (stays : (n k p : ℕ) → f n k p full ≡ full) where
   -- a full writer stays full
@@ -76,17 +76,3 @@ module _ {S : Type 0} (f : ℕ → ℕ → ℕ → S → S) (next : ℕ → ℕ)
   unfolding passT
   goes-end zero k p y z l h = h
   goes-end (suc n) k p y z l h = absurd (omega arith)
-
-module _ {S : Type 0} (f : ℕ → S → S) (next : ℕ → ℕ) where
-  through-step : (n p : ℕ) (z : S) → throughT f next (suc n) p z ≡ throughT f next n (next p) (f p z)
-  unfolding throughT
-  through-step n p z = refl
-
-  pub through-on : (n p q : ℕ) (x y z : S) → 0 < n → x ≡ f p y → q ≡ next p → throughT f next n p y ≡ z → throughT f next (n - 1) q x ≡ z
-  through-on zero p q x y z l e d h = absurd (omega arith)
-  through-on (suc n) p q x y z l e d h = let i : suc n - 1 ≡ n = omega arith in (λ u. throughT f next (i u) (d u) (e u)) ∙ sym (through-step n p y) ∙ h
-
-  pub through-end : (n p : ℕ) (y z : S) → n ≤ 0 → throughT f next n p y ≡ z → y ≡ z
-  unfolding throughT
-  through-end zero p y z l h = h
-  through-end (suc n) p y z l h = absurd (omega arith)

@@ -15,9 +15,9 @@ use Rattle.activations.specs.declared.parts.Act.{Act}
 use Rattle.activations.specs.declared.refused.Refused.{Refused}
 use Rattle.activations.specs.Checks.{elseName}
 use Rattle.activations.specs.Cells.{clearT, putT}
-use Rattle.activations.specs.Places.{along, anyT, bodyIn, branchEnd}
+use Rattle.activations.specs.Places.{along, anyT, bodyIn, branchEnd, eachOf}
 use Rattle.activations.specs.MisusedAt.{anyBranchT, anyMisusedT}
-use Rattle.activations.specs.Passes.{passT, throughT}
+use Rattle.activations.specs.Passes.{passT}
 
 -- past the equation at p
 unfoldable pub overEquation : List Name → List ℕ → ℕ → ℕ
@@ -50,7 +50,7 @@ module _ (ns : List Name) (s : List ℕ) where
 
   -- the scope k, whose count of equations stands at `at`
   unfoldable pub assignScopeT : ℕ → ℕ → List ℕ → List ℕ
-  assignScopeT k at t = with (numberIn s at) λ n p. throughT (assignT s k) (overEquation ns s) n p t
+  assignScopeT k at t = with (numberIn s at) λ n p. eachOf (assignT s k) (overEquation ns s) n p t
 
   -- for each name the first scope that does not assign it
   unfoldable pub assignBranchesT : ℕ → List ℕ → List ℕ

@@ -5,8 +5,3 @@ use Prim.Native.Nat.{ℕ, zero, suc}
 unfoldable pub passT : {S : Type 0} → (ℕ → ℕ → ℕ → S → S) → (ℕ → ℕ) → ℕ → ℕ → ℕ → S → S
 passT f next zero k p z = z
 passT f next (suc n) k p z = passT f next n (suc k) (next p) (f (suc n) k p z)
-
--- the same where a step asks only where it stands
-unfoldable pub throughT : {S : Type 0} → (ℕ → S → S) → (ℕ → ℕ) → ℕ → ℕ → S → S
-throughT f next zero p z = z
-throughT f next (suc n) p z = throughT f next n (next p) (f p z)
