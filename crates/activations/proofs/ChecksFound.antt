@@ -11,13 +11,14 @@ use lib.Seq.{getD-set-other, getD-set-same}
 use lib.Dec.{eqb, ltb}
 use borrow.Author.Tests.{eq-eqb, eqb-true, le-ltb, lt-ltb, ltb-false, ltb-true, ne-eqb}
 use Rattle.wire.specs.Answer.{counted, many, u16, value}
-use Rattle.wire.proofs.Answers.{bind-value}
+use Rattle.wire.specs.Lists.{Bytes}
+use Rattle.wire.proofs.Answers.{bind-value, map-value}
 use Rattle.pack.specs.Names.{Name, eqName, member}
 use Rattle.pack.specs.Syntax.{Activation, Branch, Equation, Port}
 use Rattle.pack.specs.Forms.{nameAt}
 use Rattle.pack.specs.Legal.{Fresh}
-use Rattle.pack.specs.Report.{Refusal, firstOf}
-use Rattle.pack.specs.Read.{branchIn, equationIn, equationsIn, nameIn, namesIn}
+use Rattle.pack.specs.Report.{Refusal, asRefusal, firstOf}
+use Rattle.pack.specs.Read.{activationIn, branchIn, equationIn, equationsIn, nameIn, namesIn, portIn, portsIn, typeIn}
 use Rattle.machines.specs.Checks.{repeated}
 use Rattle.machines.specs.Lower.{isOnly, isSome, ownValue}
 use Rattle.machines.specs.declared.sure.Num.{Num}
@@ -25,15 +26,31 @@ use Rattle.machines.specs.Sure.{numberIn, with}
 use Rattle.machines.proofs.Covered.{lhs-link}
 use Rattle.machines.proofs.NamesPlaced.{alone}
 use Rattle.machines.proofs.TablesFilled.{fill-at, fill-length}
-use Rattle.machines.proofs.Reading.{many-cut, many-more, many-over}
-use Rattle.machines.proofs.SureLaws.{end-to, number-to, then-to}
+use Rattle.machines.specs.Stands.{endOf}
+use Rattle.machines.proofs.Reading.{many-cut, many-more, many-over, name-number}
+use Rattle.machines.proofs.SureLaws.{end-to, number-num, number-to, then-to}
+use Rattle.activations.specs.declared.parts.Act.{Act}
+use Rattle.activations.specs.declared.refused.Refused.{Refused}
 use Rattle.activations.specs.Cells.{clearT, putT}
-use Rattle.activations.specs.Places.{along, bodyIn, branchEnd, eachOf}
+use Rattle.activations.specs.Places.{actAt, along, anyT, bodyIn, branchEnd, eachOf}
 use Rattle.activations.specs.Passes.{passT}
-use Rattle.activations.specs.Refusals.{outputUnassigned}
-use Rattle.activations.specs.Checks.{branchNames, inBranches, unlessAssigned}
-use Rattle.activations.specs.ChecksAt.{assignBranchesT, assignScopeT, assignT, overEquation, repeatedIn, repeatedT}
-use Rattle.activations.proofs.ActRead.{branch-end-to, branch-number-to, branch-value, body-to, counted-value, equation-value}
+use Rattle.activations.specs.Refusals.{duplicateBranch, lastArgs, noBranches, noOutputs, outputUnassigned}
+use Rattle.activations.specs.Checks.{branchNames, elseName, inBranches, branchless, checks, inScopes, misuse, outputless, unlessAssigned}
+use Rattle.activations.specs.Misused.{anyMisused}
+use Rattle.activations.specs.Sought.{expressions}
+use Rattle.activations.specs.EmptyLeft.{leftless, leftlessBranch, leftlessIn, nameless}
+use Rattle.activations.specs.MisusedAt.{anyBranchT, anyMisusedT}
+use Rattle.activations.specs.Walks.{LastIs}
+use Rattle.activations.proofs.MisusedFound.{any-misused-is}
+use Rattle.activations.specs.ChecksAt.{assignBranchesT, assignScopeT, assignT, assignedT, called, checksT, inScopesT, leftlessScopeT, leftlessT, namelessT, orElseT, overEquation, refusalBy, refusedT, repeatedIn, repeatedT, scopeNameT, unassignedT}
+use Rattle.activations.proofs.ActRead.{ActivationRead, act-to, branch-end-to, branch-number-to, branch-value, body-to, counted-value, equation-value}
+
+-- a choice that is known
+on-true : {A : Type 0} (b : Bool) (x y : A) → b ≡ true → cond b x y ≡ x
+on-true b x y e = rw e
+
+on-false : {A : Type 0} (b : Bool) (x y : A) → b ≡ false → cond b x y ≡ y
+on-false b x y e = rw e
 
 -- a word that was put, and the others
 pub put-same : (t : List ℕ) (i v : ℕ) → i < length t → v < 65536 → getD (putT t i v) i 0 ≡ v
@@ -84,9 +101,9 @@ module _ (ns : List Name) (fresh : Fresh [] ns) (s : List ℕ) where
       subst (λ (y : ℕ). RepeatedAs y (repeated seen (b .name ∷ branchNames bs)))
       (sym (then-to (numberIn s at) (i .0) (r .to-condition) _ (i .3)))
       (go (i .0) (i .1) (i .2) (member (b .name) seen) (m (i .0) (i .1) ∙ ap (λ y. not (member y seen)) (i .2))
-        (subst (λ (p : ℕ). RepeatedAs (repeatedT ns s n p (putT t (i .0) 1)) (repeated (b .name ∷ seen) (branchNames bs)))
-          (sym (branch-end-to ns s at b (a .0) r))
-          (repeated-found n (a .0) bs q (b .name ∷ seen) (putT t (i .0) 1) (a .2) (omega (arith, put-length t (i .0) 1)) (marks-more t seen (i .0) (b .name) l (i .1) (i .2) m))))
+      (subst (λ (p : ℕ). RepeatedAs (repeatedT ns s n p (putT t (i .0) 1)) (repeated (b .name ∷ seen) (branchNames bs)))
+      (sym (branch-end-to ns s at b (a .0) r))
+      (repeated-found n (a .0) bs q (b .name ∷ seen) (putT t (i .0) 1) (a .2) (omega (arith, put-length t (i .0) 1)) (marks-more t seen (i .0) (b .name) l (i .1) (i .2) m))))
     where
       go : (j : ℕ) → j < length ns → nameAt ns j ≡ b .name → (d : Bool) → eqb (getD t j 0) 0 ≡ not d
           → RepeatedAs (repeatedT ns s n (branchEnd ns s at) (putT t j 1)) (repeated (b .name ∷ seen) (branchNames bs))
@@ -179,12 +196,13 @@ module _ (ns : List Name) (fresh : Fresh [] ns) (s : List ℕ) where
     equations-at (suc n) p (y ∷ es) q t x e h l =
         let a = many-more (equationIn ns s) n p y es q e in
         let u = equations-at n (a .0) es q (assignT s k p t) x (a .2) h (omega (arith, l, assign-length p t)) in
-        let to : overEquation ns s p ≡ a .0 = over-to p y (a .0) (a .1) in
-        (ap (λ z. getD (eachOf (assignT s k) (overEquation ns s) n z (assignT s k p t)) x 0) to
-          ∙ u .0
-          ∙ ap (λ z. cond (isSome (ownValue (nameAt ns x) es) && eqb z k) (suc k) z) (assign-at p y (a .0) t x (a .1) h l)
-          ∙ taken-twice y es (nameAt ns x) (getD t x 0) (isOnly (nameAt ns x) (y .lhs)) refl,
-        ap (λ z. length (eachOf (assignT s k) (overEquation ns s) n z (assignT s k p t))) to ∙ u .1 ∙ assign-length p t)
+        let to : overEquation ns s p ≡ a .0 = over-to p y (a .0) (a .1) in (
+          ap (λ z. getD (eachOf (assignT s k) (overEquation ns s) n z (assignT s k p t)) x 0) to
+              ∙ u .0
+              ∙ ap (λ z. cond (isSome (ownValue (nameAt ns x) es) && eqb z k) (suc k) z) (assign-at p y (a .0) t x (a .1) h l)
+              ∙ taken-twice y es (nameAt ns x) (getD t x 0) (isOnly (nameAt ns x) (y .lhs)) refl,
+          ap (λ z. length (eachOf (assignT s k) (overEquation ns s) n z (assignT s k p t))) to ∙ u .1 ∙ assign-length p t,
+        )
 
     -- a scope that was read
     scope-at : (at : ℕ) (es : List Equation) (q : ℕ) (t : List ℕ) (x : ℕ) → equationsIn ns s at ≡ value es q → x < length ns → length ns ≤ length t
@@ -267,3 +285,239 @@ module _ (ns : List Name) (fresh : Fresh [] ns) (s : List ℕ) where
           → (v : ℕ) × (reached o (suc k) (cond (c && eqb k k) (suc k) k) bs ≡ k + v) × Unassigned a o (b ∷ bs) v (firstOf (cond c none (some (outputUnassigned a o (b .name)))) (inBranches a o bs))
       go true u = (suc (u .0), rw (eq-eqb k k refl) (u .1 ∙ omega arith), shifted (u .0) (inBranches a o bs) (u .2))
       go false u = (0, reached-stays o (suc k) k bs (omega arith) ∙ omega arith, (omega arith, refl))
+
+  -- an activation that was read, as the code has it
+  module _ (at : ℕ) (A : Activation) (z : ℕ) (r : ActivationRead ns s at A z) where
+    unfoldable act : Act
+    act = actAt ns s at
+
+    act-is : (i : ℕ) × (act ≡ record { name = i; outputs = r .to-outputs; branches = r .to-branches; other = r .to-else; n = length (A .branches) })
+    unfolding act
+    act-is = let a = act-to ns s at A z r in (a .0, a .3)
+
+    many-branches : act .n ≡ length (A .branches)
+    many-branches = ap (λ (y : Act). y .n) (act-is .1)
+
+    -- how far an output gets in all scopes
+    assigned-at : (t : List ℕ) (x : ℕ) → length (A .branches) < 65534 → x < length ns → length ns ≤ length t
+        → getD (assignedT ns s act t) x 0 ≡ cond (isSome (ownValue (nameAt ns x) (A .otherwise)) && eqb (reached (nameAt ns x) 0 0 (A .branches)) (length (A .branches))) (suc (length (A .branches))) (reached (nameAt ns x) 0 0 (A .branches))
+    unfolding assignedT assignBranchesT taken clearT
+    assigned-at t x f h l =
+        let n = length (A .branches) in
+        let g : List ℕ = passT (λ m j p z. assignScopeT ns s j (bodyIn ns s p) z) (branchEnd ns s) n 0 (r .b) (clearT (length ns) t) in
+        let c = branches-at n 0 (r .b) (A .branches) (r .to-else) (clearT (length ns) t) x (r .branches) (omega arith) h (omega (arith, l, fill-length (λ j. 0) (length ns) 0 t)) in
+        let v : getD g x 0 ≡ reached (nameAt ns x) 0 0 (A .branches) = c .0 ∙ ap (λ y. reached (nameAt ns x) 0 y (A .branches)) (fill-at (λ j. 0) (length ns) 0 t x (omega arith) (omega arith) (omega (arith, l))) in
+        ap (λ (a : Act). getD (assignedT ns s a t) x 0) (act-is .1)
+        ∙ ap (λ (y : List ℕ). getD (assignScopeT ns s n (r .to-else) y) x 0) (number-to s (r .to-branches) n (r .b) (λ m p. passT (λ m j p z. assignScopeT ns s j (bodyIn ns s p) z) (branchEnd ns s) m 0 p (clearT (length ns) t)) (r .count))
+        ∙ scope-at n (omega arith) (r .to-else) (A .otherwise) z g x (r .otherwise) h (omega (arith, l, c .1, fill-length (λ j. 0) (length ns) 0 t)) .0
+        ∙ ap (λ y. cond (isSome (ownValue (nameAt ns x) (A .otherwise)) && eqb y n) (suc n) y) v
+
+    -- the names of scopes
+    branch-called : (v : ℕ) → v < length (A .branches) → called ns (scopeNameT ns s act v) ≡ nameFrom (A .branches) v ∷ []
+    unfolding scopeNameT called
+    branch-called v h =
+        let u = named-at (length (A .branches)) (r .b) (A .branches) (r .to-else) v (r .branches) h in
+        ap (λ (a : Act). called ns (scopeNameT ns s a v)) (act-is .1)
+        ∙ ap (called ns) (on-true (ltb v (length (A .branches))) _ _ (lt-ltb v (length (A .branches)) h) ∙ (number-to s (r .to-branches) (length (A .branches)) (r .b) (λ n p. numberIn s (along (branchEnd ns s) v p) .value) (r .count) ∙ u .3))
+        ∙ rw (lt-ltb (u .0) (length ns) (u .1)) (ap (λ y. y ∷ []) (u .2))
+
+    else-called : called ns (scopeNameT ns s act (length (A .branches))) ≡ elseName ∷ []
+    unfolding scopeNameT called
+    else-called =
+        ap (λ (a : Act). called ns (scopeNameT ns s a (length (A .branches)))) (act-is .1)
+        ∙ ap (called ns) (on-false (ltb (length (A .branches)) (length (A .branches))) _ _ (le-ltb (length (A .branches)) (length (A .branches)) (omega arith)))
+        ∙ rw (le-ltb (suc (length ns)) (length ns) (omega arith), ne-eqb (suc (length ns)) (length ns) (λ e. omega (arith, e)))
+
+    old-called : (i : ℕ) (o : Name) → i < length ns → nameAt ns i ≡ o → called ns i ≡ o ∷ []
+    unfolding called
+    old-called i o h e = rw (lt-ltb i (length ns) h) (ap (λ y. y ∷ []) e)
+
+    refused-by : (i v : ℕ) (o b : Name) → i < length ns → nameAt ns i ≡ o → called ns v ≡ b ∷ [] → refusalBy ns (A .name) (refusedT 11 i v) ≡ some (outputUnassigned (A .name) o b)
+    unfolding refusalBy outputUnassigned
+    refused-by i v o b h e f = λ j. some (record { kind = 11; names = A .name ∷ (old-called i o h e j ++ f j) })
+
+    -- outputs in order
+    outputs-are : (T : List ℕ) → ((x : ℕ) → x < length ns → getD T x 0 ≡ cond (isSome (ownValue (nameAt ns x) (A .otherwise)) && eqb (reached (nameAt ns x) 0 0 (A .branches)) (length (A .branches))) (suc (length (A .branches))) (reached (nameAt ns x) 0 0 (A .branches)))
+        → (n p : ℕ) (ps : List Port) (q : ℕ) → many (portIn ns s) n p ≡ value ps q → refusalBy ns (A .name) (unassignedT ns s act T n p) ≡ inScopes A ps
+    unfolding unassignedT inScopes refusalBy portIn Unassigned firstOf unlessAssigned isSome
+    outputs-are T f zero p [] q e = refl
+    outputs-are T f zero p (o ∷ ps) q e = absurd (many-cut (portIn ns s) p o ps q e)
+    outputs-are T f (suc n) p [] q e = absurd (many-over (portIn ns s) n p q e)
+    outputs-are T f (suc n) p (o ∷ ps) q e =
+        let a = many-more (portIn ns s) n p o ps q e in
+        let b = bind-value (nameIn ns s p) _ o (a .0) (a .1) in
+        let m = map-value _ (typeIn ns s (b .1)) o (a .0) (b .3) in
+        let i = name-number ns s p (b .0) (b .1) (b .2) in
+        let named : nameAt ns (i .i) ≡ o .name = i .named ∙ ap (λ (y : Port). y .name) (m .2) in
+        ap (refusalBy ns (A .name)) (number-to s p (i .i) (b .1) (λ x q. cond (ltb (act .n) (getD T x 0)) (unassignedT ns s act T n (endOf (portIn ns s p))) (refusedT 11 x (scopeNameT ns s act (getD T x 0)))) (i .is))
+        ∙ one (i .i) (i .small) named (in-branches (A .name) (o .name) 0 (A .branches)) (f (i .i) (i .small) ∙ ap (λ y. cond (isSome (ownValue y (A .otherwise)) && eqb (reached y 0 0 (A .branches)) (length (A .branches))) (suc (length (A .branches))) (reached y 0 0 (A .branches))) named)
+        (ap (λ y. refusalBy ns (A .name) (unassignedT ns s act T n y)) (end-to (portIn ns s p) o (a .0) (a .1)) ∙ outputs-are T f n (a .0) ps q (a .2))
+      where
+        one : (x : ℕ) → x < length ns → nameAt ns x ≡ o .name → (v : ℕ) × (reached (o .name) 0 0 (A .branches) ≡ 0 + v) × Unassigned (A .name) (o .name) (A .branches) v (inBranches (A .name) (o .name) (A .branches))
+            → getD T x 0 ≡ cond (isSome (ownValue (o .name) (A .otherwise)) && eqb (reached (o .name) 0 0 (A .branches)) (length (A .branches))) (suc (length (A .branches))) (reached (o .name) 0 0 (A .branches))
+            → refusalBy ns (A .name) (unassignedT ns s act T n (endOf (portIn ns s p))) ≡ inScopes A ps
+            → refusalBy ns (A .name) (cond (ltb (act .n) (getD T x 0)) (unassignedT ns s act T n (endOf (portIn ns s p))) (refusedT 11 x (scopeNameT ns s act (getD T x 0))))
+            ≡ firstOf (inBranches (A .name) (o .name) (A .branches)) (firstOf (unlessAssigned (A .name) (o .name) elseName (A .otherwise)) (inScopes A ps))
+        one x h k u g ih = go (inBranches (A .name) (o .name) (A .branches)) (u .2)
+          where
+            v : ℕ
+            v = u .0
+
+            got : reached (o .name) 0 0 (A .branches) ≡ v
+            got = u .1 ∙ omega arith
+
+            -- refused at the scope w
+            stops : (w : ℕ) (b : Name) → getD T x 0 ≡ w → w ≤ length (A .branches) → called ns (scopeNameT ns s act w) ≡ b ∷ []
+                → refusalBy ns (A .name) (cond (ltb (act .n) (getD T x 0)) (unassignedT ns s act T n (endOf (portIn ns s p))) (refusedT 11 x (scopeNameT ns s act (getD T x 0)))) ≡ some (outputUnassigned (A .name) (o .name) b)
+            stops w b d l c =
+                ap (refusalBy ns (A .name)) (on-false (ltb (act .n) (getD T x 0)) _ _ (le-ltb (act .n) (getD T x 0) (omega (arith, d, many-branches))))
+                ∙ ap (λ y. refusalBy ns (A .name) (refusedT 11 x (scopeNameT ns s act y))) d
+                ∙ refused-by x (scopeNameT ns s act w) (o .name) b h k c
+
+            go : (y : Option Refusal) → Unassigned (A .name) (o .name) (A .branches) v y
+                → refusalBy ns (A .name) (cond (ltb (act .n) (getD T x 0)) (unassignedT ns s act T n (endOf (portIn ns s p))) (refusedT 11 x (scopeNameT ns s act (getD T x 0))))
+                ≡ firstOf y (firstOf (unlessAssigned (A .name) (o .name) elseName (A .otherwise)) (inScopes A ps))
+            go (some y) w =
+                stops v (nameFrom (A .branches) v)
+                (g ∙ rw (ne-eqb (reached (o .name) 0 0 (A .branches)) (length (A .branches)) (λ d. omega (arith, w .0, sym got ∙ d))) (short (isSome (ownValue (o .name) (A .otherwise))) ∙ got))
+                (omega (arith, w .0)) (branch-called v (w .0))
+                ∙ ap some (sym (w .1))
+              where
+                short : (b : Bool) → cond (b && false) (suc (length (A .branches))) (reached (o .name) 0 0 (A .branches)) ≡ reached (o .name) 0 0 (A .branches)
+                short true = refl
+                short false = refl
+            go none w = last (isSome (ownValue (o .name) (A .otherwise))) (g ∙ rw (eq-eqb (reached (o .name) 0 0 (A .branches)) (length (A .branches)) (got ∙ w)) refl)
+              where
+                last : (b : Bool) → getD T x 0 ≡ cond (b && true) (suc (length (A .branches))) (reached (o .name) 0 0 (A .branches))
+                    → refusalBy ns (A .name) (cond (ltb (act .n) (getD T x 0)) (unassignedT ns s act T n (endOf (portIn ns s p))) (refusedT 11 x (scopeNameT ns s act (getD T x 0))))
+                    ≡ firstOf (cond b none (some (outputUnassigned (A .name) (o .name) elseName))) (inScopes A ps)
+                last true d = ap (refusalBy ns (A .name)) (on-true (ltb (act .n) (getD T x 0)) _ _ (lt-ltb (act .n) (getD T x 0) (omega (arith, d, many-branches)))) ∙ ih
+                last false d = stops (length (A .branches)) elseName (d ∙ got ∙ w) (omega arith) else-called
+
+    unfoldable few-branches : Type 0
+    few-branches = length (A .branches) < 65534
+
+    in-scopes-is : (t : List ℕ) → few-branches → length ns ≤ length t → refusalBy ns (A .name) (inScopesT ns s act t) ≡ inScopes A (A .outputs)
+    unfolding inScopesT few-branches portsIn
+    in-scopes-is t f l =
+        let c = counted-value (portIn ns s) s (r .to-outputs) (A .outputs) (r .to-branches) (r .outputs) in
+        ap (λ (y : ℕ). refusalBy ns (A .name) (with (numberIn s y) λ n p. unassignedT ns s act (assignedT ns s act t) n p)) (ap (λ (y : Act). y .outputs) (act-is .1))
+        ∙ ap (refusalBy ns (A .name)) (number-to s (r .to-outputs) (length (A .outputs)) (c .0) (λ n p. unassignedT ns s act (assignedT ns s act t) n p) (c .1))
+        ∙ outputs-are (assignedT ns s act t) (λ x h. assigned-at t x f h l) (length (A .outputs)) (c .0) (A .outputs) (r .to-branches) (c .2)
+
+    -- one refusal after the other
+    refused-first : (x : Refused) (y : Refused) (a b : Option Refusal) → refusalBy ns (A .name) x ≡ a → refusalBy ns (A .name) y ≡ b → refusalBy ns (A .name) (orElseT ns s x y) ≡ firstOf a b
+    unfolding orElseT refusalBy firstOf
+    refused-first x y a b e f = go (eqb (x .kind) 0) refl e
+      where
+        go : (c : Bool) → eqb (x .kind) 0 ≡ c → cond c none (some (record { kind = x .kind; names = A .name ∷ (called ns (x .second) ++ called ns (x .third)) })) ≡ a → refusalBy ns (A .name) (cond c y x) ≡ firstOf a b
+        go true d g = f ∙ ap (λ z. firstOf z b) g
+        go false d g = rw d (ap (λ z. firstOf z b) g)
+
+    none-called : called ns (length ns) ≡ []
+    unfolding called
+    none-called = rw (le-ltb (length ns) (length ns) (omega arith), eq-eqb (length ns) (length ns) refl)
+
+    nothing-refused : refusalBy ns (A .name) (refusedT 0 (length ns) (length ns)) ≡ none
+    unfolding refusalBy
+    nothing-refused = refl
+
+    one-named : (k : ℕ) → refusalBy ns (A .name) (refusedT (suc k) (length ns) (length ns)) ≡ some (record { kind = suc k; names = A .name ∷ [] })
+    unfolding refusalBy
+    one-named k = rw (ne-eqb (suc k) 0 (λ e. omega (arith, e))) (λ j. some (record { kind = suc k; names = A .name ∷ (none-called j ++ none-called j) }))
+
+    -- no branches, no outputs
+    branches-first : (bs : List Branch) (n : ℕ) (x : Refused) (b : Option Refusal) → n ≡ length bs → refusalBy ns (A .name) x ≡ b → refusalBy ns (A .name) (cond (eqb n 0) (refusedT 9 (length ns) (length ns)) x) ≡ firstOf (branchless (A .name) bs) b
+    unfolding branchless noBranches firstOf
+    branches-first [] n x b e f = ap (refusalBy ns (A .name)) (on-true (eqb n 0) _ _ (eq-eqb n 0 e)) ∙ one-named 8
+    branches-first (c ∷ bs) n x b e f = ap (refusalBy ns (A .name)) (on-false (eqb n 0) _ _ (ne-eqb n 0 (λ d. omega (arith, e, d)))) ∙ f
+
+    outputs-first : (ps : List Port) (n : ℕ) (x : Refused) (b : Option Refusal) → n ≡ length ps → refusalBy ns (A .name) x ≡ b → refusalBy ns (A .name) (cond (eqb n 0) (refusedT 10 (length ns) (length ns)) x) ≡ firstOf (outputless (A .name) ps) b
+    unfolding outputless noOutputs firstOf
+    outputs-first [] n x b e f = ap (refusalBy ns (A .name)) (on-true (eqb n 0) _ _ (eq-eqb n 0 e)) ∙ one-named 9
+    outputs-first (p ∷ ps) n x b e f = ap (refusalBy ns (A .name)) (on-false (eqb n 0) _ _ (ne-eqb n 0 (λ d. omega (arith, e, d)))) ∙ f
+
+    doubled : (x : ℕ) (o : Option Name) → RepeatedAs x o → (y : Refused) (b : Option Refusal) → refusalBy ns (A .name) y ≡ b
+        → refusalBy ns (A .name) (cond (ltb x (length ns)) (refusedT 12 x (length ns)) y) ≡ firstOf (asRefusal (λ n. duplicateBranch (A .name) n) o) b
+    unfolding RepeatedAs asRefusal duplicateBranch firstOf refusalBy
+    doubled x none e y b f = ap (refusalBy ns (A .name)) (on-false (ltb x (length ns)) _ _ (le-ltb x (length ns) (omega (arith, e)))) ∙ f
+    doubled x (some n) e y b f =
+        ap (refusalBy ns (A .name)) (on-true (ltb x (length ns)) _ _ (lt-ltb x (length ns) (e .0)))
+        ∙ λ j. some (record { kind = 12; names = A .name ∷ (old-called x n (e .0) (e .1) j ++ none-called j) })
+
+    module _ (last : ℕ) (few : length ns < 65536) (by : Bytes s) (short : length s ≤ 65536) (L : LastIs ns last) (read : activationIn ns s at ≡ value A z) where
+      misuse-is : refusalBy ns (A .name) (cond (anyMisusedT ns s last act) (refusedT 14 (length ns) (length ns)) (refusedT 0 (length ns) (length ns))) ≡ misuse A
+      unfolding misuse lastArgs act
+      misuse-is = ap (λ b. refusalBy ns (A .name) (cond b (refusedT 14 (length ns) (length ns)) (refusedT 0 (length ns) (length ns)))) (any-misused-is ns s few by short last L at A z read) ∙ go (anyMisused (expressions A))
+        where
+          go : (b : Bool) → refusalBy ns (A .name) (cond b (refusedT 14 (length ns) (length ns)) (refusedT 0 (length ns) (length ns))) ≡ cond b (some (record { kind = 14; names = A .name ∷ [] })) none
+          go true = one-named 13
+          go false = nothing-refused
+
+      -- THE LINK: the first refusal of an activation that was read there
+      pub checks-are : (t u : List ℕ) → length (A .branches) < 65534 → length ns ≤ length t → length ns ≤ length u → refusalBy ns (A .name) (checksT ns s last (actAt ns s at) t u) ≡ checks A
+      unfolding checksT checks portsIn act few-branches
+      checks-are t u f l m =
+          branches-first (A .branches) (act .n) _ _ many-branches (outputs-first (A .outputs) (numberIn s (act .outputs) .value) _ _ many-outputs rest)
+        where
+          many-outputs : numberIn s (act .outputs) .value ≡ length (A .outputs)
+          many-outputs =
+              let c = counted-value (portIn ns s) s (r .to-outputs) (A .outputs) (r .to-branches) (r .outputs) in
+              ap (λ (y : Act). numberIn s (y .outputs) .value) (act-is .1) ∙ ap (λ (y : Num). y .value) (number-num s (r .to-outputs) (length (A .outputs)) (c .0) (c .1))
+
+          rest : refusalBy ns (A .name) (cond (ltb (repeatedIn ns s (act .branches) t) (length ns)) (refusedT 12 (repeatedIn ns s (act .branches) t) (length ns)) (orElseT ns s (inScopesT ns s act u) (cond (anyMisusedT ns s last act) (refusedT 14 (length ns) (length ns)) (refusedT 0 (length ns) (length ns)))))
+              ≡ firstOf (asRefusal (λ b. duplicateBranch (A .name) b) (repeated [] (branchNames (A .branches)))) (firstOf (inScopes A (A .outputs)) (misuse A))
+          rest = doubled (repeatedIn ns s (act .branches) t) (repeated [] (branchNames (A .branches)))
+              (subst (λ (y : ℕ). RepeatedAs (repeatedIn ns s y t) (repeated [] (branchNames (A .branches)))) (sym (ap (λ (y : Act). y .branches) (act-is .1))) (repeated-is (r .to-branches) (A .branches) (r .b) (r .to-else) t (r .count) (r .branches) l))
+              (orElseT ns s (inScopesT ns s act u) (cond (anyMisusedT ns s last act) (refusedT 14 (length ns) (length ns)) (refusedT 0 (length ns) (length ns))))
+              (firstOf (inScopes A (A .outputs)) (misuse A))
+              (refused-first (inScopesT ns s act u) _ (inScopes A (A .outputs)) (misuse A) (in-scopes-is u f m) misuse-is)
+
+    -- scope equations without left names
+    nameless-at : (p : ℕ) (e : Equation) (q : ℕ) → equationIn ns s p ≡ value e q → namelessT ns s p ≡ nameless (e .lhs)
+    unfolding namelessT namesIn counted nameless
+    nameless-at p e q d =
+        let b = equation-value ns s p e q d in
+        let c = counted-value (nameIn ns s) s p (e .lhs) (b .to-rhs) (b .lhs) in
+        ap (λ (y : Num). eqb (y .value) 0) (number-num s p (length (e .lhs)) (c .0) (c .1)) ∙ go (e .lhs)
+      where
+        go : (l : List Name) → eqb (length l) 0 ≡ nameless l
+        go [] = refl
+        go (x ∷ l) = ne-eqb (length (x ∷ l)) 0 (λ h. omega (arith, h))
+
+    leftless-equations : (n p : ℕ) (es : List Equation) (q : ℕ) → many (equationIn ns s) n p ≡ value es q → anyT (namelessT ns s) (overEquation ns s) n p ≡ leftless es
+    unfolding anyT leftless overEquation
+    leftless-equations zero p [] q e = refl
+    leftless-equations zero p (x ∷ es) q e = absurd (many-cut (equationIn ns s) p x es q e)
+    leftless-equations (suc n) p [] q e = absurd (many-over (equationIn ns s) n p q e)
+    leftless-equations (suc n) p (x ∷ es) q e =
+        let a = many-more (equationIn ns s) n p x es q e in
+        let f = nameless-at p x (a .0) (a .1) in
+        let g = ap (anyT (namelessT ns s) (overEquation ns s) n) (end-to (equationIn ns s p) x (a .0) (a .1)) ∙ leftless-equations n (a .0) es q (a .2) in
+        λ i. f i || g i
+
+    leftless-scope : (p : ℕ) (es : List Equation) (q : ℕ) → equationsIn ns s p ≡ value es q → leftlessScopeT ns s p ≡ leftless es
+    unfolding leftlessScopeT equationsIn
+    leftless-scope p es q e =
+        let c = counted-value (equationIn ns s) s p es q e in
+        number-to s p (length es) (c .0) _ (c .1) ∙ leftless-equations (length es) (c .0) es q (c .2)
+
+    leftless-branches : (n p : ℕ) (bs : List Branch) (q : ℕ) → many (branchIn ns s) n p ≡ value bs q → anyT (λ j. leftlessScopeT ns s (bodyIn ns s j)) (branchEnd ns s) n p ≡ leftlessBranch bs
+    unfolding anyT leftlessBranch
+    leftless-branches zero p [] q e = refl
+    leftless-branches zero p (b ∷ bs) q e = absurd (many-cut (branchIn ns s) p b bs q e)
+    leftless-branches (suc n) p [] q e = absurd (many-over (branchIn ns s) n p q e)
+    leftless-branches (suc n) p (b ∷ bs) q e =
+        let a = many-more (branchIn ns s) n p b bs q e in
+        let x = branch-value ns s p b (a .0) (a .1) in
+        let f = ap (leftlessScopeT ns s) (body-to ns s p b (a .0) x) ∙ leftless-scope (x .to-equations) (b .equations) (a .0) (x .equations) in
+        let g = ap (anyT (λ j. leftlessScopeT ns s (bodyIn ns s j)) (branchEnd ns s) n) (branch-end-to ns s p b (a .0) x) ∙ leftless-branches n (a .0) bs q (a .2) in
+        λ i. f i || g i
+
+    -- THE LINK: the same of an activation that was read there
+    pub leftless-is : leftlessT ns s (actAt ns s at) ≡ leftlessIn A
+    unfolding leftlessT leftlessIn anyBranchT act
+    leftless-is =
+        let f = number-to s (r .to-branches) (length (A .branches)) (r .b) (λ n p. anyT (λ j. leftlessScopeT ns s (bodyIn ns s j)) (branchEnd ns s) n p) (r .count) ∙ leftless-branches (length (A .branches)) (r .b) (A .branches) (r .to-else) (r .branches) in
+        let g = leftless-scope (r .to-else) (A .otherwise) z (r .otherwise) in
+        ap (λ (y : Act). leftlessT ns s y) (act-is .1) ∙ (λ i. f i || g i)
