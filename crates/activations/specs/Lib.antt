@@ -38,3 +38,4 @@ pub mod Passes
 pub mod FlagsAt
 pub mod ChecksAt
 pub mod TypesAt
+pub mod NumbersAt

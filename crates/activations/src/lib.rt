@@ -14,3 +14,4 @@ pub mod guards; // guards, and the locals of flags and guards
 pub mod merges; // outputs, merged from the scopes
 pub mod unlast; // expressions with calls of `last` replaced
 pub mod types; // the types of variables
+pub mod numbers; // names by number, written and found
