@@ -34,3 +34,6 @@ pub mod TypeLaws
 pub mod TypesKnown
 pub mod Starts
 pub mod NumberLaws
+pub mod PassLaws
+pub mod ReadLaws
+pub mod RewriteLaws

@@ -39,3 +39,5 @@ pub mod FlagsAt
 pub mod ChecksAt
 pub mod TypesAt
 pub mod NumbersAt
+pub mod ReadsAt
+pub mod RewriteAt
