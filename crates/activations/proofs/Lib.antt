@@ -24,7 +24,7 @@ pub mod Examples
 pub mod UnlastLaws
 pub mod UnlastWritten
 pub mod Joined
-pub mod PassLaws
+pub mod StepLaws
 pub mod FlagLaws
 pub mod FlagsWritten
 pub mod CheckLaws
