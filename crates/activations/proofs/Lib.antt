@@ -37,3 +37,4 @@ pub mod NumberLaws
 pub mod PassLaws
 pub mod ReadLaws
 pub mod RewriteLaws
+pub mod LocalLaws

@@ -41,3 +41,4 @@ pub mod TypesAt
 pub mod NumbersAt
 pub mod ReadsAt
 pub mod RewriteAt
+pub mod LocalsAt

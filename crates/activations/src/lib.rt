@@ -17,3 +17,4 @@ pub mod types; // the types of variables
 pub mod numbers; // names by number, written and found
 pub mod reads; // what an equation of a scope reads
 pub mod rewrite; // right sides over samples
+pub mod locals; // locals, written, counted and left to the next activation

@@ -63,7 +63,7 @@ fn put_numbered(out: &mut [u8], w: Writer, a: &[u8], letters: &[u8], k: usize) -
 }
 
 // The text of the name of a branch's variable; the clock of the first branch is its flag.
-fn put_branch_text(out: &mut [u8], w: Writer, a: &[u8], v: Var, k: usize) -> Writer
+pub fn put_branch_text(out: &mut [u8], w: Writer, a: &[u8], v: Var, k: usize) -> Writer
     requires { ⌜ k < 2 ^ 63 ⌝ }
     ensures { λ r. ⌜ ((m : List ℕ) → stateOf (now (out .exit)) m r ≡ puts (branchVar v (now (a .entry)) k) (stateOf (now (out .entry)) m w)) ⌝ }
 {
@@ -108,7 +108,7 @@ fn put_tag(out: &mut [u8], w: Writer, n: usize, k: usize) -> Writer
 }
 
 // `__act_<a>`, some letters, the scope's tag, an underscore and the name v.
-fn put_scoped(
+pub fn put_scoped(
     out: &mut [u8],
     w: Writer,
     a: &[u8],

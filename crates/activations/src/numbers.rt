@@ -59,7 +59,7 @@ fn put_id_text(
 }
 
 // The text of the name of its sample in the scope k of n branches.
-fn put_sample_text(
+pub fn put_sample_text(
     out: &mut [u8],
     w: Writer,
     s: &[u8],
