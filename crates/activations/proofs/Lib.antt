@@ -38,3 +38,4 @@ pub mod PassLaws
 pub mod ReadLaws
 pub mod RewriteLaws
 pub mod LocalLaws
+pub mod ScopeLocalLaws

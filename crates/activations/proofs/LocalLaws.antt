@@ -58,7 +58,7 @@ module _ (ns : List Name) (s old : List ℕ) (made : Bool) where
   local-is names c n x l l' o m o' m' p w e f g h =
       λ i. record { later = (f ∙ ap (λ y. leaveT y (placeBuilt (table old) y made x) c l) (sym e)) i; state = h i; count = g i }
 
-  named-is : (y : Name) (x : State) (c : ℕ) (u z : Left) → x ≡ puts y (st 255 0 [] []) → u ≡ localT ns s old made x c z → u ≡ namedT ns s old made y c z
+  pub named-is : (y : Name) (x : State) (c : ℕ) (u z : Left) → x ≡ puts y (st 255 0 [] []) → u ≡ localT ns s old made x c z → u ≡ namedT ns s old made y c z
   unfolding namedT built
   named-is y x c u z e f = f ∙ ap (λ (v : State). localT ns s old made v c z) e
 

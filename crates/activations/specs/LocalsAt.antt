@@ -82,25 +82,29 @@ module _ (ns : List Name) (s old : List ℕ) (made : Bool) where
       holderLocalsT h zero z = z
       holderLocalsT h (suc n) z = holderLocalsT (h + 3) n (holderLocalT h z)
 
-    -- where names stand; the index of `last`; the holders' rows, the types of variables and outputs
-    module _ (spots : List ℕ) (last : ℕ) (held : List ℕ) (rows : ℕ) (env outs : List ℕ) where
-      -- the scope k of n branches
-      module _ (n : ℕ) where
-        unfoldable pub sampleLocalT : ℕ → ℕ → Left → Left
-        sampleLocalT k x z = namedT (sampleNameT s spots (length ns) a n k x) (typedT env outs (length ns) x) z
+    -- where names stand, the types of variables and outputs; the scope k of n branches
+    module _ (spots env outs : List ℕ) (n : ℕ) where
+      unfoldable pub sampleLocalT : ℕ → ℕ → Left → Left
+      sampleLocalT k x z = namedT (sampleNameT s spots (length ns) a n k x) (typedT env outs (length ns) x) z
 
-        -- of these those that the scope has not sampled yet
-        unfoldable pub newLocalT : ℕ → List ℕ → ℕ → Left → Left
-        newLocalT k seen x z = cond (among x seen) z (sampleLocalT k x z)
+      -- of these those that the scope has not sampled yet
+      unfoldable pub newLocalT : ℕ → List ℕ → ℕ → Left → Left
+      newLocalT k seen x z = cond (among x seen) z (sampleLocalT k x z)
 
-        unfoldable pub newLocalsT : ℕ → List ℕ → List ℕ → Left → Left
-        newLocalsT k seen [] z = z
-        newLocalsT k seen (x ∷ xs) z = newLocalsT k seen xs (newLocalT k seen x z)
+      unfoldable pub newLocalsT : ℕ → List ℕ → List ℕ → Left → Left
+      newLocalsT k seen [] z = z
+      newLocalsT k seen (x ∷ xs) z = newLocalsT k seen xs (newLocalT k seen x z)
 
-        -- the value of the equation at p
-        unfoldable pub valueLocalT : ℕ → ℕ → Left → Left
-        valueLocalT k p z = namedT (valueVar a (scopeAt n k) (packName s spots (firstLeftIn s p))) (valueTypeT env outs (length ns) (firstLeftIn s p)) z
+      -- the value of the equation at p
+      unfoldable pub valueLocalT : ℕ → ℕ → Left → Left
+      valueLocalT k p z = namedT (valueVar a (scopeAt n k) (packName s spots (firstLeftIn s p))) (valueTypeT env outs (length ns) (firstLeftIn s p)) z
 
+      -- the equation at p, which reads these
+      unfoldable pub equationLocalT : ℕ → List ℕ → List ℕ → ℕ → Left → Left
+      equationLocalT k ids seen p z = valueLocalT k p (newLocalsT k seen ids z)
+
+      -- the index of `last`, the holders' rows
+      module _ (last : ℕ) (held : List ℕ) (rows : ℕ) where
         unfoldable pub localReads : ℕ → List ℕ
         localReads p = readsT held rows env outs (length ns) ns s last (rightSideIn ns s p)
 
@@ -108,7 +112,7 @@ module _ (ns : List Name) (s old : List ℕ) (made : Bool) where
         unfoldable pub equationLocalsT : ℕ → ℕ → ℕ → List ℕ → Left → Left
         equationLocalsT k zero p seen z = z
         equationLocalsT k (suc c) p seen z =
-            equationLocalsT k c (equationEnd ns s p) (joinT (localReads p) seen) (valueLocalT k p (newLocalsT k seen (localReads p) z))
+            equationLocalsT k c (equationEnd ns s p) (joinT (localReads p) seen) (equationLocalT k (localReads p) seen p z)
 
         -- the scope k, whose count of equations stands at an offset
         unfoldable pub scopeLocalsT : ℕ → ℕ → Left → Left
@@ -119,11 +123,12 @@ module _ (ns : List Name) (s old : List ℕ) (made : Bool) where
         branchLocalsT k zero p z = z
         branchLocalsT k (suc c) p z = branchLocalsT (suc k) c (branchEnd ns s p) (scopeLocalsT k (bodyIn ns s p) z)
 
-      -- all locals of an activation
+    -- all locals of an activation
+    module _ (spots env outs : List ℕ) (last : ℕ) (held : List ℕ) (rows : ℕ) where
       unfoldable pub actLocalsT : Act → Left → Left
       actLocalsT A z =
-          scopeLocalsT (A .n) (A .n) (A .other)
-          (branchLocalsT (A .n) 0 (A .n) (numberIn s (A .branches) .next)
+          scopeLocalsT spots env outs (A .n) last held rows (A .n) (A .other)
+          (branchLocalsT spots env outs (A .n) last held rows 0 (A .n) (numberIn s (A .branches) .next)
           (clockLocalsT 1 (A .n - 1)
           (flagLocalsT 0 (A .n)
           (holderLocalsT spots held env 0 rows z))))

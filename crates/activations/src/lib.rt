@@ -18,3 +18,4 @@ pub mod numbers; // names by number, written and found
 pub mod reads; // what an equation of a scope reads
 pub mod rewrite; // right sides over samples
 pub mod locals; // locals, written, counted and left to the next activation
+pub mod scope_locals; // those of scopes

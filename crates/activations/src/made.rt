@@ -108,7 +108,7 @@ fn put_tag(out: &mut [u8], w: Writer, n: usize, k: usize) -> Writer
 }
 
 // `__act_<a>`, some letters, the scope's tag, an underscore and the name v.
-pub fn put_scoped(
+fn put_scoped(
     out: &mut [u8],
     w: Writer,
     a: &[u8],
@@ -154,6 +154,13 @@ pub fn put_sample(
     put_built(old, &buf, t, out, made, w)
 }
 
+// The text of the name of what the scope k of n branches gives o.
+pub fn put_value_text(out: &mut [u8], w: Writer, a: &[u8], n: usize, k: usize, o: &[u8]) -> Writer
+    ensures { λ r. ⌜ ((m : List ℕ) → stateOf (now (out .exit)) m r ≡ puts (valueVar (now (a .entry)) (scopeAt n k) (now (o .entry))) (stateOf (now (out .entry)) m w)) ⌝ }
+{
+    put_scoped(out, w, a, b"_x", n, k, o)
+}
+
 // What the scope k of n branches gives o, by its number among the names.
 pub fn put_value(
     old: &[u8],
@@ -168,6 +175,6 @@ pub fn put_value(
     ensures { λ r. ⌜ stateOf (now (out .exit)) (now (made .exit)) r ≡ putName (now (old .entry)) (valueVar (now (a .entry)) (scopeAt n k) (now (o .entry))) (stateOf (now (out .entry)) (now (made .entry)) w) ⌝ }
 {
     let mut buf = [0u8; 255];
-    let t = put_scoped(&mut buf, Writer::start(), a, b"_x", n, k, o);
+    let t = put_value_text(&mut buf, Writer::start(), a, n, k, o);
     put_built(old, &buf, t, out, made, w)
 }

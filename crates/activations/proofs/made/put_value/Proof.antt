@@ -2,23 +2,18 @@ use mathlib.Core.List.{[]}
 use mathlib.Core.Path.{ap, _∙_}
 use Rattle.wire.specs.Writer.{puts}
 use Rattle.pack.proofs.Interns.{built-of}
-use Rattle.machines.proofs.MadeLaws.{put-is}
-use Rattle.activations.proofs.MadeLaws.{value-text}
 use borrow.Author.Needs.{needs}
 use Rattle.activations.proofs.made.put_value.Statement.{statement}
 use Rattle.activations.proofs.made.put_value.Tie as tie
 
-slice-aggregate-put-scoped : tie.Need-slice-aggregate-put-scoped
-slice-aggregate-put-scoped c = search needs
+slice-aggregate-put-value-text : tie.Need-slice-aggregate-put-value-text
+slice-aggregate-put-value-text c = search needs
 
 start-requires : tie.Need-start-requires
 start-requires c κs = search needs
 
-slice-aggregate-put-scoped-2 : tie.Need-slice-aggregate-put-scoped-2
-slice-aggregate-put-scoped-2 c = search needs
-
-put-scoped-requires : tie.Need-put-scoped-requires
-put-scoped-requires c κs = search needs
+put-value-text-requires : tie.Need-put-value-text-requires
+put-value-text-requires c κs = search needs
 
 slice-aggregate-put-built : tie.Need-slice-aggregate-put-built
 slice-aggregate-put-built c = search needs
@@ -33,16 +28,15 @@ same-length-2 : tie.Need-same-length-2
 same-length-2 c = search needs
 
 returns : tie.Need-returns
-returns c = c .before .before .before .before .put-built .ensures ∙ built-of _ _ _ _ (put-is _ _ _ _ (value-text _ _ _) (c .before .before .before .before .before .before .before .before .before .put-scoped .ensures [] ∙ ap (puts _) (c .before .before .before .before .before .before .before .before .before .before .before .start .ensures _ [])))
+returns c = c .before .before .before .before .put-built .ensures ∙ built-of _ _ _ _ (c .before .before .before .before .before .before .before .before .before .put-value-text .ensures [] ∙ ap (puts _) (c .before .before .before .before .before .before .before .before .before .before .start .ensures _ []))
 
 pub put-value-spec : {M : Type 1} → statement M
 put-value-spec =
     tie.close
     (tie.spec
-    slice-aggregate-put-scoped
+    slice-aggregate-put-value-text
     start-requires
-    slice-aggregate-put-scoped-2
-    put-scoped-requires
+    put-value-text-requires
     slice-aggregate-put-built
     put-built-requires
     same-length
