@@ -24,3 +24,4 @@ pub mod Examples
 pub mod UnlastLaws
 pub mod UnlastWritten
 pub mod IdLaws
+pub mod TypeLaws
