@@ -25,3 +25,4 @@ pub mod UnlastLaws
 pub mod UnlastWritten
 pub mod IdLaws
 pub mod TypeLaws
+pub mod TypesKnown

@@ -1,12 +1,13 @@
 -- Tables of types, as the code fills and reads them.
-use Prim.Native.Nat.{ℕ, _-_}
+use Prim.Native.Nat.{ℕ, _-_, _<_}
 use mathlib.Core.List.{List, [], _∷_}
 use mathlib.Core.Bool.{Bool, true, false, cond}
 use mathlib.Core.Option.{Option, none, some}
-use lib.ListN.{getD}
+use mathlib.Core.Path.{_≡_}
+use lib.ListN.{getD, length}
 use lib.Dec.{eqb, ltb}
 use Rattle.pack.specs.Names.{Name}
-use Rattle.pack.specs.Syntax.{Expr, Lit, eConst, eVar, lBool, lChar, lFloat, lInt}
+use Rattle.pack.specs.Syntax.{Expr, Lit, Ty, eConst, eVar, lBool, lChar, lFloat, lInt}
 use Rattle.pack.specs.Forms.{nameAt}
 use Rattle.pack.specs.Read.{namesIn, portIn, typeIn}
 use Rattle.machines.specs.Laid.{sliceOf}
@@ -15,6 +16,7 @@ use Rattle.machines.specs.Sure.{byteIn, numberIn, with}
 use Rattle.activations.specs.declared.types.Start.{Start}
 use Rattle.activations.specs.declared.types.Start.the-variants as sr
 use Rattle.activations.specs.Cells.{putT}
+use Rattle.activations.specs.TypeCodes.{typeAt}
 use Rattle.activations.specs.Places.{along, eachOf}
 
 -- where the first of the inputs' count stands: after a node's name and kind
@@ -103,3 +105,12 @@ unfoldable pub isMissing : Start → Bool
 isMissing sr.Missing = true
 isMissing (sr.Literal tag) = false
 isMissing (sr.Name v) = false
+
+-- a code stands for a type, or is 0 for none
+unfoldable pub Coded : List Name → List ℕ → ℕ → Option Ty → Type 0
+Coded ns s c none = c ≡ 0
+Coded ns s c (some t) = (0 < c) × (typeAt ns s c ≡ some t)
+
+-- a table has by old index the types that names have
+unfoldable pub TypesAre : List Name → List ℕ → List ℕ → (Name → Option Ty) → Type 0
+TypesAre ns s t f = (x : ℕ) → x < length ns → Coded ns s (getD t x 0) (f (nameAt ns x))
