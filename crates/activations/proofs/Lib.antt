@@ -26,3 +26,4 @@ pub mod UnlastWritten
 pub mod IdLaws
 pub mod TypeLaws
 pub mod TypesKnown
+pub mod Starts

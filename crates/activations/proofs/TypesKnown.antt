@@ -103,7 +103,7 @@ unfolding Coded readTy
 read-coded ns s c t q e l = (omega arith, code-read ns s c l ∙ ap readTy e)
 
 -- the code 1 is Bool's
-coded-one : (ns : List Name) (s : List ℕ) (c : ℕ) (t : Ty) → Coded ns s c (some t) → c < 2 → t ≡ tBool
+pub coded-one : (ns : List Name) (s : List ℕ) (c : ℕ) (t : Ty) → Coded ns s c (some t) → c < 2 → t ≡ tBool
 unfolding Coded typeAt orBool
 coded-one ns s c t e l =
     let k : c ≡ 1 = let m = e .0 in omega arith in

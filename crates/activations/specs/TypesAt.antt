@@ -101,6 +101,12 @@ startExpr ns sr.Missing = none
 startExpr ns (sr.Literal tag) = some (eConst (zeroOf tag))
 startExpr ns (sr.Name v) = some (eVar (nameAt ns v))
 
+-- the name of a start is one of the pack
+unfoldable pub StartIn : List Name → Start → Type 0
+StartIn ns sr.Missing = Unit {0}
+StartIn ns (sr.Literal tag) = Unit {0}
+StartIn ns (sr.Name v) = v < length ns
+
 unfoldable pub isMissing : Start → Bool
 isMissing sr.Missing = true
 isMissing (sr.Literal tag) = false
