@@ -27,3 +27,4 @@ pub mod IdLaws
 pub mod TypeLaws
 pub mod TypesKnown
 pub mod Starts
+pub mod SoughtLaws

@@ -34,3 +34,4 @@ pub mod UnlastAt
 pub mod Ids
 pub mod TypeCodes
 pub mod TypesAt
+pub mod SoughtAt

@@ -11,3 +11,4 @@ pub mod guards; // guards, and the locals of flags and guards
 pub mod merges; // outputs, merged from the scopes
 pub mod unlast; // expressions with calls of `last` replaced
 pub mod types; // the types of variables
+pub mod seek; // the variables that calls of `last` ask for
