@@ -28,3 +28,4 @@ pub mod TypeLaws
 pub mod TypesKnown
 pub mod Starts
 pub mod SoughtLaws
+pub mod HoldLaws

@@ -35,3 +35,4 @@ pub mod Ids
 pub mod TypeCodes
 pub mod TypesAt
 pub mod SoughtAt
+pub mod HoldAt

@@ -12,3 +12,5 @@ pub mod merges; // outputs, merged from the scopes
 pub mod unlast; // expressions with calls of `last` replaced
 pub mod types; // the types of variables
 pub mod seek; // the variables that calls of `last` ask for
+pub mod ids; // names by number
+pub mod hold; // holders made known

@@ -28,7 +28,7 @@ fn put_start(out: &mut [u8], w: Writer, a: &[u8]) -> Writer
 }
 
 // The text of the name of the holder of v.
-fn put_last_text(out: &mut [u8], w: Writer, a: &[u8], v: &[u8]) -> Writer
+pub fn put_last_text(out: &mut [u8], w: Writer, a: &[u8], v: &[u8]) -> Writer
     ensures { λ r. ⌜ ((m : List ℕ) → stateOf (now (out .exit)) m r ≡ puts (lastVar (now (a .entry)) (now (v .entry))) (stateOf (now (out .entry)) m w)) ⌝ }
 {
     let b = put_start(out, w, a);
