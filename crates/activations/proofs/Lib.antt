@@ -29,3 +29,7 @@ pub mod TypesKnown
 pub mod Starts
 pub mod SoughtLaws
 pub mod HoldLaws
+pub mod RowsNoted
+pub mod IdsKnown
+pub mod Keeping
+pub mod SoughtFound

@@ -1,18 +1,23 @@
 -- The variables that calls of `last` ask for, as the code finds them: rows of three words in a table, each with a variable's index,
 -- where its initial value stands (0 where none is given), and a third word that is set later.
-use Prim.Native.Nat.{ℕ, zero, suc, _+_, _*_}
-use mathlib.Core.List.{List}
+use Prim.Native.Nat.{ℕ, zero, suc, _+_, _*_, _<_}
+use mathlib.Core.List.{List, [], _∷_}
 use mathlib.Core.Bool.{cond}
-use lib.ListN.{getD}
+use mathlib.Core.Option.{Option}
+use mathlib.Core.Path.{_≡_}
+use lib.ListN.{getD, length}
 use lib.Dec.{eqb, ltb}
 use Rattle.pack.specs.Names.{Name}
+use Rattle.pack.specs.Syntax.{Expr}
+use Rattle.pack.specs.Forms.{nameAt}
 use Rattle.machines.specs.Sure.{numberIn, with}
 use Rattle.activations.specs.declared.met.Met.{Met}
 use Rattle.activations.specs.declared.met.Met.the-variants as mt
 use Rattle.activations.specs.declared.parts.Act.{Act}
 use Rattle.activations.specs.Cells.{putT}
 use Rattle.activations.specs.Places.{bodyIn, branchEnd, eachOf, equationEnd, rightSideIn}
-use Rattle.activations.specs.Walks.{walked}
+use Rattle.activations.specs.Sought.{Sought}
+use Rattle.activations.specs.Walks.{InitAt, walked}
 
 -- the table, and how many rows it has
 pub record Rows : Type 0 where
@@ -85,3 +90,16 @@ module _ (ns : List Name) (s : List ℕ) (last : ℕ) where
   -- in all expressions of an activation
   unfoldable pub seekAllT : Act → Rows → Rows
   seekAllT a z = seekScopeT (a .other) (eachBranchT ns s seekBodyT (a .branches) (eachBranchT ns s seekConditionT (a .branches) z))
+
+-- where the initial value of a row stands, if it has one
+unfoldable pub RowInit : List Name → List ℕ → Option Expr → ℕ → Type 0
+RowInit ns s i w = (next : ℕ) × InitAt ns s i w next
+
+-- the row h is that of a variable that is sought
+unfoldable pub RowIs : List Name → List ℕ → List ℕ → ℕ → Sought → Type 0
+RowIs ns s t h x = (wordT t h 0 < length ns) × (nameAt ns (wordT t h 0) ≡ x .var) × RowInit ns s (x .init) (wordT t h 1)
+
+-- rows from h on
+unfoldable pub RowsFrom : List Name → List ℕ → List ℕ → ℕ → List Sought → Type 0
+RowsFrom ns s t h [] = Unit {0}
+RowsFrom ns s t h (x ∷ xs) = RowIs ns s t h x × RowsFrom ns s t (suc h) xs
