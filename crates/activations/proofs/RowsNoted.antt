@@ -193,3 +193,16 @@ note-length v init z = first (ltb (rowT (z .table) v (z .count) 0) (z .count))
     first : (b : Bool) → length ((cond b (rowsOf (cond (eqb (wordT (z .table) h 1) 0) (putT (z .table) (3 * h + 1) init) (z .table)) (z .count)) (cond (ltb (z .count) maxRows) (rowsOf (putT (putT (z .table) (3 * z .count + 0) v) (3 * z .count + 1) init) (z .count + 1)) z)) .table) ≡ length (z .table)
     first true = given (eqb (wordT (z .table) h 1) 0)
     first false = more (ltb (z .count) maxRows)
+
+-- at most one row more
+pub note-count : (v init : ℕ) (z : Rows) → noteT v init z .count ≤ z .count + 1
+unfolding noteT noteRow rowMore
+note-count v init z = first (ltb (rowT (z .table) v (z .count) 0) (z .count))
+  where
+    more : (b : Bool) → (cond b (rowsOf (putT (putT (z .table) (3 * z .count + 0) v) (3 * z .count + 1) init) (z .count + 1)) z) .count ≤ z .count + 1
+    more true = omega arith
+    more false = omega arith
+
+    first : (b : Bool) → (cond b (rowsOf (initT (rowT (z .table) v (z .count) 0) init (z .table)) (z .count)) (cond (ltb (z .count) maxRows) (rowsOf (putT (putT (z .table) (3 * z .count + 0) v) (3 * z .count + 1) init) (z .count + 1)) z)) .count ≤ z .count + 1
+    first true = omega arith
+    first false = more (ltb (z .count) maxRows)
