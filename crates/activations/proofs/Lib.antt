@@ -33,3 +33,4 @@ pub mod RowsNoted
 pub mod IdsKnown
 pub mod Keeping
 pub mod SoughtFound
+pub mod HoldKnown

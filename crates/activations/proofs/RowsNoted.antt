@@ -27,7 +27,7 @@ use Rattle.activations.specs.SoughtAt.{RowInit, RowIs, Rows, RowsFrom, i
 unfoldable noteTable : ℕ → ℕ → ℕ → ℕ → List ℕ → List ℕ
 noteTable top r v init t = cond (ltb r top) (initT r init t) (putT (putT t (3 * r + 0) v) (3 * r + 1) init)
 
-put-other : (t : List ℕ) (i v j : ℕ) → (j ≡ i → ⊥) → getD (putT t i v) j 0 ≡ getD t j 0
+pub put-other : (t : List ℕ) (i v j : ℕ) → (j ≡ i → ⊥) → getD (putT t i v) j 0 ≡ getD t j 0
 unfolding putT
 put-other t i v j n = getD-set-other t i j (v % 65536) 0 n
 

@@ -36,3 +36,5 @@ pub mod TypeCodes
 pub mod TypesAt
 pub mod SoughtAt
 pub mod HoldAt
+pub mod HeldAs
+pub mod HoldersAt
