@@ -34,3 +34,4 @@ pub mod IdsKnown
 pub mod Keeping
 pub mod SoughtFound
 pub mod HoldKnown
+pub mod HolderLaws

@@ -106,9 +106,10 @@ module _ (ns : List Name) (s : List ℕ) where
         let k : 3 * h + 1 < length t = omega arith in
         let a : wordT (initT h init t) h 0 ≡ wordT t h 0 = init-other h init t (3 * h + 0) (λ z. omega arith) in
         record {
-          rows = rw (g, lt-ltb h top (omega arith))
-              ((subst (λ y. y < length ns) (sym a) (r .0), ap (nameAt ns) a ∙ r .1, subst (RowInit ns s (firstOf (x .init) i)) (sym (init-word h init t k low)) (first-init (x .init) i (wordT t h 1) init (r .2) given)),
-              rows-same t (initT h init t) (suc h) xs (λ j l. (init-other h init t (3 * j + 0) (λ z. omega arith), init-other h init t (3 * j + 1) (λ z. omega arith))) rs);
+          rows = rw (g, lt-ltb h top (omega arith)) (
+            (subst (λ y. y < length ns) (sym a) (r .0), ap (nameAt ns) a ∙ r .1, subst (RowInit ns s (firstOf (x .init) i)) (sym (init-word h init t k low)) (first-init (x .init) i (wordT t h 1) init (r .2) given)),
+            rows-same t (initT h init t) (suc h) xs (λ j l. (init-other h init t (3 * j + 0) (λ z. omega arith), init-other h init t (3 * j + 1) (λ z. omega arith))) rs,
+          );
           many = rw (g, lt-ltb h top (omega arith)) e;
           from = omega arith;
           to = omega arith;
@@ -155,9 +156,11 @@ module _ (ns : List Name) (s : List ℕ) where
     new-noted : (r : ℕ) (xs : List Sought) → top ≤ r → Noted 0 r xs → RowsFrom ns s (putT (putT t (3 * top + 0) v) (3 * top + 1) init) 0 (note (nameAt ns v) i xs) × (top + 1 ≡ length (note (nameAt ns v) i xs))
     unfolding noteTable
     new-noted r xs l n =
-        let e : r ≡ top = let k = n .to in omega arith in
-        (subst (λ y. RowsFrom ns s (putT (putT t (3 * y + 0) v) (3 * y + 1) init) 0 (note (nameAt ns v) i xs)) e
-        (subst (λ b. RowsFrom ns s (cond b (initT r init t) (putT (putT t (3 * r + 0) v) (3 * r + 1) init)) 0 (note (nameAt ns v) i xs)) (le-ltb r top l) (n .rows)), let g : 0 + length (note (nameAt ns v) i xs) ≡ top + 1 = n .many ∙ ap (λ b. cond b top (top + 1)) (le-ltb r top l) in omega arith)
+        let e : r ≡ top = let k = n .to in omega arith in (
+          subst (λ y. RowsFrom ns s (putT (putT t (3 * y + 0) v) (3 * y + 1) init) 0 (note (nameAt ns v) i xs)) e
+              (subst (λ b. RowsFrom ns s (cond b (initT r init t) (putT (putT t (3 * r + 0) v) (3 * r + 1) init)) 0 (note (nameAt ns v) i xs)) (le-ltb r top l) (n .rows)),
+          let g : 0 + length (note (nameAt ns v) i xs) ≡ top + 1 = n .many ∙ ap (λ b. cond b top (top + 1)) (le-ltb r top l) in omega arith,
+        )
 
     -- the rows are those of the list
     abbrev RowsAre : Rows → List Sought → Type 0

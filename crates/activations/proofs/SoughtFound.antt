@@ -245,11 +245,12 @@ module _ (ns : List Name) (fresh : Fresh [] ns) (few : length ns < 65536) (s : L
       let w = equations-on n (a .0) xs q (a .2) in
       let f = expr-found (r .to-rhs) (x .rhs) (a .0) z hs k (r .rhs) (omega arith) h in
       let g = found-more _ (sought (x .rhs) hs) (k + (a .0 - r .to-rhs)) (k + (a .0 - at)) (omega arith) f in
-      let u = equations-found n (a .0) xs q (seekT ns s last (r .to-rhs) z) (sought (x .rhs) hs) (k + (a .0 - at)) (a .2) (omega arith) g in
-      (omega arith,
-      subst (λ y. Found ns s (eachOf (seekEquationT ns s last) (equationEnd ns s) n y (seekEquationT ns s last at z)) (found (rightSides xs) (sought (x .rhs) hs)) (k + (q - at))) (sym (equation-end-to ns s at x (a .0) r))
-      (subst (λ y. Found ns s (eachOf (seekEquationT ns s last) (equationEnd ns s) n (a .0) y) (found (rightSides xs) (sought (x .rhs) hs)) (k + (q - at))) (sym (equation-at at z ∙ ap (λ y. seekT ns s last y z) (right-side-to ns s at x (a .0) r)))
-      (found-more _ (found (rightSides xs) (sought (x .rhs) hs)) (k + (a .0 - at) + (q - a .0)) (k + (q - at)) (omega arith) (u .1))))
+      let u = equations-found n (a .0) xs q (seekT ns s last (r .to-rhs) z) (sought (x .rhs) hs) (k + (a .0 - at)) (a .2) (omega arith) g in (
+        omega arith,
+        subst (λ y. Found ns s (eachOf (seekEquationT ns s last) (equationEnd ns s) n y (seekEquationT ns s last at z)) (found (rightSides xs) (sought (x .rhs) hs)) (k + (q - at))) (sym (equation-end-to ns s at x (a .0) r))
+            (subst (λ y. Found ns s (eachOf (seekEquationT ns s last) (equationEnd ns s) n (a .0) y) (found (rightSides xs) (sought (x .rhs) hs)) (k + (q - at))) (sym (equation-at at z ∙ ap (λ y. seekT ns s last y z) (right-side-to ns s at x (a .0) r)))
+            (found-more _ (found (rightSides xs) (sought (x .rhs) hs)) (k + (a .0 - at) + (q - a .0)) (k + (q - at)) (omega arith) (u .1))),
+      )
 
   pub scope-found : (at : ℕ) (xs : List Equation) (q : ℕ) (z : Rows) (hs : List Sought) (k : ℕ) → equationsIn ns s at ≡ value xs q → k + (q - at) ≤ 65536 → Found ns s z hs k → Found ns s (seekScopeT ns s last at z) (found (rightSides xs) hs) (k + (q - at))
   unfolding seekScopeT equationsIn
@@ -353,9 +354,10 @@ module _ (ns : List Name) (fresh : Fresh [] ns) (few : length ns < 65536) (s : L
       let v = eachOf (seekBodyT ns s last) (branchEnd ns s) (length (x .branches)) (r .b) u in
       let h = scope-found (r .to-else) (x .otherwise) q v (found (bodies (x .branches)) (found (conditions (x .branches)) [])) (0 + b .c + b .d) (r .otherwise) (omega arith) g in
       let m : seekAllT ns s last (actAt ns s at) z ≡ seekScopeT ns s last (r .to-else) v =
-          ap (λ a. seekAllT ns s last a z) (act-to ns s at x q r .3)
-          ∙ (λ j. seekScopeT ns s last (r .to-else) (number-to s (r .to-branches) (length (x .branches)) (r .b) (λ n p. eachOf (seekBodyT ns s last) (branchEnd ns s) n p (number-to s (r .to-branches) (length (x .branches)) (r .b) (λ n p. eachOf (seekConditionT ns s last) (branchEnd ns s) n p z) (r .count) j)) (r .count) j)) in
+      ap (λ a. seekAllT ns s last a z) (act-to ns s at x q r .3)
+      ∙ (λ j. seekScopeT ns s last (r .to-else) (number-to s (r .to-branches) (length (x .branches)) (r .b) (λ n p. eachOf (seekBodyT ns s last) (branchEnd ns s) n p (number-to s (r .to-branches) (length (x .branches)) (r .b) (λ n p. eachOf (seekConditionT ns s last) (branchEnd ns s) n p z) (r .count) j)) (r .count) j)) in
       let w : found (conditions (x .branches) ++ (bodies (x .branches) ++ rightSides (x .otherwise))) [] ≡ found (rightSides (x .otherwise)) (found (bodies (x .branches)) (found (conditions (x .branches)) [])) =
-          found-append (conditions (x .branches)) (bodies (x .branches) ++ rightSides (x .otherwise)) [] ∙ found-append (bodies (x .branches)) (rightSides (x .otherwise)) (found (conditions (x .branches)) []) in
-      (subst (λ a. RowsFrom ns s (a .table) 0 (found (conditions (x .branches) ++ (bodies (x .branches) ++ rightSides (x .otherwise))) [])) (sym m) (subst (RowsFrom ns s (seekScopeT ns s last (r .to-else) v .table) 0) (sym w) (h .0)),
-      ap (λ a. a .count) m ∙ h .1 ∙ ap length (sym w))
+      found-append (conditions (x .branches)) (bodies (x .branches) ++ rightSides (x .otherwise)) [] ∙ found-append (bodies (x .branches)) (rightSides (x .otherwise)) (found (conditions (x .branches)) []) in (
+        subst (λ a. RowsFrom ns s (a .table) 0 (found (conditions (x .branches) ++ (bodies (x .branches) ++ rightSides (x .otherwise))) [])) (sym m) (subst (RowsFrom ns s (seekScopeT ns s last (r .to-else) v .table) 0) (sym w) (h .0)),
+        ap (λ a. a .count) m ∙ h .1 ∙ ap length (sym w),
+      )

@@ -98,8 +98,8 @@ module _ (ns : List Name) (fresh : Fresh [] ns) (few : length ns < 65536) (s : L
   variant-read x p e q r o l d h =
       let k = enum-read ns s p e q d in
       let g : with (numberIn s p) (λ i q. with (numberIn s q) λ k v. cond (eqb i x) (variantOr s k v r) r) ≡ cond (eqb (k .i) x) (variantOr s (length (e .variants)) (k .b) r) r =
-          number-to s p (k .i) (k .to) (λ i q. with (numberIn s q) λ k v. cond (eqb i x) (variantOr s k v r) r) (k .is)
-          ∙ number-to s (k .to) (length (e .variants)) (k .b) (λ j v. cond (eqb (k .i) x) (variantOr s j v r) r) (k .count) in
+      number-to s p (k .i) (k .to) (λ i q. with (numberIn s q) λ k v. cond (eqb i x) (variantOr s k v r) r) (k .is)
+      ∙ number-to s (k .to) (length (e .variants)) (k .b) (λ j v. cond (eqb (k .i) x) (variantOr s j v r) r) (k .count) in
       let a = alone ns fresh x (k .i) l (k .small) in
       subst (λ y. Varies y (firstOf (cond (eqName (e .name) (nameAt ns x)) (firstName (e .variants)) none) o)) (sym g)
       (subst (λ y. Varies (cond (eqb (k .i) x) (variantOr s (length (e .variants)) (k .b) r) r) (firstOf (cond y (firstName (e .variants)) none) o)) (sym a ∙ ap (λ y. eqName y (nameAt ns x)) (k .named))

@@ -296,9 +296,9 @@ module _ (ns : List Name) (fresh : Fresh [] ns) (few : length ns < 65536) (s : L
         let a = ports-length (r .to-inputs) t in
         let b = ports-length (r .to-outputs) u in
         let g : portsT ns s (portsEnd ns s (portsEnd ns s i)) (portsT ns s (portsEnd ns s i) (portsT ns s i t)) ≡ portsT ns s (r .to-locals) v =
-            (λ j. portsT ns s (portsEnd ns s (portsEnd ns s (e j))) (portsT ns s (portsEnd ns s (e j)) (portsT ns s (e j) t)))
-            ∙ (λ j. portsT ns s (portsEnd ns s (o j)) (portsT ns s (o j) u))
-            ∙ (λ j. portsT ns s (k j) v) in
+        (λ j. portsT ns s (portsEnd ns s (portsEnd ns s (e j))) (portsT ns s (portsEnd ns s (e j)) (portsT ns s (e j) t)))
+        ∙ (λ j. portsT ns s (portsEnd ns s (o j)) (portsT ns s (o j) u))
+        ∙ (λ j. portsT ns s (k j) v) in
         subst (λ y. TypesAre ns s y (λ m. firstOf (lastTyped (x .locals) m) (firstOf (lastTyped (x .outputs) m) (firstOf (lastTyped (x .inputs) m) (f m))))) (sym g)
         (ports-typed (r .to-locals) (x .locals) (r .to-equations) v (λ m. firstOf (lastTyped (x .outputs) m) (firstOf (lastTyped (x .inputs) m) (f m))) (r .locals) (omega arith)
         (ports-typed (r .to-outputs) (x .outputs) (r .to-locals) u (λ m. firstOf (lastTyped (x .inputs) m) (f m)) (r .outputs) (omega arith)
@@ -339,7 +339,7 @@ module _ (ns : List Name) (fresh : Fresh [] ns) (few : length ns < 65536) (s : L
         let r = port-read ns s p x q e in
         let c : r .to % 65536 ≡ r .to = mod-eq-of-lt (let i = type-inside (r .to) (x .ty) q (r .type) in omega arith) in
         let g : with (numberIn s p) (λ i j. cond (eqb (getD t i 0) 0) (set t i (j % 65536)) t) ≡ cond (eqb (getD t (r .i) 0) 0) (set t (r .i) (r .to)) t =
-            then-to (numberIn s p) (r .i) (r .to) (λ i j. cond (eqb (getD t i 0) 0) (set t i (j % 65536)) t) (r .is) ∙ ap (λ j. cond (eqb (getD t (r .i) 0) 0) (set t (r .i) j) t) c in
+        then-to (numberIn s p) (r .i) (r .to) (λ i j. cond (eqb (getD t i 0) 0) (set t i (j % 65536)) t) (r .is) ∙ ap (λ j. cond (eqb (getD t (r .i) 0) 0) (set t (r .i) j) t) c in
         let d = alone ns fresh y (r .i) k (r .small) in
         subst (λ u. Coded ns s (getD u y 0) (firstOf (f (nameAt ns y)) (cond (eqName (x .name) (nameAt ns y)) (some (x .ty)) none))) (sym g)
         (subst (λ u. Coded ns s (getD (cond (eqb (getD t (r .i) 0) 0) (set t (r .i) (r .to)) t) y 0) (firstOf (f (nameAt ns y)) (cond u (some (x .ty)) none))) (sym d ∙ ap (λ u. eqName u (nameAt ns y)) (r .named))

@@ -14,3 +14,4 @@ pub mod types; // the types of variables
 pub mod seek; // the variables that calls of `last` ask for
 pub mod ids; // names by number
 pub mod hold; // holders made known
+pub mod holders; // the equations of holders
