@@ -35,3 +35,4 @@ pub mod Keeping
 pub mod SoughtFound
 pub mod HoldKnown
 pub mod HolderLaws
+pub mod HolderWritten
