@@ -1,12 +1,10 @@
 -- What the code writes of a holder's row is the holder's equation.
-use Prim.Native.Nat.{ℕ, _+_, _-_, _<_, _≤_}
+use Prim.Native.Nat.{ℕ, _-_, _<_}
 use native.Mathlib.Omega.{arith}
-use mathlib.Core.List.{List, [], _∷_, _++_, append-nil}
-use mathlib.Core.Bool.{cond}
+use mathlib.Core.List.{List, [], _∷_, append-nil}
 use mathlib.Core.Option.{Option, none, some}
 use mathlib.Core.Path.{_≡_, refl, sym, ap, subst, _∙_}
 use lib.ListN.{length, getD, take, drop}
-use lib.Dec.{eqb}
 use borrow.Author.Tests.{eq-eqb, ne-eqb}
 use Rattle.wire.specs.Answer.{counted, value}
 use Rattle.wire.specs.Bytes.{two}
@@ -16,15 +14,14 @@ use Rattle.pack.specs.Names.{Name}
 use Rattle.pack.specs.Report.{firstOf}
 use Rattle.pack.specs.Syntax.{Enum, Expr, Ty, eArrow, eConst, ePre, eVar}
 use Rattle.pack.specs.Forms.{nameAt}
-use Rattle.pack.specs.Legal.{Each, Fresh, Known, LegalName, place}
+use Rattle.pack.specs.Legal.{Each, Fresh, LegalName, place}
 use Rattle.pack.specs.Read.{enumIn, exprIn}
-use Rattle.pack.specs.Write.{Item, each, enc, equationItems, exprItems, list, litBytes, nameItems, nm, raw}
+use Rattle.pack.specs.Write.{each, enc, equationItems, exprItems, list, litBytes, nameItems, nm, raw}
 use Rattle.pack.specs.Intern.{putItem, putName, render}
 use Rattle.pack.proofs.Copies.{copied-expr, render-known}
 use Rattle.pack.proofs.Interns.{render-append}
 use Rattle.pack.proofs.Tables.{code, place-at-name}
 use Rattle.machines.specs.Laid.{sliceOf}
-use Rattle.machines.specs.Stands.{endOf}
 use Rattle.machines.specs.Emits.{packName}
 use Rattle.machines.proofs.SureLaws.{end-to}
 use Rattle.activations.specs.declared.base.Base.{Base}

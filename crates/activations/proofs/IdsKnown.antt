@@ -1,22 +1,20 @@
 -- The numbers that the code computes for holders are those of the definition.
-use Prim.Native.Nat.{ℕ, zero, suc, _+_, _<_, _≤_, zero-le}
+use Prim.Native.Nat.{ℕ, suc, _+_, _<_, _≤_, zero-le}
 use native.Mathlib.Omega.{arith}
-use mathlib.Core.List.{List, [], _∷_, _++_}
+use mathlib.Core.List.{List, [], _∷_}
 use mathlib.Core.Bool.{Bool, true, false, cond}
 use mathlib.Core.Logic.{⊎-elim}
-use mathlib.Core.Path.{_≡_, refl, sym, ap, subst, _∙_}
+use mathlib.Core.Path.{_≡_, refl, sym, ap, _∙_}
 use lib.ListN.{length}
-use lib.Dec.{leb}
 use borrow.Author.Tests.{le-leb, lt-leb}
 use Rattle.wire.specs.Lists.{All}
-use Rattle.wire.specs.Writer.{State, full, puts, st}
+use Rattle.wire.specs.Writer.{full, puts, st}
 use Rattle.wire.proofs.Writers.{lt-or-le, puts-fit}
 use Rattle.pack.specs.Names.{Name, eqName}
 use Rattle.pack.specs.Forms.{nameAt}
 use Rattle.pack.specs.Legal.{LegalName, place}
 use Rattle.pack.specs.Write.{enc}
-use Rattle.pack.specs.Intern.{table}
-use Rattle.pack.proofs.Tables.{eqName-refl, eqName-true}
+use Rattle.pack.proofs.Tables.{eqName-true}
 use Rattle.pack.proofs.Written.{table-enc}
 use Rattle.machines.specs.Laid.{sliceOf}
 use Rattle.machines.specs.Emits.{packName}

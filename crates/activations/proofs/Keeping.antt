@@ -12,7 +12,7 @@ use Rattle.pack.specs.Names.{Name}
 use Rattle.pack.specs.Syntax.{Expr}
 use Rattle.pack.specs.Read.{exprIn}
 use Rattle.machines.proofs.Reading.{many-cut, many-end, many-more, many-over}
-use Rattle.activations.specs.Met.{metAt, onwardT, openT}
+use Rattle.activations.specs.Met.{metAt, onwardT}
 use Rattle.activations.specs.Walks.{LastIs, through, walkT, walked}
 use Rattle.activations.proofs.NodesRead.{expr-moves, fwd-expr, many-both, many-joined, many-none, many-room}
 use Rattle.activations.proofs.Views.{View, toCome, viewed}

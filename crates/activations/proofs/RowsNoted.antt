@@ -7,10 +7,10 @@ use mathlib.Core.Bool.{Bool, true, false, cond}
 use mathlib.Core.Logic.{⊎-elim}
 use mathlib.Core.Option.{Option, none, some}
 use mathlib.Core.Path.{_≡_, refl, sym, ap, subst, _∙_}
-use lib.ListN.{length, getD, set, length-set}
+use lib.ListN.{length, getD, length-set}
 use lib.Seq.{getD-set-same, getD-set-other}
 use lib.Dec.{eqb, ltb}
-use borrow.Author.Tests.{eq-eqb, eqb-false, eqb-true, le-ltb, lt-ltb, ne-eqb}
+use borrow.Author.Tests.{eqb-true, le-ltb, lt-ltb, ne-eqb}
 use Rattle.wire.proofs.Writers.{lt-or-le}
 use Rattle.pack.specs.Names.{Name, eqName}
 use Rattle.pack.specs.Report.{firstOf}

@@ -18,7 +18,7 @@ use Rattle.pack.specs.Forms.{nameAt}
 use Rattle.pack.specs.Legal.{Fresh}
 use Rattle.pack.specs.Read.{activationIn, branchIn, equationIn, equationsIn, exprIn, nameIn, namesIn}
 use Rattle.pack.specs.Write.{exprItems, exprsItems}
-use Rattle.pack.proofs.Copies.{Lies, lies-equations, lies-expr}
+use Rattle.pack.proofs.Copies.{lies-equations, lies-expr}
 use Rattle.pack.proofs.Tables.{code, code-append}
 use Rattle.machines.specs.Sure.{numberIn}
 use Rattle.machines.proofs.Reading.{many-cut, many-end, many-more, many-over, name-number}

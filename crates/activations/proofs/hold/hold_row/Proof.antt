@@ -1,5 +1,4 @@
 use borrow.Author.Needs.{needs}
-use native.Mathlib.Omega.{arith}
 use Rattle.activations.proofs.HoldLaws.{row-known, row-needs, row-unknown}
 use borrow.Author.Needs.{needs}
 use Rattle.activations.proofs.hold.hold_row.Statement.{statement}

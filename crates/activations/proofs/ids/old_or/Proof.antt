@@ -1,5 +1,4 @@
 use borrow.Author.Needs.{needs}
-use native.Mathlib.Omega.{arith}
 use Rattle.activations.proofs.HoldLaws.{old-is, other-is}
 use borrow.Author.Needs.{needs}
 use Rattle.activations.proofs.ids.old_or.Statement.{statement}

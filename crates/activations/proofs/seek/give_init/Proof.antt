@@ -1,5 +1,4 @@
 use borrow.Author.Needs.{needs}
-use native.Mathlib.Omega.{arith}
 use Rattle.activations.proofs.SoughtLaws.{init-kept, init-put}
 use borrow.Author.Needs.{needs}
 use Rattle.activations.proofs.seek.give_init.Statement.{statement}

@@ -1,5 +1,4 @@
 use borrow.Author.Needs.{needs}
-use native.Mathlib.Omega.{arith}
 use Rattle.activations.proofs.SoughtLaws.{note-new, note-old}
 use borrow.Author.Needs.{needs}
 use Rattle.activations.proofs.seek.note.Statement.{statement}

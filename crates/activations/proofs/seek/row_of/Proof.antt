@@ -1,7 +1,7 @@
 use borrow.Author.Needs.{needs}
 use Prim.Native.Nat.{_-_, _≤_}
 use native.Mathlib.Omega.{arith}
-use mathlib.Core.Path.{_≡_, refl}
+use mathlib.Core.Path.{_≡_}
 use Rattle.activations.specs.SoughtAt.{rowT}
 use Rattle.activations.proofs.SoughtLaws.{row-here, row-none, row-on, row-start}
 use Rattle.activations.proofs.seek.row_of.Statement.{statement}
