@@ -39,3 +39,12 @@ pub mod ReadLaws
 pub mod RewriteLaws
 pub mod LocalLaws
 pub mod ScopeLocalLaws
+pub mod SoughtLaws
+pub mod HoldLaws
+pub mod RowsNoted
+pub mod IdsKnown
+pub mod Keeping
+pub mod SoughtFound
+pub mod HoldKnown
+pub mod HolderLaws
+pub mod HolderWritten

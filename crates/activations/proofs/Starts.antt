@@ -1,15 +1,15 @@
 -- What a holder starts from, read off a type's bytes, is what the definition says.
-use Prim.Native.Nat.{ℕ, zero, suc, _+_, _<_, _≤_}
+use Prim.Native.Nat.{ℕ, zero, suc, _<_, _≤_}
 use native.Mathlib.Omega.{arith}
 use mathlib.Core.List.{List, [], _∷_, _++_}
 use mathlib.Core.Bool.{Bool, true, false, cond}
 use mathlib.Core.Logic.{⊎-elim}
 use mathlib.Core.Option.{Option, none, some}
 use mathlib.Core.Path.{_≡_, refl, sym, ap, subst, _∙_}
-use lib.ListN.{length, getD, drop}
+use lib.ListN.{length, drop}
 use lib.Dec.{eqb}
-use borrow.Author.Tests.{eq-eqb, le-ltb, lt-ltb, ne-eqb}
-use Rattle.wire.specs.Answer.{byte, counted, many, u16, value}
+use borrow.Author.Tests.{le-ltb, lt-ltb, ne-eqb}
+use Rattle.wire.specs.Answer.{counted, many, u16, value}
 use Rattle.wire.specs.Bytes.{bytes, two}
 use Rattle.wire.specs.Lists.{Bytes}
 use Rattle.wire.proofs.Answers.{bind-value, map-value}
@@ -19,16 +19,16 @@ use Rattle.pack.specs.Names.{Name, eqName}
 use Rattle.pack.specs.Report.{firstOf}
 use Rattle.pack.specs.Syntax.{Enum, Expr, Ty, eVar, tArray, tBool, tChar, tFloat32, tFloat64, tInt16, tInt32, tInt64, tInt8, tNamed, tUint16, tUint32, tUint64, tUint8}
 use Rattle.pack.specs.Forms.{nameAt}
-use Rattle.pack.specs.Legal.{Each, Fresh, Known, place}
+use Rattle.pack.specs.Legal.{Each, Fresh, place}
 use Rattle.pack.specs.Read.{enumIn, nameIn, namesIn, typeIn}
-use Rattle.pack.specs.Write.{Item, nm, one, raw, tyItems}
+use Rattle.pack.specs.Write.{one, tyItems}
 use Rattle.pack.proofs.Copies.{Lies}
-use Rattle.pack.proofs.Tables.{code, eqName-refl, name-at-place}
+use Rattle.pack.proofs.Tables.{code, name-at-place}
 use Rattle.machines.specs.Stands.{endOf}
-use Rattle.machines.specs.Sure.{byteIn, num, numberIn, with}
+use Rattle.machines.specs.Sure.{numberIn, with}
 use Rattle.machines.proofs.NamesPlaced.{alone}
 use Rattle.machines.proofs.Reading.{many-cut, many-more, many-over, name-number}
-use Rattle.machines.proofs.SureLaws.{byte-to, end-to, number-num, number-to, then-to}
+use Rattle.machines.proofs.SureLaws.{byte-to, end-to, number-num, number-to}
 use Rattle.activations.specs.declared.types.Start.{Start}
 use Rattle.activations.specs.declared.types.Start.the-variants as sr
 use Rattle.activations.specs.Places.{eachOf}

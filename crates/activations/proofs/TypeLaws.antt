@@ -2,12 +2,11 @@
 use Prim.Native.Nat.{ℕ, _-_, _%_, _<_, _≤_}
 use native.Mathlib.Omega.{arith}
 use mathlib.Core.List.{List, [], _∷_}
-use mathlib.Core.Bool.{true, false, cond}
+use mathlib.Core.Bool.{true, false}
 use mathlib.Core.Logic.{⊎-elim}
 use mathlib.Core.Path.{_≡_, refl, sym, ap, _∙_}
 use lib.ListN.{getD, set}
-use lib.Dec.{eqb, ltb}
-use borrow.Author.Tests.{eq-eqb, le-ltb, lt-ltb, ne-eqb}
+use borrow.Author.Tests.{le-ltb, lt-ltb, ne-eqb}
 use types.Run.{OneOf}
 use denote.Enum.Declared.{tagOf}
 use Rattle.wire.specs.Answer.{byte}
@@ -15,11 +14,11 @@ use Rattle.wire.specs.Code.{readOf}
 use Rattle.wire.specs.Writer.{State, put, puts}
 use Rattle.wire.specs.declared.answer.Read.{Read}
 use Rattle.pack.specs.Names.{Name}
-use Rattle.pack.specs.Read.{namesIn, portIn, typeIn}
+use Rattle.pack.specs.Read.{portIn, typeIn}
 use Rattle.machines.specs.declared.sure.Num.{Num}
 use Rattle.machines.specs.Laid.{sliceOf}
 use Rattle.machines.specs.Stands.{endOf}
-use Rattle.machines.specs.Sure.{byteIn, numberIn, sureOf, with}
+use Rattle.machines.specs.Sure.{numberIn, sureOf}
 use Rattle.machines.proofs.SureLaws.{byte-is, no, on, yes}
 use Rattle.activations.proofs.types.Start as Start-enum
 use Rattle.activations.specs.declared.types.Start.{Start}

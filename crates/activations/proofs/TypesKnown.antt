@@ -1,5 +1,5 @@
 -- Tables of types filled from a pack that was read have the types of its ports.
-use Prim.Native.Nat.{ℕ, zero, suc, _+_, _-_, _%_, _<_, _≤_}
+use Prim.Native.Nat.{ℕ, zero, suc, _+_, _%_, _<_, _≤_}
 use native.Mathlib.Omega.{arith}
 use native.Mathlib.Nat.{mod-eq-of-lt}
 use mathlib.Core.List.{List, [], _∷_, _++_}
@@ -9,9 +9,9 @@ use mathlib.Core.Option.{Option, none, some}
 use mathlib.Core.Path.{_≡_, refl, sym, ap, subst, _∙_}
 use lib.ListN.{length, getD, set, drop, length-append, length-set, length-drop}
 use lib.Seq.{getD-set-same, getD-set-other}
-use lib.Dec.{eqb, ltb}
-use borrow.Author.Tests.{eq-eqb, eqb-false, eqb-true, le-ltb, lt-ltb, ne-eqb}
-use Rattle.wire.specs.Answer.{Answer, below, byte, deep, early, illegal, many, u16, value}
+use lib.Dec.{eqb}
+use borrow.Author.Tests.{eqb-false, eqb-true, le-ltb, lt-ltb, ne-eqb}
+use Rattle.wire.specs.Answer.{Answer, below, byte, deep, early, illegal, many, value}
 use Rattle.wire.specs.Lists.{All, Bytes}
 use Rattle.wire.specs.Writer.{State, puts}
 use Rattle.wire.proofs.Answers.{bind-value, guard-value, map-value, u16-value}
@@ -20,16 +20,15 @@ use Rattle.pack.specs.Names.{Name, eqName}
 use Rattle.pack.specs.Report.{firstOf}
 use Rattle.pack.specs.Syntax.{Node, Port, Ty, tArray, tBool, tChar, tFloat32, tFloat64, tInt16, tInt32, tInt64, tInt8, tNamed, tUint16, tUint32, tUint64, tUint8}
 use Rattle.pack.specs.Forms.{nameAt}
-use Rattle.pack.specs.Legal.{Fresh, LegalName, ShapedTy, place}
+use Rattle.pack.specs.Legal.{Fresh, LegalName, ShapedTy}
 use Rattle.pack.specs.Read.{nameIn, nodeIn, portIn, portsIn, typeIn}
-use Rattle.pack.specs.Write.{enc, one, raw, tyItems}
+use Rattle.pack.specs.Write.{enc, one, tyItems}
 use Rattle.pack.specs.Intern.{putItem, render}
 use Rattle.pack.proofs.Bounds.{w-typeIn}
 use Rattle.pack.proofs.Copies.{Lies, lies-by, lies-copied}
-use Rattle.pack.proofs.Tables.{code, eqName-ne, eqName-refl, place-at-name}
+use Rattle.pack.proofs.Tables.{code}
 use Rattle.pack.proofs.TypeFormats.{fmtType}
 use Rattle.machines.specs.Laid.{sliceOf}
-use Rattle.machines.specs.Settling.{fillT}
 use Rattle.machines.specs.Stands.{endOf}
 use Rattle.machines.specs.Sure.{byteIn, num, numberIn, with}
 use Rattle.machines.proofs.NamesPlaced.{alone}

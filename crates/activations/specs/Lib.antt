@@ -42,3 +42,7 @@ pub mod NumbersAt
 pub mod ReadsAt
 pub mod RewriteAt
 pub mod LocalsAt
+pub mod SoughtAt
+pub mod HoldAt
+pub mod HeldAs
+pub mod HoldersAt

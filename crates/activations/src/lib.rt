@@ -19,3 +19,7 @@ pub mod reads; // what an equation of a scope reads
 pub mod rewrite; // right sides over samples
 pub mod locals; // locals, written, counted and left to the next activation
 pub mod scope_locals; // those of scopes
+pub mod seek; // the variables that calls of `last` ask for
+pub mod ids; // names by number
+pub mod hold; // holders made known
+pub mod holders; // the equations of holders

@@ -1,4 +1,3 @@
-use borrow.Author.Needs.{needs}
 use Rattle.activations.proofs.TypeLaws.{code-none, code-some}
 use Rattle.activations.proofs.types.code_or.Statement.{statement}
 use Rattle.activations.proofs.types.code_or.Tie as tie

@@ -1,4 +1,3 @@
-use borrow.Author.Needs.{needs}
 use Rattle.activations.proofs.TypeLaws.{plain-0, plain-10, plain-11, plain-12, plain-9, plain-other}
 use Rattle.activations.proofs.types.plain_start.Statement.{statement}
 use Rattle.activations.proofs.types.plain_start.Tie as tie
