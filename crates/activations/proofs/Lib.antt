@@ -23,3 +23,4 @@ pub mod Charts
 pub mod Examples
 pub mod UnlastLaws
 pub mod UnlastWritten
+pub mod NumberLaws

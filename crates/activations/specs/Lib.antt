@@ -33,3 +33,4 @@ pub mod ByNumber
 pub mod UnlastAt
 pub mod Ids
 pub mod TypeCodes
+pub mod NumbersAt

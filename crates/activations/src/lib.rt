@@ -10,3 +10,4 @@ pub mod terms; // variables of branches and clocks, written
 pub mod guards; // guards, and the locals of flags and guards
 pub mod merges; // outputs, merged from the scopes
 pub mod unlast; // expressions with calls of `last` replaced
+pub mod numbers; // names by number, written and found

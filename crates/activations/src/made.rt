@@ -3,7 +3,7 @@ use pack::intern::put_built;
 use wire::writer::Writer;
 use wire::writer::put_bytes;
 use wire::writer::put_digits;
-ghost use mathlib.Core.List.{List, _∷_, _++_};
+ghost use mathlib.Core.List.{List, [], _∷_, _++_};
 ghost use mathlib.Core.Path.{_≡_};
 ghost use Prim.Native.Nat.{ℕ, suc, _<_, _^_};
 ghost use Rattle.wire.specs.Decimal.{decimal};
@@ -28,7 +28,7 @@ fn put_start(out: &mut [u8], w: Writer, a: &[u8]) -> Writer
 }
 
 // The text of the name of the holder of v.
-fn put_last_text(out: &mut [u8], w: Writer, a: &[u8], v: &[u8]) -> Writer
+pub fn put_last_text(out: &mut [u8], w: Writer, a: &[u8], v: &[u8]) -> Writer
     ensures { λ r. ⌜ ((m : List ℕ) → stateOf (now (out .exit)) m r ≡ puts (lastVar (now (a .entry)) (now (v .entry))) (stateOf (now (out .entry)) m w)) ⌝ }
 {
     let b = put_start(out, w, a);
@@ -124,6 +124,16 @@ fn put_scoped(
     let d = put_tag(out, c, n, k);
     let e = put_bytes(b"_", out, d);
     put_bytes(v, out, e)
+}
+
+// How the names of the samples in the scope k of n branches begin: all but the variable's name.
+pub fn put_sample_start(out: &mut [u8], w: Writer, a: &[u8], n: usize, k: usize) -> Writer
+    ensures { λ r. ⌜ ((m : List ℕ) → stateOf (now (out .exit)) m r ≡ puts (sampleVar (now (a .entry)) (scopeAt n k) []) (stateOf (now (out .entry)) m w)) ⌝ }
+{
+    let b = put_start(out, w, a);
+    let c = put_bytes(b"_s", out, b);
+    let d = put_tag(out, c, n, k);
+    put_bytes(b"_", out, d)
 }
 
 // The sample of v in the scope k of n branches, by its number among the names.
