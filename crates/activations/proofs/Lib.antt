@@ -24,3 +24,6 @@ pub mod Examples
 pub mod UnlastLaws
 pub mod UnlastWritten
 pub mod NumberLaws
+pub mod PassLaws
+pub mod ReadLaws
+pub mod RewriteLaws

@@ -34,3 +34,5 @@ pub mod UnlastAt
 pub mod Ids
 pub mod TypeCodes
 pub mod NumbersAt
+pub mod ReadsAt
+pub mod RewriteAt

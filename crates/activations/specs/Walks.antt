@@ -1,16 +1,19 @@
 -- Passes over an expression: its nodes in preorder, a step at each.
 use Prim.Native.Nat.{ℕ, zero, suc, _-_, _<_}
 use mathlib.Core.List.{List, [], _∷_}
-use mathlib.Core.Bool.{cond}
+use mathlib.Core.Bool.{Bool, cond, _||_}
 use mathlib.Core.Option.{Option, none, some}
 use mathlib.Core.Path.{_≡_}
 use lib.ListN.{length}
 use lib.Dec.{eqb}
 use Rattle.wire.specs.Answer.{value}
+use Rattle.wire.specs.Writer.{State}
 use Rattle.pack.specs.Names.{Name, eqName}
 use Rattle.pack.specs.Forms.{nameAt}
 use Rattle.pack.specs.Read.{exprIn}
 use Rattle.pack.specs.Syntax.{Expr}
+use Rattle.pack.specs.Write.{Item}
+use Rattle.pack.specs.Intern.{render}
 use Rattle.activations.specs.declared.met.Met.{Met}
 use Rattle.activations.specs.LastCalls.{lastName}
 use Rattle.activations.specs.Met.{metAt, onwardT, openT}
@@ -26,6 +29,14 @@ module _ (ns : List Name) (s : List ℕ) (last : ℕ) where
 
   unfoldable pub walked : {S : Type 0} → (Met → ℕ → S → S) → ℕ → ℕ → S → S
   walked step n p z = walkT step (suc (length s)) n p z
+
+-- a step that looks for a node
+unfoldable pub orStep : (Met → Bool) → Met → ℕ → Bool → Bool
+orStep f m p z = z || f m
+
+-- a step that writes items
+unfoldable pub writeStep : List ℕ → (Met → ℕ → List Item) → Met → ℕ → State → State
+writeStep old items m p z = render old (items m p) z
 
 -- what falls while a pass goes on
 unfoldable pub leftT : List ℕ → ℕ → ℕ → ℕ
