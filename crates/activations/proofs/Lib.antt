@@ -27,3 +27,4 @@ pub mod NumberLaws
 pub mod PassLaws
 pub mod ReadLaws
 pub mod RewriteLaws
+pub mod ScopeLaws

@@ -46,7 +46,7 @@ module _ (ns : List Name) (s : List ℕ) (last : ℕ) (old : List ℕ) (items : 
       ap (walkT ns s last (writeStep old items) u (openT (metAt ns s last p) (suc n)) (onwardT (metAt ns s last p))) (render-full old (items (metAt ns s last p) p))
       ∙ full-stays u (openT (metAt ns s last p) (suc n)) (onwardT (metAt ns s last p))
 
-  full-walked : (n p : ℕ) → walked ns s last (writeStep old items) n p full ≡ full
+  pub full-walked : (n p : ℕ) → walked ns s last (writeStep old items) n p full ≡ full
   unfolding walked
   full-walked n p = full-stays (suc (length s)) n p
 

@@ -36,3 +36,4 @@ pub mod TypeCodes
 pub mod NumbersAt
 pub mod ReadsAt
 pub mod RewriteAt
+pub mod ScopesAt

@@ -13,3 +13,5 @@ pub mod unlast; // expressions with calls of `last` replaced
 pub mod numbers; // names by number, written and found
 pub mod reads; // what an equation of a scope reads
 pub mod rewrite; // right sides over samples
+pub mod samples; // the samples that are new in a scope
+pub mod scopes; // the equations of scopes
