@@ -23,6 +23,11 @@ pub mod Charts
 pub mod Examples
 pub mod UnlastLaws
 pub mod UnlastWritten
+pub mod IdLaws
+pub mod TypeLaws
+pub mod TypesKnown
+pub mod Starts
+pub mod SoughtLaws
 pub mod NumberLaws
 pub mod PassLaws
 pub mod ReadLaws

@@ -14,7 +14,7 @@ use Rattle.machines.specs.Stands.{endOf}
 use Rattle.machines.specs.Sure.{numberIn}
 use Rattle.machines.proofs.SureLaws.{end-is, on}
 use Rattle.activations.specs.declared.parts.Act.{Act}
-use Rattle.activations.specs.Places.{actAt, actEnd, actOf, along, bodyIn, branchEnd, branchesEnd, equationEnd, firstLeftIn, rightSideIn}
+use Rattle.activations.specs.Places.{actAt, actEnd, actOf, along, bodyIn, branchEnd, branchesEnd, eachOf, equationEnd, firstLeftIn, rightSideIn}
 
 pub left-is : (s : List ℕ) (at : ℕ) (c x : Num) → c ≡ numberIn s at → x ≡ numberIn s (c .next) → x .value ≡ firstLeftIn s at
 unfolding firstLeftIn
@@ -32,6 +32,23 @@ pub along-end : (next : ℕ → ℕ) (n p z : ℕ) → n ≤ 0 → along next n 
 unfolding along
 along-end next zero p z l e = e
 along-end next (suc n) p z l e = absurd (omega arith)
+
+-- a loop that does something at each
+module _ {S : Type 0} (f : ℕ → S → S) (next : ℕ → ℕ) where
+  each-step : (n p : ℕ) (x : S) → eachOf f next (suc n) p x ≡ eachOf f next n (next p) (f p x)
+  unfolding eachOf
+  each-step n p x = refl
+
+  pub each-more : (n p q : ℕ) (x y z : S) → 0 < n → q ≡ next p → y ≡ f p x → eachOf f next n p x ≡ z → eachOf f next (n - 1) q y ≡ z
+  each-more zero p q x y z l e g h = absurd (omega arith)
+  each-more (suc n) p q x y z l e g h =
+      let i : suc n - 1 ≡ n = omega arith in
+      ap (λ k. eachOf f next k q y) i ∙ (λ j. eachOf f next n (e j) (g j)) ∙ sym (each-step n p x) ∙ h
+
+  pub each-end : (n p : ℕ) (x z : S) → n ≤ 0 → eachOf f next n p x ≡ z → x ≡ z
+  unfolding eachOf
+  each-end zero p x z l e = e
+  each-end (suc n) p x z l e = absurd (omega arith)
 
 module _ (ns : List Name) (s : List ℕ) where
   pub right-is : (at : ℕ) (r : Skipped) (q : ℕ) → r ≡ onward (namesIn ns s) (sk.To at) → q ≡ offsetOf r → q ≡ rightSideIn ns s at

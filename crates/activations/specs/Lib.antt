@@ -33,6 +33,8 @@ pub mod ByNumber
 pub mod UnlastAt
 pub mod Ids
 pub mod TypeCodes
+pub mod TypesAt
+pub mod SoughtAt
 pub mod NumbersAt
 pub mod ReadsAt
 pub mod RewriteAt

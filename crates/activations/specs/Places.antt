@@ -18,6 +18,11 @@ unfoldable pub anyT : (ℕ → Bool) → (ℕ → ℕ) → ℕ → ℕ → Bool
 anyT f next zero p = false
 anyT f next (suc n) p = f p || anyT f next n (next p)
 
+-- f at each of n things from p on, in order
+unfoldable pub eachOf : {S : Type 0} → (ℕ → S → S) → (ℕ → ℕ) → ℕ → ℕ → S → S
+eachOf f next zero p z = z
+eachOf f next (suc n) p z = eachOf f next n (next p) (f p z)
+
 -- the first left name of an equation, 0 where there is none
 unfoldable pub firstLeftIn : List ℕ → ℕ → ℕ
 firstLeftIn s at = with (numberIn s at) λ c p. with (numberIn s p) λ x q. x

@@ -10,6 +10,8 @@ pub mod terms; // variables of branches and clocks, written
 pub mod guards; // guards, and the locals of flags and guards
 pub mod merges; // outputs, merged from the scopes
 pub mod unlast; // expressions with calls of `last` replaced
+pub mod types; // the types of variables
+pub mod seek; // the variables that calls of `last` ask for
 pub mod numbers; // names by number, written and found
 pub mod reads; // what an equation of a scope reads
 pub mod rewrite; // right sides over samples

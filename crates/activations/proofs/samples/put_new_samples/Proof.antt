@@ -9,10 +9,6 @@ use Rattle.activations.specs.ScopesAt.{newItems}
 use Rattle.activations.proofs.ScopeLaws.{new-end, new-more}
 use Rattle.activations.proofs.samples.put_new_samples.Statement.{statement}
 use Rattle.activations.proofs.samples.put_new_samples.Tie as tie
-use Rattle.activations.proofs.samples.put_new_samples.Reads as reads
-use Rattle.activations.proofs.samples.put_new_samples.Lts as lts
-use Rattle.activations.proofs.samples.put_new_sample.Reads as put-new-sample-reads
-use Rattle.machines.proofs.cells.cell.Reads as cell-reads
 
 abbrev Inv-loop : tie.InvT-loop
 Inv-loop old s spots names a n k seen ids out₀ made₀ v₀ i₀ out made v i = (length {A = ℕ} out ≡ length {A = ℕ} out₀) × (length {A = ℕ} made ≡ length {A = ℕ} made₀) × (i ≤ length ids) × (render old (newItems s spots names a n k seen (drop i ids)) (stateOf out made v) ≡ render old (newItems s spots names a n k seen ids) (stateOf out₀ made₀ v₀)) × (length ids < 2 ^ 64)
@@ -20,39 +16,30 @@ Inv-loop old s spots names a n k seen ids out₀ made₀ v₀ i₀ out made v i 
 abbrev μ-loop : tie.MeasureT-loop
 μ-loop old s spots names a n k seen ids out₀ made₀ v₀ i₀ out made v i = length ids - i
 
--- src/samples.rt:89:5
 loop-holds : tie.Need-loop-holds Inv-loop μ-loop
 loop-holds c = (refl, refl, omega arith, refl, search needs)
 
--- src/samples.rt:90:13
 cell-requires : tie.Need-cell-requires Inv-loop μ-loop
 cell-requires c κs = search needs
 
--- src/samples.rt:91:9
 put-new-sample-requires : tie.Need-put-new-sample-requires Inv-loop μ-loop
 put-new-sample-requires c κs = search needs
 
--- src/samples.rt:92:9
 add-i : tie.Need-add-i Inv-loop μ-loop
 add-i c = omega (arith, c .before .before .before .before .before .before .before .before .before .loop .inv .4, c .before .before .before .before .before .before .before .before .loop-test .taken)
 
--- src/samples.rt:89:5
 loop-less : tie.Need-loop-less Inv-loop μ-loop
 loop-less c = search needs
 
--- src/samples.rt:89:5
 loop-again : tie.Need-loop-again Inv-loop μ-loop
 loop-again c = (c .before .before .before .before .put-new-sample .kept .1 .1 .1 .1 .1 .1 .1 .1 .1 .0 ∙ c .before .before .before .before .before .before .before .before .before .loop .inv .0, c .before .before .before .before .put-new-sample .kept .1 .1 .1 .1 .1 .1 .1 .1 .1 .1 .0 ∙ c .before .before .before .before .before .before .before .before .before .loop .inv .1, omega arith, new-more _ _ _ _ _ _ _ _ (c .before .before .before .before .before .before .before .before .before .before .before .before .before .before .before .before .before .before .args .ids .now) _ _ _ _ _ (c .before .before .before .before .before .before .before .before .loop-test .taken) (c .before .before .before .before .before .before .before .cell .ensures) (c .before .before .before .before .put-new-sample .ensures) (c .before .before .before .before .before .before .before .before .before .loop .inv .3), c .before .before .before .before .before .before .before .before .before .loop .inv .4)
 
--- src/samples.rt:70:1
 same-length : tie.Need-same-length Inv-loop μ-loop
 same-length c = c .before .loop .inv .0
 
--- src/samples.rt:70:1
 same-length-2 : tie.Need-same-length-2 Inv-loop μ-loop
 same-length-2 c = c .before .loop .inv .1
 
--- src/samples.rt:70:1
 returns : tie.Need-returns Inv-loop μ-loop
 returns c = new-end _ _ _ _ _ _ _ _ (c .before .before .before .before .before .before .before .before .before .before .args .ids .now) _ _ _ (c .loop-test .left) (c .before .loop .inv .3)
 

@@ -3,43 +3,29 @@ use Rattle.activations.proofs.ScopeLaws.{sample-written}
 use borrow.Author.Needs.{needs}
 use Rattle.activations.proofs.samples.put_sample_equation.Statement.{statement}
 use Rattle.activations.proofs.samples.put_sample_equation.Tie as tie
-use Rattle.activations.proofs.samples.put_sample_equation.Reads as reads
-use Rattle.activations.proofs.samples.put_sample_equation.Lts as lts
-use Rattle.activations.proofs.numbers.put_id.Reads as put-id-reads
-use Rattle.activations.proofs.numbers.put_sample_of.Reads as put-sample-of-reads
-use Rattle.activations.proofs.terms.put_onto.Reads as put-onto-reads
-use Rattle.wire.proofs.writer.put_byte.Reads as put-byte-reads
 use Rattle.wire.proofs.writer.put_u16.Reads as put-u16-reads
 
--- src/samples.rt:34:9
 put-u16-requires : tie.Need-put-u16-requires
 put-u16-requires c κs = search needs
 
--- src/samples.rt:35:9
 put-sample-of-requires : tie.Need-put-sample-of-requires
 put-sample-of-requires c κs = search needs
 
--- src/samples.rt:36:9
 put-onto-requires : tie.Need-put-onto-requires
 put-onto-requires c κs = search needs
 
--- src/samples.rt:37:9
 put-byte-requires : tie.Need-put-byte-requires
 put-byte-requires c κs = search needs
 
--- src/samples.rt:38:5
 put-id-requires : tie.Need-put-id-requires
 put-id-requires c κs = search needs
 
--- src/samples.rt:18:1
 same-length : tie.Need-same-length
 same-length c = c .before .before .before .before .put-id .kept .1 .1 .1 .1 .1 .1 .0 ∙ c .before .before .before .before .before .before .before .before .before .put-byte .kept .0 ∙ c .before .before .before .before .before .before .before .before .before .before .before .before .before .before .before .put-onto .kept .1 .1 .1 .1 .0 ∙ c .before .before .before .before .before .before .before .before .before .before .before .before .before .before .before .before .before .before .before .before .before .before .put-sample-of .kept .1 .1 .1 .1 .1 .1 .1 .1 .0 ∙ c .before .before .before .before .before .before .before .before .before .before .before .before .before .before .before .before .before .before .before .before .before .before .before .before .before .before .before .put-u16 .kept .0
 
--- src/samples.rt:18:1
 same-length-2 : tie.Need-same-length-2
 same-length-2 c = search needs
 
--- src/samples.rt:18:1
 returns : tie.Need-returns
 returns c = sample-written _ _ _ _ _ _ _ _ _ _ _ _ _ _ (c .before .before .before .before .before .before .before .before .before .before .before .before .before .before .before .before .before .before .before .before .before .before .before .before .before .before .before .put-u16 .ensures _) (c .before .before .before .before .before .before .before .before .before .before .before .before .before .before .before .before .before .before .before .before .before .before .put-sample-of .ensures) (c .before .before .before .before .before .before .before .before .before .before .before .before .before .before .before .put-onto .ensures) (c .before .before .before .before .before .before .before .before .before .put-byte .ensures _) (c .before .before .before .before .put-id .ensures)
 

@@ -2,38 +2,26 @@ use Rattle.activations.proofs.ScopeLaws.{value-written}
 use borrow.Author.Needs.{needs}
 use Rattle.activations.proofs.scopes.put_left_value.Statement.{statement}
 use Rattle.activations.proofs.scopes.put_left_value.Tie as tie
-use Rattle.activations.proofs.scopes.put_left_value.Reads as reads
-use Rattle.activations.proofs.scopes.put_left_value.Lts as lts
-use Rattle.activations.proofs.made.put_value.Reads as put-value-reads
-use Rattle.activations.proofs.parts.first_left.Reads as first-left-reads
-use Rattle.machines.proofs.rows.pack_name.Reads as pack-name-reads
 use Rattle.wire.proofs.writer.put_u16.Reads as put-u16-reads
 
--- src/scopes.rt:43:9
 put-u16-requires : tie.Need-put-u16-requires
 put-u16-requires c κs = search needs
 
--- src/scopes.rt:44:9
 first-left-requires : tie.Need-first-left-requires
 first-left-requires c κs = search needs
 
--- src/scopes.rt:45:9
 pack-name-requires : tie.Need-pack-name-requires
 pack-name-requires c κs = search needs
 
--- src/scopes.rt:46:5
 put-value-requires : tie.Need-put-value-requires
 put-value-requires c κs = search needs
 
--- src/scopes.rt:28:1
 same-length : tie.Need-same-length
 same-length c = search needs
 
--- src/scopes.rt:28:1
 same-length-2 : tie.Need-same-length-2
 same-length-2 c = search needs
 
--- src/scopes.rt:28:1
 returns : tie.Need-returns
 returns c = value-written _ _ _ _ _ _ _ _ _ _ _ _ _ (c .before .before .before .before .before .before .before .before .before .before .before .put-u16 .ensures _) (c .before .before .before .before .before .before .before .before .first-left .ensures) (c .before .before .before .before .before .before .before .pack-name .ensures) (c .before .before .before .before .put-value .ensures)
 

@@ -11,13 +11,6 @@ use Rattle.activations.specs.ScopesAt.{branchesT}
 use Rattle.activations.proofs.ScopeLaws.{branches-end, branches-more, scopes-are}
 use Rattle.activations.proofs.scopes.put_scopes.Statement.{statement}
 use Rattle.activations.proofs.scopes.put_scopes.Tie as tie
-use Rattle.activations.proofs.scopes.put_scopes.Reads as reads
-use Rattle.activations.proofs.scopes.put_scopes.Lts as lts
-use Rattle.activations.proofs.parts.after_branch.Reads as after-branch-reads
-use Rattle.activations.proofs.parts.branch_equations.Reads as branch-equations-reads
-use Rattle.activations.proofs.scopes.put_scope_equations.Reads as put-scope-equations-reads
-use Rattle.machines.proofs.rows.left.Reads as left-reads
-use Rattle.machines.proofs.sure.number.Reads as number-reads
 
 abbrev Inv-loop : tie.InvT-loop
 Inv-loop old s spots b held rows env outs a n branches other reads₀ seen₀ out₀ made₀ v₀ k₀ c₀ p₀ reads seen out made v k c p = (length {A = ℕ} reads ≡ length {A = ℕ} reads₀) × (length {A = ℕ} seen ≡ length {A = ℕ} seen₀) × (length {A = ℕ} out ≡ length {A = ℕ} out₀) × (length {A = ℕ} made ≡ length {A = ℕ} made₀) × (k + c ≤ n) × ((ns : List Name) → length ns ≡ b .names → branchesT old s spots (b .names) (b .made) ns (b .last) held rows env outs a n k c p (stateOf out made v) ≡ branchesT old s spots (b .names) (b .made) ns (b .last) held rows env outs a n 0 n p₀ (stateOf out₀ made₀ v₀))
@@ -25,67 +18,51 @@ Inv-loop old s spots b held rows env outs a n branches other reads₀ seen₀ ou
 abbrev μ-loop : tie.MeasureT-loop
 μ-loop old s spots b held rows env outs a n branches other reads₀ seen₀ out₀ made₀ v₀ k₀ c₀ p₀ reads seen out made v k c p = c
 
--- src/scopes.rt:164:9
 number-requires : tie.Need-number-requires Inv-loop μ-loop
 number-requires c κs = search needs
 
--- src/scopes.rt:169:5
 loop-holds : tie.Need-loop-holds Inv-loop μ-loop
 loop-holds c = (refl, refl, refl, refl, omega arith, λ ns e. refl)
 
--- src/scopes.rt:170:13
 branch-equations-requires : tie.Need-branch-equations-requires Inv-loop μ-loop
 branch-equations-requires c κs = c .before .before .before .before .before .before .before .before .before .before .before .before .before .before .pre .0
 
--- src/scopes.rt:171:9
 put-scope-equations-requires : tie.Need-put-scope-equations-requires Inv-loop μ-loop
 put-scope-equations-requires c κs = (c .before .before .before .before .before .before .before .before .before .before .before .before .before .before .before .before .before .before .before .pre .0, (c .before .before .before .before .before .before .before .before .before .before .before .before .before .before .before .before .before .before .before .pre .1 .0, (c .before .before .before .before .before .before .before .before .before .before .before .before .before .before .before .before .before .before .before .pre .1 .1 .0, (omega (arith, c .before .before .before .before .before .before .before .before .before .before .before .before .before .before .before .before .before .before .before .pre .1 .1 .1 .0, c .before .before .before .before .before .before .loop .inv .0), omega (arith, c .before .before .before .before .before .before .before .before .before .before .before .before .before .before .before .before .before .before .before .pre .1 .1 .1 .1, c .before .before .before .before .before .before .loop .inv .1)))))
 
--- src/scopes.rt:174:9
 after-branch-requires : tie.Need-after-branch-requires Inv-loop μ-loop
 after-branch-requires c κs = c .before .before .before .before .before .before .before .before .before .before .before .before .before .before .before .before .before .before .before .before .before .before .before .before .before .before .before .before .pre .0
 
--- src/scopes.rt:175:9
 add-k : tie.Need-add-k Inv-loop μ-loop
 add-k c = omega (arith, c .before .before .before .before .before .before .before .before .before .before .before .before .before .before .before .before .before .before .before .before .before .before .before .before .before .before .before .before .before .pre .1 .1 .0, c .before .before .before .before .before .before .before .before .before .before .before .before .before .before .before .before .loop .inv .4, c .before .before .before .before .before .before .before .before .before .before .before .before .before .before .before .loop-test .taken)
 
--- src/scopes.rt:176:21
 sub-left : tie.Need-sub-left Inv-loop μ-loop
 sub-left c = search needs
 
--- src/scopes.rt:176:9
 left-requires : tie.Need-left-requires Inv-loop μ-loop
 left-requires c κs = search needs
 
--- src/scopes.rt:169:5
 loop-less : tie.Need-loop-less Inv-loop μ-loop
 loop-less c = left-less (c .before .before .before .before .before .before .before .before .before .before .put-scope-equations .result) _ _ (c .before .before .before .before .before .before .before .before .before .before .before .before .before .before .before .before .loop-test .taken) (c .left .ensures)
 
--- src/scopes.rt:169:5
 loop-again : tie.Need-loop-again Inv-loop μ-loop
 loop-again c = (c .before .before .before .before .before .before .before .before .before .before .put-scope-equations .kept .1 .1 .1 .1 .1 .1 .1 .1 .1 .1 .1 .1 .0 ∙ c .before .before .before .before .before .before .before .before .before .before .before .before .before .before .before .before .before .loop .inv .0, c .before .before .before .before .before .before .before .before .before .before .put-scope-equations .kept .1 .1 .1 .1 .1 .1 .1 .1 .1 .1 .1 .1 .1 .0 ∙ c .before .before .before .before .before .before .before .before .before .before .before .before .before .before .before .before .before .loop .inv .1, c .before .before .before .before .before .before .before .before .before .before .put-scope-equations .kept .1 .1 .1 .1 .1 .1 .1 .1 .1 .1 .1 .1 .1 .1 .0 ∙ c .before .before .before .before .before .before .before .before .before .before .before .before .before .before .before .before .before .loop .inv .2, c .before .before .before .before .before .before .before .before .before .before .put-scope-equations .kept .1 .1 .1 .1 .1 .1 .1 .1 .1 .1 .1 .1 .1 .1 .1 .0 ∙ c .before .before .before .before .before .before .before .before .before .before .before .before .before .before .before .before .before .loop .inv .3, omega (arith, c .before .before .before .before .before .before .before .before .before .before .before .before .before .before .before .before .before .loop .inv .4, left-less (c .before .before .before .before .before .before .before .before .before .before .put-scope-equations .result) _ _ (c .before .before .before .before .before .before .before .before .before .before .before .before .before .before .before .before .loop-test .taken) (c .left .ensures)), λ ns e. branches-more _ _ _ _ _ ns _ _ _ _ _ _ _ _ _ _ _ _ _ _ _ (c .before .before .before .before .before .before .before .before .before .before .put-scope-equations .result) _ _ (c .before .before .before .before .before .before .before .before .before .before .before .before .before .before .before .before .loop-test .taken) (c .before .before .before .before .before .before .before .before .before .before .before .before .before .before .before .branch-equations .ensures ns e) (c .before .after-branch .ensures ns e) (c .before .before .before .before .before .before .before .before .before .before .put-scope-equations .ensures ns e) (c .left .ensures) (c .before .before .before .before .before .before .before .before .before .before .before .before .before .before .before .before .before .loop .inv .5 ns e))
 
--- src/scopes.rt:178:5
 put-scope-equations-requires-2 : tie.Need-put-scope-equations-requires-2 Inv-loop μ-loop
 put-scope-equations-requires-2 c κs = (c .before .before .before .before .before .before .before .before .before .before .before .before .before .before .before .before .before .before .pre .0, (c .before .before .before .before .before .before .before .before .before .before .before .before .before .before .before .before .before .before .pre .1 .0, (c .before .before .before .before .before .before .before .before .before .before .before .before .before .before .before .before .before .before .pre .1 .1 .0, (omega (arith, c .before .before .before .before .before .before .before .before .before .before .before .before .before .before .before .before .before .before .pre .1 .1 .1 .0, c .before .before .before .before .before .loop .inv .0), omega (arith, c .before .before .before .before .before .before .before .before .before .before .before .before .before .before .before .before .before .before .pre .1 .1 .1 .1, c .before .before .before .before .before .loop .inv .1)))))
 
--- src/scopes.rt:138:1
 same-length : tie.Need-same-length Inv-loop μ-loop
 same-length c = c .before .before .before .before .before .before .before .before .put-scope-equations2 .kept .1 .1 .1 .1 .1 .1 .1 .1 .1 .1 .1 .1 .0 ∙ c .before .before .before .before .before .before .before .before .before .before .before .before .before .before .loop .inv .0
 
--- src/scopes.rt:138:1
 same-length-2 : tie.Need-same-length-2 Inv-loop μ-loop
 same-length-2 c = c .before .before .before .before .before .before .before .before .put-scope-equations2 .kept .1 .1 .1 .1 .1 .1 .1 .1 .1 .1 .1 .1 .1 .0 ∙ c .before .before .before .before .before .before .before .before .before .before .before .before .before .before .loop .inv .1
 
--- src/scopes.rt:138:1
 same-length-3 : tie.Need-same-length-3 Inv-loop μ-loop
 same-length-3 c = c .before .before .before .before .before .before .before .before .put-scope-equations2 .kept .1 .1 .1 .1 .1 .1 .1 .1 .1 .1 .1 .1 .1 .1 .0 ∙ c .before .before .before .before .before .before .before .before .before .before .before .before .before .before .loop .inv .2
 
--- src/scopes.rt:138:1
 same-length-4 : tie.Need-same-length-4 Inv-loop μ-loop
 same-length-4 c = c .before .before .before .before .before .before .before .before .put-scope-equations2 .kept .1 .1 .1 .1 .1 .1 .1 .1 .1 .1 .1 .1 .1 .1 .1 .0 ∙ c .before .before .before .before .before .before .before .before .before .before .before .before .before .before .loop .inv .3
 
--- src/scopes.rt:138:1
 returns : tie.Need-returns Inv-loop μ-loop
 returns c = λ ns e. scopes-are _ _ _ _ _ ns _ _ _ _ _ _ _ _ _ _ _ _ _ (c .before .before .before .before .before .before .before .before .before .before .before .before .before .before .before .number .ensures) (branches-end _ _ _ _ _ ns _ _ _ _ _ _ _ _ _ _ _ _ (c .before .before .before .before .before .before .before .before .before .before .before .before .before .loop-test .left) (c .before .before .before .before .before .before .before .before .before .before .before .before .before .before .loop .inv .5 ns e)) (c .before .before .before .before .before .before .before .before .put-scope-equations2 .ensures ns e)
 
