@@ -33,3 +33,4 @@ pub mod PassLaws
 pub mod ReadLaws
 pub mod RewriteLaws
 pub mod ScopeLaws
+pub mod AskedLaws

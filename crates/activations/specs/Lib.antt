@@ -39,3 +39,4 @@ pub mod NumbersAt
 pub mod ReadsAt
 pub mod RewriteAt
 pub mod ScopesAt
+pub mod Asked
