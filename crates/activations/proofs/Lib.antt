@@ -34,3 +34,4 @@ pub mod ReadLaws
 pub mod RewriteLaws
 pub mod ScopeLaws
 pub mod AskedLaws
+pub mod NumbersKnown
