@@ -35,3 +35,4 @@ pub mod RewriteLaws
 pub mod ScopeLaws
 pub mod AskedLaws
 pub mod NumbersKnown
+pub mod ReadsKnown

@@ -55,15 +55,15 @@ module _ (a : Name) where
   unfolding headItems kids
   called f xs = items-split (eCall f (unlasts a xs)) ∙ λ j. (raw (7 ∷ []) ∷ nm f ∷ raw (two (counted xs j)) ∷ []) ++ all-items xs j
 
-  plain-call : (f : Name) (xs : Exprs) (k : CallKind) → callKind f xs ≡ k → k ≡ plain → unlast a (eCall f xs) ≡ eCall f (unlasts a xs)
+  pub plain-call : (f : Name) (xs : Exprs) (k : CallKind) → callKind f xs ≡ k → k ≡ plain → unlast a (eCall f xs) ≡ eCall f (unlasts a xs)
   unfolding unlast
   plain-call f xs k e g = ap (λ (y : CallKind). elim y [ plain ↦ eCall f (unlasts a xs) | badLast ↦ eCall f (unlasts a xs) | lastOf v i ↦ eVar (lastVar a v) ]) (e ∙ g)
 
-  bad-call : (f : Name) (xs : Exprs) → callKind f xs ≡ badLast → unlast a (eCall f xs) ≡ eCall f (unlasts a xs)
+  pub bad-call : (f : Name) (xs : Exprs) → callKind f xs ≡ badLast → unlast a (eCall f xs) ≡ eCall f (unlasts a xs)
   unfolding unlast
   bad-call f xs e = ap (λ (y : CallKind). elim y [ plain ↦ eCall f (unlasts a xs) | badLast ↦ eCall f (unlasts a xs) | lastOf v i ↦ eVar (lastVar a v) ]) e
 
-  last-call : (f : Name) (xs : Exprs) (v : Name) (i : Option Expr) → callKind f xs ≡ lastOf v i → unlast a (eCall f xs) ≡ eVar (lastVar a v)
+  pub last-call : (f : Name) (xs : Exprs) (v : Name) (i : Option Expr) → callKind f xs ≡ lastOf v i → unlast a (eCall f xs) ≡ eVar (lastVar a v)
   unfolding unlast
   last-call f xs v i e = ap (λ (y : CallKind). elim y [ plain ↦ eCall f (unlasts a xs) | badLast ↦ eCall f (unlasts a xs) | lastOf v i ↦ eVar (lastVar a v) ]) e
 
