@@ -126,3 +126,76 @@ module _ (ns : List Name) (a : Name) where
   follows s e m y (vStruct {xs = xs}) = in-order xs y
   follows s e m y vCast = refl
   follows s e m y (vIterate {xs = xs}) = in-order xs y
+
+-- numbers and their names
+module _ (ns : List Name) (a : Name) (fresh : Fresh [] ns) where
+  -- a number is among numbers where its name is among their names
+  pub among-is : (x : ℕ) (z : List ℕ) → IsId ns a x → All (IsId ns a) z → among x z ≡ member (nameOf ns a x) (namesOf ns a z)
+  unfolding among member namesOf All
+  among-is x [] i h = refl
+  among-is x (y ∷ ys) i h =
+      let e = ids-tell ns a fresh y x (h .0) i ∙ eqName-turns (nameOf ns a y) (nameOf ns a x) in
+      let f = among-is x ys i (h .1) in
+      λ j. e j || f j
+
+  pub names-append : (z w : List ℕ) → namesOf ns a (z ++ w) ≡ namesOf ns a z ++ namesOf ns a w
+  unfolding namesOf
+  names-append [] w = refl
+  names-append (x ∷ xs) w = ap (λ (l : List Name). nameOf ns a x ∷ l) (names-append xs w)
+
+  pub pushed-names : (x : ℕ) (z : List ℕ) → IsId ns a x → All (IsId ns a) z → namesOf ns a (cond (among x z) z (z ++ (x ∷ []))) ≡ push (nameOf ns a x) (namesOf ns a z)
+  unfolding push namesOf
+  pushed-names x z i h =
+      by-bool (λ (b : Bool). namesOf ns a (cond b z (z ++ (x ∷ []))) ≡ cond b (namesOf ns a z) (namesOf ns a z ++ (nameOf ns a x ∷ []))) (among x z) (λ e. refl) (λ e. names-append z (x ∷ []))
+      ∙ ap (λ (b : Bool). cond b (namesOf ns a z) (namesOf ns a z ++ (nameOf ns a x ∷ []))) (among-is x z i h)
+
+  pub pushed-ids : (x : ℕ) (z : List ℕ) → IsId ns a x → All (IsId ns a) z → All (IsId ns a) (cond (among x z) z (z ++ (x ∷ [])))
+  unfolding All
+  pushed-ids x z i h = by-bool (λ (b : Bool). All (IsId ns a) (cond b z (z ++ (x ∷ [])))) (among x z) (λ e. h) (λ e. all-append (IsId ns a) z (x ∷ []) h (i, tt))
+
+pub pushed-length : (x : ℕ) (z : List ℕ) → length (cond (among x z) z (z ++ (x ∷ []))) ≤ length z + 1
+pushed-length x z = by-bool (λ (b : Bool). length (cond b z (z ++ (x ∷ []))) ≤ length z + 1) (among x z) (λ e. omega arith) (λ e. let l = length-append z (x ∷ []) in omega arith)
+
+-- there is room for one more
+pub push-fits : (x : ℕ) (z : List ℕ) → x < 65536 → length z < 21848 → pushT x z ≡ cond (among x z) z (z ++ (x ∷ []))
+unfolding pushT
+push-fits x z h l =
+    ap (λ (b : Bool). cond (among x z) z (cond b (z ++ (x % 65536 ∷ [])) z)) (lt-ltb (length z) 21848 l)
+    ∙ ap (λ (y : ℕ). cond (among x z) z (z ++ (y ∷ []))) (mod-eq-of-lt h)
+
+-- a pack that was read; an activation's name; the variables that are known; what holds of the variables that have rows
+module _ (ns : List Name) (fresh : Fresh [] ns) (few : length ns + length ns ≤ 65536) (s : List ℕ) (by : Bytes s) (short : length s ≤ 65536) (last : ℕ) (L : LastIs ns last)
+    (a : Name) (held : List ℕ) (rows : ℕ) (env outs : List ℕ) (vars : List Name) (P : Name → Type 0) where
+  -- the tables say of x whether its name is among the known variables
+  abbrev pub Tells : ℕ → Type 0
+  Tells x = eqb (typedT env outs (length ns) x) 0 ≡ cond (member (nameOf ns a x) vars) false true
+
+  module _ (rowed : (v : ℕ) → v < length ns → P (nameAt ns v) → lastIdT held rows v ≡ holderId ns a v)
+      (old-told : (x : ℕ) → x < length ns → Tells x) (held-told : (v : ℕ) → v < length ns → P (nameAt ns v) → Tells (holderId ns a v))
+      (none-told : typedT env outs (length ns) 65536 ≡ 0) where
+    -- numbers listed since the offset `start`, by the names read so far: each comes from at least three bytes
+    abbrev Listed : ℕ → ℕ → List ℕ → List Name → Type 0
+    Listed start p z y = All (IsId ns a) z × (namesOf ns a z ≡ keepIn vars y) × (start + 3 * length z ≤ p)
+
+    note-is : (x : ℕ) (z : List ℕ) → Tells x → noteT env outs (length ns) x z ≡ cond (member (nameOf ns a x) vars) (pushT x z) z
+    unfolding noteT
+    note-is x z t = ap (λ (b : Bool). cond b z (pushT x z)) t ∙ go (member (nameOf ns a x) vars)
+      where
+        go : (b : Bool) → cond (cond b false true) z (pushT x z) ≡ cond b (pushT x z) z
+        go true = refl
+        go false = refl
+
+    listed-more : (start p q x : ℕ) (z : List ℕ) (y : List Name) → IsId ns a x → Tells x → p ≤ length s → p + 3 ≤ q → Listed start p z y → Listed start q (noteT env outs (length ns) x z) (push (nameOf ns a x) y)
+    listed-more start p q x z y i t l m r =
+        subst (λ (w : List ℕ). Listed start q w (push (nameOf ns a x) y)) (sym (note-is x z t))
+        (by-bool (λ (b : Bool). (member (nameOf ns a x) vars ≡ b) → Listed start q (cond b (pushT x z) z) (push (nameOf ns a x) y)) (member (nameOf ns a x) vars)
+        (λ e h. subst (λ (w : List ℕ). Listed start q w (push (nameOf ns a x) y)) (sym (push-fits x z (let b = id-below ns a x i in omega arith) (let c = r .2 in omega arith)))
+        (pushed-ids ns a fresh x z i (r .0), pushed-names ns a fresh x z i (r .0) ∙ ap (push (nameOf ns a x)) (r .1) ∙ sym (keep-in vars (nameOf ns a x) y h), (let c = r .2 in let d = pushed-length x z in omega arith)))
+        (λ e h. (r .0, r .1 ∙ sym (keep-out vars (nameOf ns a x) y h), (let c = r .2 in omega arith)))
+        refl)
+
+    listed-same : (start p q : ℕ) (z : List ℕ) (y : List Name) → p ≤ q → Listed start p z y → Listed start q (noteT env outs (length ns) 65536 z) y
+    unfolding noteT
+    listed-same start p q z y l r =
+        subst (λ (w : List ℕ). Listed start q w y) (sym (ap (λ (b : Bool). cond b z (pushT 65536 z)) (eq-eqb (typedT env outs (length ns) 65536) 0 none-told)))
+        (r .0, r .1, (let c = r .2 in omega arith))
