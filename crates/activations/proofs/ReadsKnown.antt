@@ -8,11 +8,11 @@ use mathlib.Core.Path.{_≡_, refl, sym, ap, subst, _∙_}
 use lib.ListN.{length, drop, length-append, length-drop}
 use lib.Dec.{eqb, ltb}
 use borrow.Author.Tests.{eq-eqb, lt-ltb}
-use Rattle.wire.specs.Answer.{value}
+use Rattle.wire.specs.Answer.{many, value}
 use Rattle.wire.specs.Bytes.{two}
 use Rattle.wire.specs.Lists.{All, Bytes}
 use Rattle.pack.specs.Names.{Name, eqName, member}
-use Rattle.pack.specs.Syntax.{Expr, Exprs, eCall, xCons, xNil}
+use Rattle.pack.specs.Syntax.{Expr, Exprs, eCall, eMerge, eVar, eWhen, xCons, xNil}
 use Rattle.pack.specs.Forms.{nameAt}
 use Rattle.pack.specs.Legal.{Fresh, place}
 use Rattle.pack.specs.Read.{exprIn}
@@ -38,7 +38,7 @@ use Rattle.activations.specs.ReadsAt.{noteT, pushT, readBy, readStep, re
 use Rattle.activations.proofs.NodesRead.{expr-moves}
 use Rattle.activations.proofs.Views.{View, toCome, vArray, vArrow, vBad, vBinary, vCall, vCast, vConst, vField, vIf, vIndex, vIterate, vLast, vMerge, vPre, vStruct, vTuple, vUnary, vVar, vWhen, viewed}
 use Rattle.activations.proofs.Walking.{FollowsBy, walks-by}
-use Rattle.activations.proofs.HeadCopies.{head-lies}
+use Rattle.activations.proofs.HeadCopies.{Kept, head-lies}
 use Rattle.activations.proofs.UnlastWritten.{bad-call, last-call, plain-call}
 use Rattle.activations.proofs.AskedLaws.{asked-last, asked-under}
 use Rattle.activations.proofs.IdLaws.{id-below, ids-tell, name-of-holder, name-of-old}
@@ -199,3 +199,86 @@ module _ (ns : List Name) (fresh : Fresh [] ns) (few : length ns + length ns ≤
     listed-same start p q z y l r =
         subst (λ (w : List ℕ). Listed start q w y) (sym (ap (λ (b : Bool). cond b z (pushT 65536 z)) (eq-eqb (typedT env outs (length ns) 65536) 0 none-told)))
         (r .0, r .1, (let c = r .2 in omega arith))
+
+    under-few : length ns < 65536
+    under-few = omega arith
+
+    -- a node that reads takes at least three bytes
+    three-var : (p : ℕ) (x : Name) (q i next : ℕ) → exprIn ns s p ≡ value (eVar x) q → mt.Var i next ≡ metAt ns s last p → p + 3 ≤ next
+    unfolding code headItems two Kept onwardT
+    three-var p x q i next d g =
+        let e : p + length (code ns (headItems (eVar x))) ≡ onwardT (metAt ns s last p) = lies-length ns s p (headItems (eVar x)) (onwardT (metAt ns s last p)) (head-lies ns fresh under-few s by last L p (eVar x) q d (subst Kept g tt)) in
+        let f : next ≡ onwardT (metAt ns s last p) = ap onwardT g in
+        omega arith
+
+    three-clock : (p : ℕ) (e : Expr) (q i u next : ℕ) → 3 ≤ length (code ns (headItems e)) → exprIn ns s p ≡ value e q → mt.Clocked i u next ≡ metAt ns s last p → p + 3 ≤ next
+    unfolding Kept onwardT
+    three-clock p e q i u next h d g =
+        let l : p + length (code ns (headItems e)) ≡ onwardT (metAt ns s last p) = lies-length ns s p (headItems e) (onwardT (metAt ns s last p)) (head-lies ns fresh under-few s by last L p e q d (subst Kept g tt)) in
+        let f : next ≡ onwardT (metAt ns s last p) = ap onwardT g in
+        omega arith
+
+    call-long : (f : Name) (xs : Exprs) → 3 ≤ length (code ns (exprItems (eCall f xs)))
+    unfolding exprItems code two
+    call-long f xs = omega arith
+
+    when-long : (b : Expr) (x : Name) (o : Bool) → 3 ≤ length (code ns (headItems (eWhen b x o)))
+    unfolding headItems code two
+    when-long b x o = omega arith
+
+    merge-long : (x : Name) (b c : Expr) → 3 ≤ length (code ns (headItems (eMerge x b c)))
+    unfolding headItems code two
+    merge-long x b c = omega arith
+
+    three-last : (p : ℕ) (f : Name) (xs : Exprs) (q v i next : ℕ) → exprIn ns s p ≡ value (eCall f xs) q → mt.Last v i next ≡ metAt ns s last p → p + 3 ≤ next
+    unfolding toCome onwardT
+    three-last p f xs q v i next d g =
+        let w = subst (λ (m : Met). many (exprIn ns s) (length (toCome m (eCall f xs))) (onwardT m) ≡ value (toCome m (eCall f xs)) q) (sym g) (viewed ns s under-few by last L p (eCall f xs) q d .to) in
+        let h : next ≡ q = many-end (exprIn ns s) next q w in
+        let l : p + length (code ns (exprItems (eCall f xs))) ≡ q = lies-length ns s p (exprItems (eCall f xs)) q (lies-expr ns fresh under-few s by p (eCall f xs) q d) in
+        let k = call-long f xs in
+        omega arith
+
+    listed-name : (start q : ℕ) (x u : ℕ) (m : Name) (z : List ℕ) (y : List Name) → u ≡ x → nameOf ns a x ≡ m → Listed start q (noteT env outs (length ns) x z) (push (nameOf ns a x) y) → Listed start q (noteT env outs (length ns) u z) (push m y)
+    listed-name start q x u m z y e f r = subst (λ (w : ℕ). Listed start q (noteT env outs (length ns) w z) (push m y)) (sym e) (subst (λ (w : Name). Listed start q (noteT env outs (length ns) x z) (push w y)) f r)
+
+    step-listed : (start p : ℕ) (e : Expr) (q : ℕ) (m : Met) (z : List ℕ) (y : List Name) → exprIn ns s p ≡ value e q → m ≡ metAt ns s last p → View ns s e m → Asked P e → p ≤ length s → p ≤ onwardT m → Listed start p z y
+        → Listed start (onwardT m) (readStep held rows env outs (length ns) m p z) (nameStep ns a m y)
+    unfolding readStep readBy nameStep onwardT
+    step-listed start p e q m z y d g (vLast {f = f} {xs = xs} {var = v} {init = i} {next = next} k l n w) h o b r =
+        let u = asked-last P ns s e v i next (vLast k l n w) h in
+        listed-name start next (holderId ns a v) (lastIdT held rows v) (lastVar a (nameAt ns v)) z y (rowed v l u) (name-of-holder ns a v)
+        (listed-more start p next (holderId ns a v) z y (heldId v l refl) (held-told v l u) o (three-last p f xs q v i next d g) r)
+    step-listed start p e q m z y d g (vBad {next = next} k) h o b r = listed-same start p next z y b r
+    step-listed start p e q m z y d g (vCall {next = next} k) h o b r = listed-same start p next z y b r
+    step-listed start p e q m z y d g (vConst {next = next}) h o b r = listed-same start p next z y b r
+    step-listed start p e q m z y d g (vVar {x = x} {i = i} {next = next} l n) h o b r =
+        listed-name start next i i (nameAt ns i) z y refl (name-of-old ns a i l) (listed-more start p next i z y (oldId l) (old-told i l) o (three-var p x q i next d g) r)
+    step-listed start p e q m z y d g (vWhen {a = c} {x = x} {b = t} {i = i} {u = u} {next = next} l n) h o b r =
+        listed-name start next i i (nameAt ns i) z y refl (name-of-old ns a i l) (listed-more start p next i z y (oldId l) (old-told i l) o (three-clock p (eWhen c x t) q i u next (when-long c x t) d g) r)
+    step-listed start p e q m z y d g (vMerge {x = x} {a = c} {b = t} {i = i} {u = u} {next = next} l n) h o b r =
+        listed-name start next i i (nameAt ns i) z y refl (name-of-old ns a i l) (listed-more start p next i z y (oldId l) (old-told i l) o (three-clock p (eMerge x c t) q i u next (merge-long x c t) d g) r)
+    step-listed start p e q m z y d g (vUnary {next = next}) h o b r = listed-same start p next z y b r
+    step-listed start p e q m z y d g (vBinary {next = next}) h o b r = listed-same start p next z y b r
+    step-listed start p e q m z y d g (vIf {next = next}) h o b r = listed-same start p next z y b r
+    step-listed start p e q m z y d g (vPre {next = next}) h o b r = listed-same start p next z y b r
+    step-listed start p e q m z y d g (vArrow {next = next}) h o b r = listed-same start p next z y b r
+    step-listed start p e q m z y d g (vField {next = next}) h o b r = listed-same start p next z y b r
+    step-listed start p e q m z y d g (vIndex {next = next}) h o b r = listed-same start p next z y b r
+    step-listed start p e q m z y d g (vTuple {next = next}) h o b r = listed-same start p next z y b r
+    step-listed start p e q m z y d g (vArray {next = next}) h o b r = listed-same start p next z y b r
+    step-listed start p e q m z y d g (vStruct {next = next}) h o b r = listed-same start p next z y b r
+    step-listed start p e q m z y d g (vCast {next = next}) h o b r = listed-same start p next z y b r
+    step-listed start p e q m z y d g (vIterate {next = next}) h o b r = listed-same start p next z y b r
+
+    moves-on : (p : ℕ) (e : Expr) (q : ℕ) (m : Met) → exprIn ns s p ≡ value e q → m ≡ metAt ns s last p → p ≤ onwardT m
+    moves-on p e q m d g = let h = viewed ns s under-few by last L p e q d .moves in let i = ap onwardT g in omega arith
+
+    -- THE LAW: the numbers listed are those of names, their names are what is read, and they are no more than a third of the bytes
+    pub reads-known : (at : ℕ) (e : Expr) (q : ℕ) → exprIn ns s at ≡ value e q → Asked P e
+        → All (IsId ns a) (readsT held rows env outs (length ns) ns s last at) × (namesOf ns a (readsT held rows env outs (length ns) ns s last at) ≡ readsOf vars (unlast a e)) × (at + 3 * length (readsT held rows env outs (length ns) ns s last at) ≤ q)
+    unfolding readsT readsAll readsOf namesOf keepIn All
+    reads-known at e q d h =
+        walks-by ns s under-few by short last L (readStep held rows env outs (length ns)) (readsAll ns a) (Listed at) (Asked P)
+        (λ p e q m z y d g v k r. (nameStep ns a m y, follows ns a s e m y v, step-listed at p e q m z y d g v k (let o = expr-moves ns s p e q d in let i = o .0 in let j = o .1 in omega arith) (moves-on p e q m d g) r, asked-under P ns s e m v k))
+        at e q [] [] d h (tt, refl, omega arith)
