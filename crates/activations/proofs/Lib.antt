@@ -36,3 +36,4 @@ pub mod ScopeLaws
 pub mod AskedLaws
 pub mod NumbersKnown
 pub mod ReadsKnown
+pub mod RewriteKnown

@@ -45,7 +45,7 @@ use Rattle.activations.proofs.IdLaws.{id-below, ids-tell, name-of-holde
 use Rattle.activations.proofs.NumbersKnown.{by-bool, eqName-turns}
 
 -- what lies between two offsets is as long as they are apart
-lies-length : (ns : List Name) (s : List ℕ) (at : ℕ) (is : List Item) (q : ℕ) → Lies ns s at is q → at + length (code ns is) ≡ q
+pub lies-length : (ns : List Name) (s : List ℕ) (at : ℕ) (is : List Item) (q : ℕ) → Lies ns s at is q → at + length (code ns is) ≡ q
 lies-length ns s at is q l =
     let a = l .from in
     let b = l .to in

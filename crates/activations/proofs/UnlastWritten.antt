@@ -91,7 +91,7 @@ module _ (a : Name) where
   splits ns s e m (vIterate {k = k} {f = f} {i = i} {xs = xs}) h = items-split (eIterate k f i (unlasts a xs)) ∙ λ j. (raw (16 ∷ iterByte k ∷ []) ∷ nm f ∷ raw (flagByte i ∷ two (arrayed i xs j)) ∷ []) ++ all-items xs j
 
 -- expressions one after the other
-each-through : (old : List ℕ) (f : Expr → Expr) (es : List Expr) (z : State) → through (λ (e : Expr) (y : State). render old (exprItems (f e)) y) es z ≡ render old (each (λ e. exprItems (f e)) es) z
+pub each-through : (old : List ℕ) (f : Expr → Expr) (es : List Expr) (z : State) → through (λ (e : Expr) (y : State). render old (exprItems (f e)) y) es z ≡ render old (each (λ e. exprItems (f e)) es) z
 unfolding through each render
 each-through old f [] z = refl
 each-through old f (e ∷ es) z = each-through old f es (render old (exprItems (f e)) z) ∙ sym (render-append old (exprItems (f e)) (each (λ x. exprItems (f x)) es) z)
