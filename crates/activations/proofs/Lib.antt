@@ -37,3 +37,4 @@ pub mod AskedLaws
 pub mod NumbersKnown
 pub mod ReadsKnown
 pub mod RewriteKnown
+pub mod PinsKnown
