@@ -38,3 +38,4 @@ pub mod NumbersKnown
 pub mod ReadsKnown
 pub mod RewriteKnown
 pub mod PinsKnown
+pub mod ScopesKnown

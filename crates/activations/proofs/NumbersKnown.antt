@@ -58,7 +58,7 @@ sample-made : (a : Name) (c : Scope) (v : Name) → isMade (sampleVar a c v) ≡
 unfolding isMade sliceOf sampleVar madeName actPrefix eqName
 sample-made a c v = refl
 
-eqb-turns : (x y : ℕ) → eqb x y ≡ eqb y x
+pub eqb-turns : (x y : ℕ) → eqb x y ≡ eqb y x
 eqb-turns x y = go (eqb x y) refl
   where
     go : (b : Bool) → eqb x y ≡ b → b ≡ eqb y x

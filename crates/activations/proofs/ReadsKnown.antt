@@ -42,7 +42,7 @@ use Rattle.activations.proofs.HeadCopies.{Kept, head-lies}
 use Rattle.activations.proofs.UnlastWritten.{bad-call, last-call, plain-call}
 use Rattle.activations.proofs.AskedLaws.{asked-last, asked-under}
 use Rattle.activations.proofs.IdLaws.{id-below, ids-tell, name-of-holder, name-of-old}
-use Rattle.activations.proofs.NumbersKnown.{by-bool, eqName-turns}
+use Rattle.activations.proofs.NumbersKnown.{by-bool, eqName-turns, eqb-turns}
 
 -- what lies between two offsets is as long as they are apart
 pub lies-length : (ns : List Name) (s : List ℕ) (at : ℕ) (is : List Item) (q : ℕ) → Lies ns s at is q → at + length (code ns is) ≡ q
@@ -163,6 +163,31 @@ push-fits x z h l =
     ap (λ (b : Bool). cond (among x z) z (cond b (z ++ (x % 65536 ∷ [])) z)) (lt-ltb (length z) 21848 l)
     ∙ ap (λ (y : ℕ). cond (among x z) z (z ++ (y ∷ []))) (mod-eq-of-lt h)
 
+-- no number twice
+unfoldable pub Once : List ℕ → Type 0
+Once [] = Unit {0}
+Once (x ∷ xs) = (among x xs ≡ false) × Once xs
+
+pub or-none : (b c : Bool) → b || c ≡ false → (b ≡ false) × (c ≡ false)
+or-none true c e = absurd (let z : _≡_ {A = ℕ} 1 0 = ap (λ (d : Bool). cond d 1 0) e in omega arith)
+or-none false c e = (refl, e)
+
+-- one number more at the end
+pub among-snoc : (y x : ℕ) (z : List ℕ) → eqb x y ≡ false → among y (z ++ (x ∷ [])) ≡ among y z
+unfolding among
+among-snoc y x [] e = ap (λ (b : Bool). b || false) e
+among-snoc y x (w ∷ ws) e = ap (λ (b : Bool). eqb w y || b) (among-snoc y x ws e)
+
+once-snoc : (x : ℕ) (z : List ℕ) → among x z ≡ false → Once z → Once (z ++ (x ∷ []))
+unfolding among Once
+once-snoc x [] e h = (refl, tt)
+once-snoc x (y ∷ ys) e h =
+    let o = or-none (eqb y x) (among x ys) e in
+    (among-snoc y x ys (eqb-turns x y ∙ o .0) ∙ h .0, once-snoc x ys (o .1) (h .1))
+
+pushed-once : (x : ℕ) (z : List ℕ) → Once z → Once (cond (among x z) z (z ++ (x ∷ [])))
+pushed-once x z h = by-bool (λ (b : Bool). (among x z ≡ b) → Once (cond b z (z ++ (x ∷ [])))) (among x z) (λ e g. h) (λ e g. once-snoc x z g h) refl
+
 -- a pack that was read; an activation's name; the variables that are known; what holds of the variables that have rows
 module _ (ns : List Name) (fresh : Fresh [] ns) (few : length ns + length ns ≤ 65536) (s : List ℕ) (by : Bytes s) (short : length s ≤ 65536) (last : ℕ) (L : LastIs ns last)
     (a : Name) (held : List ℕ) (rows : ℕ) (env outs : List ℕ) (vars : List Name) (P : Name → Type 0) where
@@ -175,7 +200,7 @@ module _ (ns : List Name) (fresh : Fresh [] ns) (few : length ns + length ns ≤
       (none-told : typedT env outs (length ns) 65536 ≡ 0) where
     -- numbers listed since the offset `start`, by the names read so far: each comes from at least three bytes
     abbrev Listed : ℕ → ℕ → List ℕ → List Name → Type 0
-    Listed start p z y = All (IsId ns a) z × (namesOf ns a z ≡ keepIn vars y) × (start + 3 * length z ≤ p)
+    Listed start p z y = All (IsId ns a) z × (namesOf ns a z ≡ keepIn vars y) × (start + 3 * length z ≤ p) × Once z
 
     note-is : (x : ℕ) (z : List ℕ) → Tells x → noteT env outs (length ns) x z ≡ cond (member (nameOf ns a x) vars) (pushT x z) z
     unfolding noteT
@@ -190,15 +215,15 @@ module _ (ns : List Name) (fresh : Fresh [] ns) (few : length ns + length ns ≤
         subst (λ (w : List ℕ). Listed start q w (push (nameOf ns a x) y)) (sym (note-is x z t))
         (by-bool (λ (b : Bool). (member (nameOf ns a x) vars ≡ b) → Listed start q (cond b (pushT x z) z) (push (nameOf ns a x) y)) (member (nameOf ns a x) vars)
         (λ e h. subst (λ (w : List ℕ). Listed start q w (push (nameOf ns a x) y)) (sym (push-fits x z (let b = id-below ns a x i in omega arith) (let c = r .2 in omega arith)))
-        (pushed-ids ns a fresh x z i (r .0), pushed-names ns a fresh x z i (r .0) ∙ ap (push (nameOf ns a x)) (r .1) ∙ sym (keep-in vars (nameOf ns a x) y h), (let c = r .2 in let d = pushed-length x z in omega arith)))
-        (λ e h. (r .0, r .1 ∙ sym (keep-out vars (nameOf ns a x) y h), (let c = r .2 in omega arith)))
+        (pushed-ids ns a fresh x z i (r .0), pushed-names ns a fresh x z i (r .0) ∙ ap (push (nameOf ns a x)) (r .1) ∙ sym (keep-in vars (nameOf ns a x) y h), (let c = r .2 in let d = pushed-length x z in omega arith), pushed-once x z (r .3)))
+        (λ e h. (r .0, r .1 ∙ sym (keep-out vars (nameOf ns a x) y h), (let c = r .2 in omega arith), r .3))
         refl)
 
     listed-same : (start p q : ℕ) (z : List ℕ) (y : List Name) → p ≤ q → Listed start p z y → Listed start q (noteT env outs (length ns) 65536 z) y
     unfolding noteT
     listed-same start p q z y l r =
         subst (λ (w : List ℕ). Listed start q w y) (sym (ap (λ (b : Bool). cond b z (pushT 65536 z)) (eq-eqb (typedT env outs (length ns) 65536) 0 none-told)))
-        (r .0, r .1, (let c = r .2 in omega arith))
+        (r .0, r .1, (let c = r .2 in omega arith), r .3)
 
     under-few : length ns < 65536
     under-few = omega arith
@@ -274,11 +299,12 @@ module _ (ns : List Name) (fresh : Fresh [] ns) (few : length ns + length ns ≤
     moves-on : (p : ℕ) (e : Expr) (q : ℕ) (m : Met) → exprIn ns s p ≡ value e q → m ≡ metAt ns s last p → p ≤ onwardT m
     moves-on p e q m d g = let h = viewed ns s under-few by last L p e q d .moves in let i = ap onwardT g in omega arith
 
-    -- THE LAW: the numbers listed are those of names, their names are what is read, and they are no more than a third of the bytes
+    -- THE LAW: the numbers listed are those of names, their names are what is read, they are no more than a third of the bytes, and
+    -- none stands twice
     pub reads-known : (at : ℕ) (e : Expr) (q : ℕ) → exprIn ns s at ≡ value e q → Asked P e
-        → All (IsId ns a) (readsT held rows env outs (length ns) ns s last at) × (namesOf ns a (readsT held rows env outs (length ns) ns s last at) ≡ readsOf vars (unlast a e)) × (at + 3 * length (readsT held rows env outs (length ns) ns s last at) ≤ q)
-    unfolding readsT readsAll readsOf namesOf keepIn All
+        → All (IsId ns a) (readsT held rows env outs (length ns) ns s last at) × (namesOf ns a (readsT held rows env outs (length ns) ns s last at) ≡ readsOf vars (unlast a e)) × (at + 3 * length (readsT held rows env outs (length ns) ns s last at) ≤ q) × Once (readsT held rows env outs (length ns) ns s last at)
+    unfolding readsT readsAll readsOf namesOf keepIn All Once
     reads-known at e q d h =
         walks-by ns s under-few by short last L (readStep held rows env outs (length ns)) (readsAll ns a) (Listed at) (Asked P)
         (λ p e q m z y d g v k r. (nameStep ns a m y, follows ns a s e m y v, step-listed at p e q m z y d g v k (let o = expr-moves ns s p e q d in let i = o .0 in let j = o .1 in omega arith) (moves-on p e q m d g) r, asked-under P ns s e m v k))
-        at e q [] [] d h (tt, refl, omega arith)
+        at e q [] [] d h (tt, refl, omega arith, tt)
