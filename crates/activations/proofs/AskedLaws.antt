@@ -1,14 +1,13 @@
 -- What holds of the variables that an expression asks for holds of those under its nodes.
 use Prim.Native.Nat.{ℕ}
-use mathlib.Core.List.{List, [], _∷_, _++_}
-use mathlib.Core.Path.{_≡_, sym, ap, subst}
+use mathlib.Core.List.{List}
+use mathlib.Core.Path.{sym, subst}
 use Rattle.wire.specs.Lists.{All}
 use Rattle.pack.specs.Names.{Name}
 use Rattle.pack.specs.Syntax.{Expr, Exprs, xCons, xNil}
 use Rattle.pack.specs.Forms.{nameAt}
 use Rattle.activations.specs.declared.met.Met.{Met}
 use Rattle.activations.specs.declared.met.Met.the-variants as mt
-use Rattle.activations.specs.LastCalls.{badLast, callKind, lastOf, plain}
 use Rattle.activations.specs.Kids.{kids, listOf}
 use Rattle.activations.specs.Asked.{Asked, AskedIn, ofCall}
 use Rattle.activations.proofs.Views.{View, toCome, vArray, vArrow, vBad, vBinary, vCall, vCast, vConst, vField, vIf, vIndex, vIterate, vLast, vMerge, vPre, vStruct, vTuple, vUnary, vVar, vWhen}

@@ -1,22 +1,21 @@
 -- Names by number in a pack that was read: what the code writes and finds is what the definitions say.
-use Prim.Native.Nat.{ℕ, zero, suc, _+_, _-_, _<_, _≤_}
+use Prim.Native.Nat.{ℕ, suc, _+_, _-_, _<_, _≤_}
 use native.Mathlib.Omega.{arith}
-use mathlib.Core.List.{List, [], _∷_, _++_}
+use mathlib.Core.List.{List, [], _∷_}
 use mathlib.Core.Bool.{Bool, true, false, cond, _&&_}
 use mathlib.Core.Logic.{⊎-elim}
 use mathlib.Core.Path.{_≡_, refl, sym, ap, subst, _∙_}
 use lib.ListN.{length}
 use lib.Dec.{eqb, leb, ltb}
 use borrow.Author.Tests.{eq-eqb, eqb-false, eqb-true, le-leb, le-ltb, lt-leb, lt-ltb, ltb-true, ne-eqb}
-use Rattle.wire.specs.Bytes.{two}
 use Rattle.wire.specs.Lists.{All, Bytes}
 use Rattle.wire.specs.Writer.{State, full, puts, st}
 use Rattle.wire.proofs.Writers.{lt-or-le, puts-fit}
 use Rattle.pack.specs.Names.{Name, eqName}
 use Rattle.pack.specs.Forms.{nameAt}
 use Rattle.pack.specs.Legal.{Fresh, LegalName, place}
-use Rattle.pack.specs.Write.{Item, enc, nm, raw}
-use Rattle.pack.specs.Intern.{putItem, putName, render, table}
+use Rattle.pack.specs.Write.{enc, nm}
+use Rattle.pack.specs.Intern.{putItem, putName, render}
 use Rattle.pack.proofs.Tables.{eqName-true}
 use Rattle.pack.proofs.Written.{table-enc}
 use Rattle.machines.specs.Laid.{sliceOf}

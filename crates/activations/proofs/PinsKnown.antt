@@ -1,6 +1,5 @@
 -- What the code writes of a right side that reads nothing is the right side with its constants on the scope's clock.
 use Prim.Native.Nat.{ℕ, _+_, _-_, _<_, _≤_}
-use native.Mathlib.Omega.{arith}
 use mathlib.Core.List.{List, [], _∷_, _++_}
 use mathlib.Core.Bool.{Bool, true, false, cond, _||_}
 use mathlib.Core.Path.{_≡_, refl, sym, ap, subst, _∙_}
@@ -9,12 +8,12 @@ use Rattle.wire.specs.Answer.{value}
 use Rattle.wire.specs.Lists.{All, Bytes}
 use Rattle.wire.specs.Writer.{State, puts}
 use Rattle.pack.specs.Names.{Name}
-use Rattle.pack.specs.Syntax.{Expr, Exprs, eConst, eVar, xCons, xNil}
+use Rattle.pack.specs.Syntax.{Expr, Exprs, eConst, xCons, xNil}
 use Rattle.pack.specs.Forms.{nameAt}
 use Rattle.pack.specs.Legal.{Fresh, LegalName}
 use Rattle.pack.specs.Read.{exprIn}
 use Rattle.pack.specs.Write.{Item, each, enc, exprItems, nm, raw}
-use Rattle.pack.specs.Intern.{putItem, putName, render}
+use Rattle.pack.specs.Intern.{putItem, render}
 use Rattle.pack.proofs.Interns.{render-append}
 use Rattle.machines.specs.Laid.{sliceOf}
 use Rattle.machines.specs.Emits.{packName}
@@ -27,7 +26,7 @@ use Rattle.activations.specs.Unlast.{unlast, unlasts}
 use Rattle.activations.specs.Pins.{hasConst, hasConsts, pin, pinned, pins}
 use Rattle.activations.specs.Kids.{headItems, kids, listOf}
 use Rattle.activations.specs.Met.{isConst, metAt, onwardT}
-use Rattle.activations.specs.Walks.{LastIs, orStep, through, walked, writeStep}
+use Rattle.activations.specs.Walks.{LastIs, orStep, through, writeStep}
 use Rattle.activations.specs.ByNumber.{ontoItems}
 use Rattle.activations.specs.UnlastAt.{copyItems, metItems, unlastT}
 use Rattle.activations.specs.RewriteAt.{hasConstT, pinItems, pinT, pinnedT}
@@ -36,7 +35,7 @@ use Rattle.activations.proofs.Walking.{walks-one}
 use Rattle.activations.proofs.HeadCopies.{Kept, head-copied, items-split, kept-come}
 use Rattle.activations.proofs.UnlastWritten.{bad-call, each-through, last-call, plain-call, unlast-written}
 use Rattle.activations.proofs.ClockLaws.{onto-items, onto-then}
-use Rattle.activations.proofs.MisusedFound.{one-after, or-assoc, or-false, or-true, three-after, two-after}
+use Rattle.activations.proofs.MisusedFound.{one-after, or-assoc, or-false, three-after, two-after}
 use Rattle.activations.proofs.RewriteKnown.{array-items, call-items, iterate-items, struct-items, tuple-items}
 
 -- constants

@@ -1,12 +1,12 @@
 -- What the code lists of an expression that was read is what the definition says that it reads.
-use Prim.Native.Nat.{ℕ, zero, suc, _+_, _-_, _*_, _%_, _<_, _≤_}
+use Prim.Native.Nat.{ℕ, _+_, _-_, _*_, _%_, _<_, _≤_}
 use native.Mathlib.Nat.{mod-eq-of-lt}
 use native.Mathlib.Omega.{arith}
 use mathlib.Core.List.{List, [], _∷_, _++_, append-nil}
 use mathlib.Core.Bool.{Bool, true, false, cond, _||_}
 use mathlib.Core.Path.{_≡_, refl, sym, ap, subst, _∙_}
 use lib.ListN.{length, drop, length-append, length-drop}
-use lib.Dec.{eqb, ltb}
+use lib.Dec.{eqb}
 use borrow.Author.Tests.{eq-eqb, lt-ltb}
 use Rattle.wire.specs.Answer.{many, value}
 use Rattle.wire.specs.Bytes.{two}
@@ -14,7 +14,7 @@ use Rattle.wire.specs.Lists.{All, Bytes}
 use Rattle.pack.specs.Names.{Name, eqName, member}
 use Rattle.pack.specs.Syntax.{Expr, Exprs, eCall, eMerge, eVar, eWhen, xCons, xNil}
 use Rattle.pack.specs.Forms.{nameAt}
-use Rattle.pack.specs.Legal.{Fresh, place}
+use Rattle.pack.specs.Legal.{Fresh}
 use Rattle.pack.specs.Read.{exprIn}
 use Rattle.pack.specs.Write.{Item, exprItems}
 use Rattle.pack.proofs.Tables.{all-append, code, eqName-true}
@@ -23,13 +23,13 @@ use Rattle.machines.specs.Marks.{among}
 use Rattle.machines.proofs.Reading.{many-end}
 use Rattle.activations.specs.declared.met.Met.{Met}
 use Rattle.activations.specs.declared.met.Met.the-variants as mt
-use Rattle.activations.specs.LastCalls.{CallKind, badLast, callKind, lastOf, plain}
+use Rattle.activations.specs.LastCalls.{plain}
 use Rattle.activations.specs.MadeNames.{lastVar}
 use Rattle.activations.specs.Unlast.{unlast, unlasts}
 use Rattle.activations.specs.Reads.{keepIn, push, reads, readsIn, readsOf}
 use Rattle.activations.specs.Kids.{headItems, kids, listOf}
 use Rattle.activations.specs.Met.{metAt, onwardT}
-use Rattle.activations.specs.Walks.{LastIs, through, walked}
+use Rattle.activations.specs.Walks.{LastIs, through}
 use Rattle.activations.specs.Ids.{IsId, heldId, holderId, nameOf, namesOf, oldId}
 use Rattle.activations.specs.Asked.{Asked}
 use Rattle.activations.specs.TypeCodes.{typedT}
@@ -37,7 +37,7 @@ use Rattle.activations.specs.NumbersAt.{lastIdT}
 use Rattle.activations.specs.ReadsAt.{noteT, pushT, readBy, readStep, readsT}
 use Rattle.activations.proofs.NodesRead.{expr-moves}
 use Rattle.activations.proofs.Views.{View, toCome, vArray, vArrow, vBad, vBinary, vCall, vCast, vConst, vField, vIf, vIndex, vIterate, vLast, vMerge, vPre, vStruct, vTuple, vUnary, vVar, vWhen, viewed}
-use Rattle.activations.proofs.Walking.{FollowsBy, walks-by}
+use Rattle.activations.proofs.Walking.{walks-by}
 use Rattle.activations.proofs.HeadCopies.{Kept, head-lies}
 use Rattle.activations.proofs.UnlastWritten.{bad-call, last-call, plain-call}
 use Rattle.activations.proofs.AskedLaws.{asked-last, asked-under}

@@ -2,7 +2,7 @@
 use Prim.Native.Nat.{ℕ, suc, _+_, _-_, _<_, _≤_}
 use native.Mathlib.Omega.{arith}
 use mathlib.Core.List.{List, [], _∷_, _++_}
-use mathlib.Core.Bool.{Bool, true, false, cond, _||_}
+use mathlib.Core.Bool.{Bool, true, false}
 use mathlib.Core.Path.{_≡_, refl, sym, ap, subst, _∙_}
 use lib.ListN.{length, take, drop}
 use Rattle.wire.specs.Answer.{value}
@@ -10,9 +10,9 @@ use Rattle.wire.specs.Bytes.{two}
 use Rattle.wire.specs.Lists.{All, Bytes}
 use Rattle.wire.specs.Writer.{State, puts}
 use Rattle.pack.specs.Names.{Name}
-use Rattle.pack.specs.Syntax.{Expr, Exprs, IterKind, eArray, eCall, eIterate, eMerge, eStruct, eTuple, eVar, eWhen, xCons, xNil}
+use Rattle.pack.specs.Syntax.{Expr, Exprs, IterKind, eArray, eCall, eIterate, eMerge, eStruct, eTuple, eWhen, xCons, xNil}
 use Rattle.pack.specs.Forms.{nameAt}
-use Rattle.pack.specs.Legal.{Fresh, LegalName, place}
+use Rattle.pack.specs.Legal.{Fresh, LegalName}
 use Rattle.pack.specs.Read.{exprIn}
 use Rattle.pack.specs.Write.{Item, arrays, countOf, each, enc, exprItems, flagByte, iterByte, nm, raw}
 use Rattle.pack.specs.Intern.{putItem, putName, render}
@@ -23,7 +23,7 @@ use Rattle.machines.specs.Laid.{sliceOf}
 use Rattle.machines.specs.Emits.{packName}
 use Rattle.activations.specs.declared.met.Met.{Met}
 use Rattle.activations.specs.declared.met.Met.the-variants as mt
-use Rattle.activations.specs.LastCalls.{callKind, plain}
+use Rattle.activations.specs.LastCalls.{plain}
 use Rattle.activations.specs.MadeNames.{lastVar, scopeAt}
 use Rattle.activations.specs.Unlast.{unlast, unlasts}
 use Rattle.activations.specs.Renames.{rename, renames}
@@ -31,14 +31,14 @@ use Rattle.activations.specs.Samples.{renamed}
 use Rattle.activations.specs.Lookups.{MadeIs}
 use Rattle.activations.specs.Kids.{headItems, kids, listOf}
 use Rattle.activations.specs.Met.{metAt, onwardT}
-use Rattle.activations.specs.Walks.{LastIs, through, walked, writeStep}
+use Rattle.activations.specs.Walks.{LastIs, through, writeStep}
 use Rattle.activations.specs.Ids.{IsId, heldId, holderId, nameOf, namesOf, oldId}
 use Rattle.activations.specs.Asked.{Asked}
 use Rattle.activations.specs.UnlastAt.{copyItems}
 use Rattle.activations.specs.NumbersAt.{lastIdT}
 use Rattle.activations.specs.RewriteAt.{chosenItems, clockedItems, renameItems, renameT}
 use Rattle.activations.proofs.Views.{View, toCome, vArray, vArrow, vBad, vBinary, vCall, vCast, vConst, vField, vIf, vIndex, vIterate, vLast, vMerge, vPre, vStruct, vTuple, vUnary, vVar, vWhen}
-use Rattle.activations.proofs.Walking.{FollowsBy, walks-by}
+use Rattle.activations.proofs.Walking.{walks-by}
 use Rattle.activations.proofs.HeadCopies.{Kept, head-copied, head-lies, items-split, kept-come}
 use Rattle.activations.proofs.UnlastWritten.{bad-call, each-through, last-call, plain-call}
 use Rattle.activations.proofs.AskedLaws.{asked-last, asked-under}
