@@ -48,3 +48,10 @@ pub mod SoughtFound
 pub mod HoldKnown
 pub mod HolderLaws
 pub mod HolderWritten
+pub mod ScopeLaws
+pub mod AskedLaws
+pub mod NumbersKnown
+pub mod ReadsKnown
+pub mod RewriteKnown
+pub mod PinsKnown
+pub mod ScopesKnown

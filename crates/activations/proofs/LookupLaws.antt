@@ -77,7 +77,7 @@ unfolding MadeIs someMadeT madeAt
 some-made-is ns s spots named e k l = ap isMade (sym (named k l)) ∙ none-from (madeAt s spots) (length ns) 0 e k (omega arith) (omega arith)
 
 -- no place is past the number of names
-place-most : (ns : List Name) (n : Name) → place ns n ≤ length ns
+pub place-most : (ns : List Name) (n : Name) → place ns n ≤ length ns
 unfolding place
 place-most [] n = omega arith
 place-most (m ∷ ms) n = go (eqName m n) (place-most ms n)

@@ -29,15 +29,15 @@ use Rattle.activations.proofs.ActRead.{act-to, activation-value, body-t
 unfoldable orMisused : Expr → Bool → Bool
 orMisused e z = z || misused e
 
-or-true : (z : Bool) → z || true ≡ true
+pub or-true : (z : Bool) → z || true ≡ true
 or-true true = refl
 or-true false = refl
 
-or-assoc : (x y z : Bool) → (x || y) || z ≡ x || (y || z)
+pub or-assoc : (x y z : Bool) → (x || y) || z ≡ x || (y || z)
 or-assoc true y z = refl
 or-assoc false y z = refl
 
-or-false : (z : Bool) → z || false ≡ z
+pub or-false : (z : Bool) → z || false ≡ z
 or-false true = refl
 or-false false = refl
 
@@ -68,15 +68,15 @@ unfolding misused
 call-misused f xs k e = by-kind (callKind f xs) xs ∙ ap (λ y. kindMisused y xs) e
 
 -- one, two and three after what was found before
-one-after : (z a : Bool) → z || a ≡ (z || false) || a
+pub one-after : (z a : Bool) → z || a ≡ (z || false) || a
 one-after true a = refl
 one-after false a = refl
 
-two-after : (z a b : Bool) → z || (a || b) ≡ ((z || false) || a) || b
+pub two-after : (z a b : Bool) → z || (a || b) ≡ ((z || false) || a) || b
 two-after true a b = refl
 two-after false a b = refl
 
-three-after : (z a b c : Bool) → z || (a || (b || c)) ≡ (((z || false) || a) || b) || c
+pub three-after : (z a b c : Bool) → z || (a || (b || c)) ≡ (((z || false) || a) || b) || c
 three-after true a b c = refl
 three-after false a b c = sym (or-assoc a b c)
 

@@ -1,8 +1,7 @@
 -- Laws for loops over the nodes of an expression: those that look for a node, and those that write.
-use Prim.Native.Nat.{ℕ, zero, suc, _<_, _≤_}
-use native.Mathlib.Omega.{arith}
+use Prim.Native.Nat.{ℕ, zero, suc, _<_}
 use mathlib.Core.List.{List}
-use mathlib.Core.Bool.{Bool, true, false, cond, _||_}
+use mathlib.Core.Bool.{Bool, true, false, cond}
 use mathlib.Core.Path.{_≡_, refl, sym, ap, _∙_}
 use lib.ListN.{length}
 use Rattle.wire.specs.declared.writer.Writer.{Writer}
@@ -14,7 +13,7 @@ use Rattle.pack.proofs.Written.{render-full}
 use Rattle.activations.specs.declared.met.Met.{Met}
 use Rattle.activations.specs.Met.{metAt, onwardT, openT}
 use Rattle.activations.specs.Walks.{orStep, walkT, walked, writeStep}
-use Rattle.activations.proofs.Moving.{ended, went}
+use Rattle.activations.proofs.Moving.{went}
 
 -- a loop that looks for a node: found, one more, and the end
 module _ (ns : List Name) (s : List ℕ) (last : ℕ) (f : Met → Bool) where
@@ -46,7 +45,7 @@ module _ (ns : List Name) (s : List ℕ) (last : ℕ) (old : List ℕ) (items : 
       ap (walkT ns s last (writeStep old items) u (openT (metAt ns s last p) (suc n)) (onwardT (metAt ns s last p))) (render-full old (items (metAt ns s last p) p))
       ∙ full-stays u (openT (metAt ns s last p) (suc n)) (onwardT (metAt ns s last p))
 
-  full-walked : (n p : ℕ) → walked ns s last (writeStep old items) n p full ≡ full
+  pub full-walked : (n p : ℕ) → walked ns s last (writeStep old items) n p full ≡ full
   unfolding walked
   full-walked n p = full-stays (suc (length s)) n p
 

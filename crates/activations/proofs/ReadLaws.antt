@@ -1,5 +1,5 @@
 -- Laws for the code that lists what an equation reads, step by step.
-use Prim.Native.Nat.{ℕ, zero, suc, _+_, _-_, _%_, _<_, _≤_}
+use Prim.Native.Nat.{ℕ, suc, _+_, _-_, _%_, _<_, _≤_}
 use native.Mathlib.Numerals.{add-one}
 use native.Mathlib.Omega.{arith}
 use mathlib.Core.List.{List, [], _∷_, _++_}
@@ -8,7 +8,7 @@ use mathlib.Core.Logic.{⊎-elim}
 use mathlib.Core.Path.{_≡_, refl, sym, ap, _∙_}
 use lib.ListN.{length, getD, set, take, drop, drop-of-length-le}
 use lib.Seq.{drop-cons, length-take-le, take-suc-set}
-use lib.Dec.{eqb, ltb}
+use lib.Dec.{ltb}
 use borrow.Author.Tests.{eq-eqb, le-ltb, lt-ltb, ne-eqb}
 use types.Run.{OneOf}
 use denote.Enum.Declared.{tagOf}
@@ -19,7 +19,7 @@ use Rattle.activations.specs.declared.met.Met.{Met}
 use Rattle.activations.specs.declared.met.Met.the-variants as mt
 use Rattle.activations.specs.Met.{metAt, onwardT, openT}
 use Rattle.activations.specs.Walks.{walked}
-use Rattle.activations.specs.TypeCodes.{codeOr, outT, typedT}
+use Rattle.activations.specs.TypeCodes.{typedT}
 use Rattle.activations.specs.NumbersAt.{lastIdT}
 use Rattle.activations.specs.ReadsAt.{joinT, noteT, pushT, readBy, readStep, readsT}
 use Rattle.activations.proofs.Moving.{ended, went}
@@ -82,24 +82,8 @@ module _ (held : List ℕ) (rows : ℕ) where
   by-none (mt.Other u q) k = refl
   by-none mt.Nothing k = refl
 
--- the type of a number
+-- a known variable, or none
 module _ (env outs : List ℕ) (names x : ℕ) where
-  pub typed-env : (c : ℕ) → c ≡ getD env x 0 → (c ≡ 0 → ⊥) → c ≡ typedT env outs names x
-  unfolding typedT codeOr
-  typed-env c e f = e ∙ sym (ap (λ (b : Bool). cond b (outT outs names x) (getD env x 0)) (ne-eqb (getD env x 0) 0 (λ g. f (e ∙ g))))
-
-  typed-other : (c : ℕ) → c ≡ getD env x 0 → c ≡ 0 → typedT env outs names x ≡ outT outs names x
-  unfolding typedT codeOr
-  typed-other c e f = ap (λ (b : Bool). cond b (outT outs names x) (getD env x 0)) (eq-eqb (getD env x 0) 0 (sym e ∙ f))
-
-  pub typed-out : (c r : ℕ) → c ≡ getD env x 0 → c ≡ 0 → x < names → r ≡ getD outs x 0 → r ≡ typedT env outs names x
-  unfolding outT
-  typed-out c r e f l g = g ∙ sym (typed-other c e f ∙ ap (λ (b : Bool). cond b (getD outs x 0) 0) (lt-ltb x names l))
-
-  pub typed-none : (c : ℕ) → c ≡ getD env x 0 → c ≡ 0 → names ≤ x → 0 ≡ typedT env outs names x
-  unfolding outT
-  typed-none c e f l = sym (typed-other c e f ∙ ap (λ (b : Bool). cond b (getD outs x 0) 0) (le-ltb x names l))
-
   pub note-none : (l : List ℕ) (c : ℕ) → c ≡ typedT env outs names x → c ≡ 0 → l ≡ noteT env outs names x l
   unfolding noteT
   note-none l c e f = sym (ap (λ (b : Bool). cond b l (pushT x l)) (eq-eqb (typedT env outs names x) 0 (sym e ∙ f)))

@@ -1,8 +1,8 @@
 -- Laws for the code that writes right sides over samples, step by step.
-use Prim.Native.Nat.{ℕ, zero, suc, _+_, _-_, _<_, _≤_}
+use Prim.Native.Nat.{ℕ, suc, _+_, _-_, _<_, _≤_}
 use native.Mathlib.Numerals.{add-one}
 use native.Mathlib.Omega.{arith}
-use mathlib.Core.List.{List, [], _∷_, _++_}
+use mathlib.Core.List.{List, [], _∷_}
 use mathlib.Core.Bool.{Bool, true, false, cond}
 use mathlib.Core.Logic.{⊎-elim}
 use mathlib.Core.Path.{_≡_, refl, sym, ap, _∙_}
@@ -12,9 +12,9 @@ use lib.Dec.{eqb}
 use borrow.Author.Tests.{eq-eqb, ne-eqb}
 use types.Run.{OneOf}
 use denote.Enum.Declared.{tagOf}
-use Rattle.wire.specs.Writer.{State, put, puts, stateOf}
+use Rattle.wire.specs.Writer.{State, put, puts}
 use Rattle.pack.specs.Names.{Name}
-use Rattle.pack.specs.Write.{Item, raw}
+use Rattle.pack.specs.Write.{raw}
 use Rattle.pack.specs.Intern.{putItem, putName, render}
 use Rattle.pack.proofs.Interns.{render-append}
 use Rattle.machines.specs.Laid.{sliceOf}
@@ -22,7 +22,7 @@ use Rattle.activations.proofs.met.Met as Met-enum
 use Rattle.activations.specs.declared.met.Met.{Met}
 use Rattle.activations.specs.declared.met.Met.the-variants as mt
 use Rattle.activations.specs.MadeNames.{scopeAt}
-use Rattle.activations.specs.Met.{isConst, metAt, onwardT}
+use Rattle.activations.specs.Met.{isConst, onwardT}
 use Rattle.activations.specs.Walks.{orStep, walked, writeStep}
 use Rattle.activations.specs.ByNumber.{ontoItems}
 use Rattle.activations.specs.UnlastAt.{copyItems, metItems, unlastT}

@@ -55,15 +55,15 @@ module _ (a : Name) where
   unfolding headItems kids
   called f xs = items-split (eCall f (unlasts a xs)) ∙ λ j. (raw (7 ∷ []) ∷ nm f ∷ raw (two (counted xs j)) ∷ []) ++ all-items xs j
 
-  plain-call : (f : Name) (xs : Exprs) (k : CallKind) → callKind f xs ≡ k → k ≡ plain → unlast a (eCall f xs) ≡ eCall f (unlasts a xs)
+  pub plain-call : (f : Name) (xs : Exprs) (k : CallKind) → callKind f xs ≡ k → k ≡ plain → unlast a (eCall f xs) ≡ eCall f (unlasts a xs)
   unfolding unlast
   plain-call f xs k e g = ap (λ (y : CallKind). elim y [ plain ↦ eCall f (unlasts a xs) | badLast ↦ eCall f (unlasts a xs) | lastOf v i ↦ eVar (lastVar a v) ]) (e ∙ g)
 
-  bad-call : (f : Name) (xs : Exprs) → callKind f xs ≡ badLast → unlast a (eCall f xs) ≡ eCall f (unlasts a xs)
+  pub bad-call : (f : Name) (xs : Exprs) → callKind f xs ≡ badLast → unlast a (eCall f xs) ≡ eCall f (unlasts a xs)
   unfolding unlast
   bad-call f xs e = ap (λ (y : CallKind). elim y [ plain ↦ eCall f (unlasts a xs) | badLast ↦ eCall f (unlasts a xs) | lastOf v i ↦ eVar (lastVar a v) ]) e
 
-  last-call : (f : Name) (xs : Exprs) (v : Name) (i : Option Expr) → callKind f xs ≡ lastOf v i → unlast a (eCall f xs) ≡ eVar (lastVar a v)
+  pub last-call : (f : Name) (xs : Exprs) (v : Name) (i : Option Expr) → callKind f xs ≡ lastOf v i → unlast a (eCall f xs) ≡ eVar (lastVar a v)
   unfolding unlast
   last-call f xs v i e = ap (λ (y : CallKind). elim y [ plain ↦ eCall f (unlasts a xs) | badLast ↦ eCall f (unlasts a xs) | lastOf v i ↦ eVar (lastVar a v) ]) e
 
@@ -91,7 +91,7 @@ module _ (a : Name) where
   splits ns s e m (vIterate {k = k} {f = f} {i = i} {xs = xs}) h = items-split (eIterate k f i (unlasts a xs)) ∙ λ j. (raw (16 ∷ iterByte k ∷ []) ∷ nm f ∷ raw (flagByte i ∷ two (arrayed i xs j)) ∷ []) ++ all-items xs j
 
 -- expressions one after the other
-each-through : (old : List ℕ) (f : Expr → Expr) (es : List Expr) (z : State) → through (λ (e : Expr) (y : State). render old (exprItems (f e)) y) es z ≡ render old (each (λ e. exprItems (f e)) es) z
+pub each-through : (old : List ℕ) (f : Expr → Expr) (es : List Expr) (z : State) → through (λ (e : Expr) (y : State). render old (exprItems (f e)) y) es z ≡ render old (each (λ e. exprItems (f e)) es) z
 unfolding through each render
 each-through old f [] z = refl
 each-through old f (e ∷ es) z = each-through old f es (render old (exprItems (f e)) z) ∙ sym (render-append old (exprItems (f e)) (each (λ x. exprItems (f x)) es) z)

@@ -1,7 +1,7 @@
 -- Names by number, so that a pass compares numbers where the definitions compare names. An old name has its index. The holder of a
 -- variable, where its name is no old one, has the variable's index and the number of names more.
 use Prim.Native.Nat.{ℕ, _+_, _-_, _<_}
-use mathlib.Core.List.{List}
+use mathlib.Core.List.{List, [], _∷_}
 use mathlib.Core.Bool.{cond}
 use mathlib.Core.Path.{_≡_}
 use lib.ListN.{length}
@@ -24,6 +24,11 @@ module _ (ns : List Name) (a : Name) where
   -- the name of a number
   unfoldable pub nameOf : ℕ → Name
   nameOf x = cond (ltb x (length ns)) (nameAt ns x) (lastVar a (nameAt ns (x - length ns)))
+
+  -- the names of numbers
+  unfoldable pub namesOf : List ℕ → List Name
+  namesOf [] = []
+  namesOf (x ∷ xs) = nameOf x ∷ namesOf xs
 
   -- the number of the sample of x in a scope: one that no name has where the sample is no old name
   unfoldable pub sampleId : Scope → ℕ → ℕ

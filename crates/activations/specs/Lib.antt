@@ -46,3 +46,5 @@ pub mod SoughtAt
 pub mod HoldAt
 pub mod HeldAs
 pub mod HoldersAt
+pub mod ScopesAt
+pub mod Asked

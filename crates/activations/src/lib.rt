@@ -23,3 +23,5 @@ pub mod seek; // the variables that calls of `last` ask for
 pub mod ids; // names by number
 pub mod hold; // holders made known
 pub mod holders; // the equations of holders
+pub mod samples; // the samples that are new in a scope
+pub mod scopes; // the equations of scopes

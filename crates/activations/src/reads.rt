@@ -5,6 +5,7 @@ use crate::met::meet;
 use crate::met::onward;
 use crate::met::open;
 use crate::numbers::last_id;
+use crate::types::typed;
 use machines::cells::cell;
 use machines::cells::put_cell;
 ghost use mathlib.Core.List.{List};
@@ -13,7 +14,6 @@ ghost use Prim.Native.Nat.{_≤_, _<_};
 ghost use lib.ListN.{length, take};
 ghost use Rattle.pack.specs.Names.{Name};
 ghost use Rattle.machines.specs.Marks.{among};
-ghost use Rattle.activations.specs.TypeCodes.{typedT};
 ghost use Rattle.activations.specs.ReadsAt.{joinT, noteT, pushT, readBy, readsT};
 
 // Whether x is one of these.
@@ -80,20 +80,6 @@ fn read_by(held: &[u16], rows: usize, m: Met) -> usize
         } => clock,
         _ => 65536,
     }
-}
-
-// The code of the type of x: the variable's, else the output's.
-fn typed(env: &[u16], outs: &[u16], names: usize, x: usize) -> usize
-    ensures { λ r. ⌜ r ≡ typedT (now (env .entry)) (now (outs .entry)) names x ⌝ }
-{
-    let c = cell(env, x);
-    if c != 0 {
-        return c;
-    }
-    if x < names {
-        return cell(outs, x);
-    }
-    0
 }
 
 // One more after the first n, where it is a known variable's.

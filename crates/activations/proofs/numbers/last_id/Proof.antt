@@ -6,9 +6,6 @@ use Rattle.activations.specs.NumbersAt.{lastRowT}
 use Rattle.activations.proofs.NumberLaws.{row-end, row-found, row-is, row-on}
 use Rattle.activations.proofs.numbers.last_id.Statement.{statement}
 use Rattle.activations.proofs.numbers.last_id.Tie as tie
-use Rattle.activations.proofs.numbers.last_id.Reads as reads
-use Rattle.activations.proofs.numbers.last_id.Lts as lts
-use Rattle.machines.proofs.cells.cell.Reads as cell-reads
 
 abbrev Inv-loop : tie.InvT-loop
 Inv-loop held rows v n₀ h₀ n h = (h + 3 * n ≡ 3 * rows) × (lastRowT held v n h ≡ lastRowT held v rows 0)
@@ -16,43 +13,33 @@ Inv-loop held rows v n₀ h₀ n h = (h + 3 * n ≡ 3 * rows) × (lastRowT held 
 abbrev μ-loop : tie.MeasureT-loop
 μ-loop held rows v n₀ h₀ n h = n
 
--- src/numbers.rt:129:5
 loop-holds : tie.Need-loop-holds Inv-loop μ-loop
 loop-holds c = (omega arith, refl)
 
--- src/numbers.rt:130:12
 cell-requires : tie.Need-cell-requires Inv-loop μ-loop
 cell-requires c κs = search needs
 
--- src/numbers.rt:131:31
 add-cell : tie.Need-add-cell Inv-loop μ-loop
 add-cell c = omega (arith, c .before .before .before .before .before .pre, c .before .before .before .loop .inv .0)
 
--- src/numbers.rt:131:13
 cell-requires-2 : tie.Need-cell-requires-2 Inv-loop μ-loop
 cell-requires-2 c κs = search needs
 
--- src/numbers.rt:131:13
 returns : tie.Need-returns Inv-loop μ-loop
 returns c = row-is _ _ _ _ (row-found _ _ _ _ _ _ _ (c .before .before .before .loop-test .taken) (c .before .before .cell .ensures) (c .before .if1 .taken) (c .cell2 .ensures) (c .before .before .before .before .loop .inv .1))
 
--- src/numbers.rt:133:9
 add-h : tie.Need-add-h Inv-loop μ-loop
 add-h c = omega (arith, c .before .before .before .before .before .pre, c .before .before .before .loop .inv .0)
 
--- src/numbers.rt:134:13
 sub-n : tie.Need-sub-n Inv-loop μ-loop
 sub-n c = search needs
 
--- src/numbers.rt:129:5
 loop-less : tie.Need-loop-less Inv-loop μ-loop
 loop-less c = search needs
 
--- src/numbers.rt:129:5
 loop-again : tie.Need-loop-again Inv-loop μ-loop
 loop-again c = (omega (arith, c .before .before .before .loop .inv .0, c .before .before .loop-test .taken), row-on _ _ _ _ _ _ (c .before .before .loop-test .taken) (c .before .cell .ensures) (c .if1 .left) (c .before .before .before .loop .inv .1))
 
--- src/numbers.rt:123:1
 returns-2 : tie.Need-returns-2 Inv-loop μ-loop
 returns-2 c = row-end _ _ _ _ _ (c .loop-test .left) (c .before .loop .inv .1)
 

@@ -2,41 +2,29 @@ use Rattle.activations.proofs.NumberLaws.{id-held, id-old}
 use borrow.Author.Needs.{needs}
 use Rattle.activations.proofs.numbers.put_id.Statement.{statement}
 use Rattle.activations.proofs.numbers.put_id.Tie as tie
-use Rattle.activations.proofs.numbers.put_id.Reads as reads
-use Rattle.activations.proofs.numbers.put_id.Lts as lts
-use Rattle.activations.proofs.made.put_last.Reads as put-last-reads
-use Rattle.machines.proofs.rows.pack_name.Reads as pack-name-reads
 use Rattle.wire.proofs.writer.put_u16.Reads as put-u16-reads
 
--- src/numbers.rt:35:9
 put-u16-requires : tie.Need-put-u16-requires
 put-u16-requires c κs = search needs
 
--- src/numbers.rt:35:9
 same-length : tie.Need-same-length
 same-length c = search needs
 
--- src/numbers.rt:35:9
 returns : tie.Need-returns
 returns c = id-old _ _ _ _ _ _ _ _ (c .before .before .before .before .if1 .taken) (c .before .before .put-u16 .ensures _)
 
--- src/numbers.rt:37:9
 pack-name-requires : tie.Need-pack-name-requires
 pack-name-requires c κs = search needs
 
--- src/numbers.rt:38:5
 put-last-requires : tie.Need-put-last-requires
 put-last-requires c κs = search needs
 
--- src/numbers.rt:21:1
 same-length-2 : tie.Need-same-length-2
 same-length-2 c = search needs
 
--- src/numbers.rt:21:1
 same-length-3 : tie.Need-same-length-3
 same-length-3 c = search needs
 
--- src/numbers.rt:21:1
 returns-2 : tie.Need-returns-2
 returns-2 c = id-held _ _ _ _ _ _ _ _ _ (c .before .before .before .before .before .before .before .before .if1 .left) (c .before .before .before .before .before .before .before .pack-name .ensures) (c .before .before .before .before .put-last .ensures)
 

@@ -8,7 +8,6 @@ use Rattle.machines.proofs.MarkLaws.{among-end, among-here, among-past}
 use Rattle.activations.proofs.reads.is_in.Statement.{statement}
 use Rattle.activations.proofs.reads.is_in.Tie as tie
 use Rattle.activations.proofs.reads.is_in.Reads as reads
-use Rattle.activations.proofs.reads.is_in.Lts as lts
 
 abbrev Inv-loop : tie.InvT-loop
 Inv-loop ids x i₀ i = (i ≤ length ids) × (among x (drop i ids) ≡ among x ids)
@@ -16,39 +15,30 @@ Inv-loop ids x i₀ i = (i ≤ length ids) × (among x (drop i ids) ≡ among x 
 abbrev μ-loop : tie.MeasureT-loop
 μ-loop ids x i₀ i = length ids - i
 
--- src/reads.rt:24:5
 loop-holds : tie.Need-loop-holds Inv-loop μ-loop
 loop-holds c = (omega arith, refl)
 
--- src/reads.rt:25:12
 mul-if1 : tie.Need-mul-if1 Inv-loop μ-loop
 mul-if1 c = search needs
 
--- src/reads.rt:25:12
 shared-slice-read-if1 : tie.Need-shared-slice-read-if1 Inv-loop μ-loop
 shared-slice-read-if1 c = search needs
 
--- src/reads.rt:25:12
 cast-if1 : tie.Need-cast-if1 Inv-loop μ-loop
 cast-if1 c = omega (arith, c .shared-slice-known .given (c .before .before .loop .i))
 
--- src/reads.rt:26:13
 returns : tie.Need-returns Inv-loop μ-loop
 returns c = among-here _ _ _ _ (c .before .before .loop-test .taken) (c .if1 .taken) (c .before .before .before .loop .inv .1)
 
--- src/reads.rt:28:9
 add-i : tie.Need-add-i Inv-loop μ-loop
 add-i c = search needs
 
--- src/reads.rt:24:5
 loop-less : tie.Need-loop-less Inv-loop μ-loop
 loop-less c = search needs
 
--- src/reads.rt:24:5
 loop-again : tie.Need-loop-again Inv-loop μ-loop
 loop-again c = (omega arith, among-past _ _ _ _ (c .before .before .loop-test .taken) (c .if1 .left) (c .before .before .before .loop .inv .1))
 
--- src/reads.rt:20:1
 returns-2 : tie.Need-returns-2 Inv-loop μ-loop
 returns-2 c = among-end (c .before .before .args .ids .now) _ _ _ (c .loop-test .left) (c .before .loop .inv .1)
 

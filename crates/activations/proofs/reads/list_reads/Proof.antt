@@ -12,12 +12,6 @@ use Rattle.activations.proofs.ReadLaws.{reads-done, reads-on}
 use Rattle.activations.proofs.reads.list_reads.Statement.{statement}
 use Rattle.activations.proofs.reads.list_reads.Tie as tie
 use Rattle.activations.proofs.reads.list_reads.Reads as reads
-use Rattle.activations.proofs.reads.list_reads.Lts as lts
-use Rattle.activations.proofs.met.meet.Reads as meet-reads
-use Rattle.activations.proofs.met.onward.Reads as onward-reads
-use Rattle.activations.proofs.met.open.Reads as open-reads
-use Rattle.activations.proofs.reads.note.Reads as note-reads
-use Rattle.activations.proofs.reads.read_by.Reads as read-by-reads
 
 abbrev Inv-loop : tie.InvT-loop
 Inv-loop s b held rows env outs at t₀ r₀ n₀ p₀ t r n p = (length {A = ℕ} t ≡ length {A = ℕ} t₀) × (r ≤ 21848) × ((ns : List Name) → length ns ≡ b .names → walked ns s (b .last) (readStep held rows env outs (b .names)) n p (take r t) ≡ walked ns s (b .last) (readStep held rows env outs (b .names)) 1 at [])
@@ -25,43 +19,33 @@ Inv-loop s b held rows env outs at t₀ r₀ n₀ p₀ t r n p = (length {A = �
 abbrev μ-loop : tie.MeasureT-loop
 μ-loop s b held rows env outs at t₀ r₀ n₀ p₀ t r n p = leftT s n p
 
--- src/reads.rt:137:5
 loop-holds : tie.Need-loop-holds Inv-loop μ-loop
 loop-holds c = (refl, omega arith, λ ns e. refl)
 
--- src/reads.rt:138:13
 meet-requires : tie.Need-meet-requires Inv-loop μ-loop
 meet-requires c κs = search needs
 
--- src/reads.rt:139:13
 read-by-requires : tie.Need-read-by-requires Inv-loop μ-loop
 read-by-requires c κs = search needs
 
--- src/reads.rt:140:9
 note-requires : tie.Need-note-requires Inv-loop μ-loop
 note-requires c κs = search needs
 
--- src/reads.rt:141:9
 open-requires : tie.Need-open-requires Inv-loop μ-loop
 open-requires c κs = search needs
 
--- src/reads.rt:142:9
 onward-requires : tie.Need-onward-requires Inv-loop μ-loop
 onward-requires c κs = search needs
 
--- src/reads.rt:137:5
 loop-less : tie.Need-loop-less Inv-loop μ-loop
 loop-less c = meets-fall _ _ _ _ _ _ _ _ (c .before .before .before .before .before .before .before .before .loop-test .taken) (c .before .before .before .before .before .before .before .meet .ensures) (c .before .«open» .ensures) (c .onward .ensures)
 
--- src/reads.rt:137:5
 loop-again : tie.Need-loop-again Inv-loop μ-loop
 loop-again c = (c .before .before .before .before .note .kept .1 .1 .1 .0 ∙ c .before .before .before .before .before .before .before .before .before .loop .inv .0, c .before .before .before .before .note .ensures .0, λ ns e. reads-on _ _ _ _ _ ns _ _ _ _ _ _ _ _ _ _ _ (c .before .before .before .before .before .before .before .before .loop-test .taken) (c .before .before .before .before .before .before .before .meet .ensures ns e) (c .before .before .before .before .before .before .read-by .ensures) (c .before .before .before .before .note .ensures .1) (c .before .«open» .ensures) (c .onward .ensures) (c .before .before .before .before .before .before .before .before .before .loop .inv .2 ns e))
 
--- src/reads.rt:119:1
 same-length : tie.Need-same-length Inv-loop μ-loop
 same-length c = c .before .loop .inv .0
 
--- src/reads.rt:119:1
 returns : tie.Need-returns Inv-loop μ-loop
 returns c = (c .before .loop .inv .1, λ ns e. reads-done _ _ _ _ _ ns _ _ _ _ _ _ (c .loop-test .left) (c .before .loop .inv .2 ns e))
 

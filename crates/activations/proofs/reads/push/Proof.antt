@@ -5,51 +5,37 @@ use borrow.Author.Needs.{needs}
 use Rattle.activations.proofs.reads.push.Statement.{statement}
 use Rattle.activations.proofs.reads.push.Tie as tie
 use Rattle.activations.proofs.reads.push.Reads as reads
-use Rattle.activations.proofs.reads.push.Lts as lts
-use Rattle.activations.proofs.reads.is_in.Reads as is-in-reads
-use Rattle.machines.proofs.cells.put_cell.Reads as put-cell-reads
 
--- src/reads.rt:39:14
 slice-reshare-prefix-is-in : tie.Need-slice-reshare-prefix-is-in
 slice-reshare-prefix-is-in c = search needs
 
--- src/reads.rt:39:14
 slice-aggregate-is-in : tie.Need-slice-aggregate-is-in
 slice-aggregate-is-in c = simp length-take (omega (arith, c .before .before .pre))
 
--- src/reads.rt:39:8
 is-in-requires : tie.Need-is-in-requires
 is-in-requires c κs = search needs
 
--- src/reads.rt:40:9
 same-length : tie.Need-same-length
 same-length c = search needs
 
--- src/reads.rt:40:9
 returns : tie.Need-returns
 returns c = (c .before .before .before .before .pre .1, push-there (c .before .before .before .before .args .t .now) (c .before .before .before .before .args .n) (c .before .before .before .before .args .x) _ (c .before .is-in .ensures) (c .if1 .taken))
 
--- src/reads.rt:43:9
 put-cell-requires : tie.Need-put-cell-requires
 put-cell-requires c κs = search needs
 
--- src/reads.rt:44:16
 add-result : tie.Need-add-result
 add-result c = search needs
 
--- src/reads.rt:44:9
 same-length-2 : tie.Need-same-length-2
 same-length-2 c = search needs
 
--- src/reads.rt:44:9
 returns-2 : tie.Need-returns-2
 returns-2 c = (omega (arith, c .before .before .before .before .if2 .taken), push-room (c .before .before .before .before .before .before .before .before .before .args .t .now) _ _ _ _ (c .before .before .before .before .before .before .before .before .before .pre .0) (c .before .before .before .before .before .before .is-in .ensures) (c .before .before .before .before .before .if1 .left) (c .before .before .before .before .if2 .taken) (c .before .before .put-cell .ensures))
 
--- src/reads.rt:34:1
 same-length-3 : tie.Need-same-length-3
 same-length-3 c = search needs
 
--- src/reads.rt:34:1
 returns-3 : tie.Need-returns-3
 returns-3 c = (c .before .before .before .before .before .pre .1, push-full (c .before .before .before .before .before .args .t .now) _ _ _ (c .before .before .before .before .before .pre .0) (c .before .before .before .before .before .pre .1) (c .before .before .is-in .ensures) (c .before .if1 .left) (c .if2 .left))
 

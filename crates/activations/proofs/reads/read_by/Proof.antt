@@ -3,38 +3,28 @@ use borrow.Author.Needs.{needs}
 use Rattle.activations.proofs.reads.read_by.Statement.{statement}
 use Rattle.activations.proofs.reads.read_by.Tie as tie
 use Rattle.activations.proofs.reads.read_by.Reads as reads
-use Rattle.activations.proofs.reads.read_by.Lts as lts
-use Rattle.activations.proofs.numbers.last_id.Reads as last-id-reads
 
--- src/reads.rt:71:13
 enum-known-m : tie.Need-enum-known-m
 enum-known-m c = search needs
 
--- src/reads.rt:74:14
 last-id-requires : tie.Need-last-id-requires
 last-id-requires c κs = search needs
 
--- src/reads.rt:75:20
 enum-known-m-2 : tie.Need-enum-known-m-2
 enum-known-m-2 c = search needs
 
--- src/reads.rt:77:13
 enum-known-m-3 : tie.Need-enum-known-m-3
 enum-known-m-3 c = search needs
 
--- src/reads.rt:65:1
 returns : tie.Need-returns
 returns c = by-last _ _ _ _ _ _ _ (c .before .before .m .given .1) (c .last-id .ensures)
 
--- src/reads.rt:65:1
 returns-2 : tie.Need-returns-2
 returns-2 c = by-var _ _ _ _ _ (c .before .m2 .given .1)
 
--- src/reads.rt:65:1
 returns-3 : tie.Need-returns-3
 returns-3 c = by-clock _ _ _ _ _ _ (c .before .m3 .given .1)
 
--- src/reads.rt:65:1
 returns-4 : tie.Need-returns-4
 returns-4 c = by-none _ _ _ (c .match .keys4)
 

@@ -2,96 +2,67 @@ use Rattle.activations.proofs.RewriteLaws.{rename-clock, rename-last, r
 use borrow.Author.Needs.{needs}
 use Rattle.activations.proofs.rewrite.put_met_renamed.Statement.{statement}
 use Rattle.activations.proofs.rewrite.put_met_renamed.Tie as tie
-use Rattle.activations.proofs.rewrite.put_met_renamed.Reads as reads
-use Rattle.activations.proofs.rewrite.put_met_renamed.Lts as lts
-use Rattle.activations.proofs.met.onward.Reads as onward-reads
-use Rattle.activations.proofs.numbers.last_id.Reads as last-id-reads
-use Rattle.activations.proofs.rewrite.put_clocked.Reads as put-clocked-reads
-use Rattle.activations.proofs.rewrite.put_renamed_var.Reads as put-renamed-var-reads
-use Rattle.machines.proofs.rows.between.Reads as between-reads
-use Rattle.wire.proofs.writer.put_bytes.Reads as put-bytes-reads
 
--- src/rewrite.rt:151:9
 onward-requires : tie.Need-onward-requires
 onward-requires c κs = search needs
 
--- src/rewrite.rt:152:9
 between-requires : tie.Need-between-requires
 between-requires c κs = search needs
 
--- src/rewrite.rt:155:13
 enum-known-m : tie.Need-enum-known-m
 enum-known-m c = search needs
 
--- src/rewrite.rt:159:17
 last-id-requires : tie.Need-last-id-requires
 last-id-requires c κs = search needs
 
--- src/rewrite.rt:160:13
 put-renamed-var-requires : tie.Need-put-renamed-var-requires
 put-renamed-var-requires c κs = search needs
 
--- src/rewrite.rt:162:20
 enum-known-m-2 : tie.Need-enum-known-m-2
 enum-known-m-2 c = search needs
 
--- src/rewrite.rt:163:13
 put-renamed-var-requires-2 : tie.Need-put-renamed-var-requires-2
 put-renamed-var-requires-2 c κs = search needs
 
--- src/rewrite.rt:166:13
 enum-known-m-3 : tie.Need-enum-known-m-3
 enum-known-m-3 c = search needs
 
--- src/rewrite.rt:169:14
 put-clocked-requires : tie.Need-put-clocked-requires
 put-clocked-requires c κs = search needs
 
--- src/rewrite.rt:170:14
 put-bytes-requires : tie.Need-put-bytes-requires
 put-bytes-requires c κs = search needs
 
--- src/rewrite.rt:131:1
 same-length : tie.Need-same-length
 same-length c = search needs
 
--- src/rewrite.rt:131:1
 same-length-2 : tie.Need-same-length-2
 same-length-2 c = search needs
 
--- src/rewrite.rt:131:1
 returns : tie.Need-returns
 returns c = rename-last _ _ _ _ _ _ _ _ _ _ _ _ _ _ _ _ _ _ _ (c .before .before .before .before .before .before .before .before .before .m .given .1) (c .before .before .before .before .before .before .before .last-id .ensures) (c .before .before .before .before .put-renamed-var .ensures)
 
--- src/rewrite.rt:131:1
 same-length-3 : tie.Need-same-length-3
 same-length-3 c = search needs
 
--- src/rewrite.rt:131:1
 same-length-4 : tie.Need-same-length-4
 same-length-4 c = search needs
 
--- src/rewrite.rt:131:1
 returns-2 : tie.Need-returns-2
 returns-2 c = rename-var _ _ _ _ _ _ _ _ _ _ _ _ _ _ _ _ _ (c .before .before .before .before .before .before .before .before .m2 .given .1) (c .before .before .before .before .put-renamed-var2 .ensures)
 
--- src/rewrite.rt:131:1
 same-length-5 : tie.Need-same-length-5
 same-length-5 c = search needs
 
--- src/rewrite.rt:131:1
 same-length-6 : tie.Need-same-length-6
 same-length-6 c = search needs
 
--- src/rewrite.rt:131:1
 returns-3 : tie.Need-returns-3
 returns-3 c = rename-clock _ _ _ _ _ _ _ _ _ _ _ _ _ _ _ _ _ _ _ _ (c .before .before .before .before .before .before .before .before .m3 .given .1) (c .before .before .before .before .before .before .before .before .before .before .before .onward .ensures) (c .before .before .before .before .before .before .before .before .before .before .between .ensures) (c .before .before .before .before .put-clocked .ensures)
 
--- src/rewrite.rt:131:1
 same-length-7 : tie.Need-same-length-7
 same-length-7 c = search needs
 
--- src/rewrite.rt:131:1
 returns-4 : tie.Need-returns-4
 returns-4 c = rename-other _ _ _ _ _ _ _ _ _ _ _ _ _ _ _ _ _ (c .before .before .before .before .match .keys4) (c .before .before .before .before .before .before .onward .ensures) (c .before .before .before .before .before .between .ensures) (c .before .before .put-bytes .ensures _)
 

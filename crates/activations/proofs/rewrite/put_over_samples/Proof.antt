@@ -2,40 +2,28 @@ use Rattle.activations.proofs.RewriteLaws.{over-none, over-some}
 use borrow.Author.Needs.{needs}
 use Rattle.activations.proofs.rewrite.put_over_samples.Statement.{statement}
 use Rattle.activations.proofs.rewrite.put_over_samples.Tie as tie
-use Rattle.activations.proofs.rewrite.put_over_samples.Reads as reads
-use Rattle.activations.proofs.rewrite.put_over_samples.Lts as lts
-use Rattle.activations.proofs.rewrite.put_pinned.Reads as put-pinned-reads
-use Rattle.activations.proofs.rewrite.put_renamed.Reads as put-renamed-reads
 
--- src/rewrite.rt:328:9
 put-pinned-requires : tie.Need-put-pinned-requires
 put-pinned-requires c κs = search needs
 
--- src/rewrite.rt:328:9
 same-length : tie.Need-same-length
 same-length c = search needs
 
--- src/rewrite.rt:328:9
 same-length-2 : tie.Need-same-length-2
 same-length-2 c = search needs
 
--- src/rewrite.rt:328:9
 returns : tie.Need-returns
 returns c = λ ns e. over-none _ _ _ _ _ _ _ _ _ _ ns _ _ _ _ _ (c .before .before .before .before .before .before .before .if1 .taken) (c .before .before .before .before .put-pinned .ensures ns e)
 
--- src/rewrite.rt:330:5
 put-renamed-requires : tie.Need-put-renamed-requires
 put-renamed-requires c κs = search needs
 
--- src/rewrite.rt:306:1
 same-length-3 : tie.Need-same-length-3
 same-length-3 c = search needs
 
--- src/rewrite.rt:306:1
 same-length-4 : tie.Need-same-length-4
 same-length-4 c = search needs
 
--- src/rewrite.rt:306:1
 returns-2 : tie.Need-returns-2
 returns-2 c = λ ns e. over-some _ _ _ _ _ _ _ _ _ _ ns _ _ _ _ _ (c .before .before .before .before .before .before .before .if1 .left) (c .before .before .before .before .put-renamed .ensures ns e)
 

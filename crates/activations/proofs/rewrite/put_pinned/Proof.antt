@@ -2,50 +2,34 @@ use borrow.Author.Needs.{needs}
 use Rattle.activations.proofs.RewriteLaws.{pinned-consts, pinned-whole}
 use Rattle.activations.proofs.rewrite.put_pinned.Statement.{statement}
 use Rattle.activations.proofs.rewrite.put_pinned.Tie as tie
-use Rattle.activations.proofs.rewrite.put_pinned.Reads as reads
-use Rattle.activations.proofs.rewrite.put_pinned.Lts as lts
-use Rattle.activations.proofs.rewrite.has_const.Reads as has-const-reads
-use Rattle.activations.proofs.rewrite.put_pin.Reads as put-pin-reads
-use Rattle.activations.proofs.terms.put_onto.Reads as put-onto-reads
-use Rattle.activations.proofs.unlast.put_unlast.Reads as put-unlast-reads
 
--- src/rewrite.rt:298:8
 has-const-requires : tie.Need-has-const-requires
 has-const-requires c κs = search needs
 
--- src/rewrite.rt:299:9
 put-pin-requires : tie.Need-put-pin-requires
 put-pin-requires c κs = search needs
 
--- src/rewrite.rt:299:9
 same-length : tie.Need-same-length
 same-length c = search needs
 
--- src/rewrite.rt:299:9
 same-length-2 : tie.Need-same-length-2
 same-length-2 c = search needs
 
--- src/rewrite.rt:299:9
 returns : tie.Need-returns
 returns c = λ ns e. pinned-consts _ _ _ _ _ _ ns _ _ _ _ _ (c .before .before .before .before .before .before .before .before .has-const .ensures ns e) (c .before .before .before .before .before .before .before .if1 .taken) (c .before .before .before .before .put-pin .ensures ns e)
 
--- src/rewrite.rt:301:9
 put-onto-requires : tie.Need-put-onto-requires
 put-onto-requires c κs = search needs
 
--- src/rewrite.rt:302:5
 put-unlast-requires : tie.Need-put-unlast-requires
 put-unlast-requires c κs = search needs
 
--- src/rewrite.rt:281:1
 same-length-3 : tie.Need-same-length-3
 same-length-3 c = search needs
 
--- src/rewrite.rt:281:1
 same-length-4 : tie.Need-same-length-4
 same-length-4 c = search needs
 
--- src/rewrite.rt:281:1
 returns-2 : tie.Need-returns-2
 returns-2 c = λ ns e. pinned-whole _ _ _ _ _ _ ns _ _ _ _ _ _ (c .before .before .before .before .before .before .before .before .before .before .before .before .before .before .before .has-const .ensures ns e) (c .before .before .before .before .before .before .before .before .before .before .before .before .before .before .if1 .left) (c .before .before .before .before .before .before .before .before .before .before .before .put-onto .ensures) (c .before .before .before .before .put-unlast .ensures ns e)
 

@@ -13,13 +13,6 @@ use Rattle.activations.proofs.PassLaws.{write-on}
 use Rattle.activations.proofs.RewriteLaws.{rename-done}
 use Rattle.activations.proofs.rewrite.put_renamed.Statement.{statement}
 use Rattle.activations.proofs.rewrite.put_renamed.Tie as tie
-use Rattle.activations.proofs.rewrite.put_renamed.Reads as reads
-use Rattle.activations.proofs.rewrite.put_renamed.Lts as lts
-use Rattle.activations.proofs.met.meet.Reads as meet-reads
-use Rattle.activations.proofs.met.onward.Reads as onward-reads
-use Rattle.activations.proofs.met.open.Reads as open-reads
-use Rattle.activations.proofs.rewrite.put_met_renamed.Reads as put-met-renamed-reads
-use Rattle.machines.proofs.rows.left.Reads as left-reads
 
 abbrev Inv-loop : tie.InvT-loop
 Inv-loop old s spots b a n k ids held rows at out₀ made₀ v₀ c₀ p₀ out made v c p = (length {A = ℕ} out ≡ length {A = ℕ} out₀) × (length {A = ℕ} made ≡ length {A = ℕ} made₀) × ((ns : List Name) → length ns ≡ b .names → walked ns s (b .last) (writeStep old (renameItems old s spots (b .names) (b .made) a n k ids held rows)) c p (stateOf out made v) ≡ walked ns s (b .last) (writeStep old (renameItems old s spots (b .names) (b .made) a n k ids held rows)) 1 at (stateOf out₀ made₀ v₀))
@@ -27,47 +20,36 @@ Inv-loop old s spots b a n k ids held rows at out₀ made₀ v₀ c₀ p₀ out 
 abbrev μ-loop : tie.MeasureT-loop
 μ-loop old s spots b a n k ids held rows at out₀ made₀ v₀ c₀ p₀ out made v c p = leftT s c p
 
--- src/rewrite.rt:198:5
 loop-holds : tie.Need-loop-holds Inv-loop μ-loop
 loop-holds c = (refl, refl, λ ns e. refl)
 
--- src/rewrite.rt:199:13
 meet-requires : tie.Need-meet-requires Inv-loop μ-loop
 meet-requires c κs = search needs
 
--- src/rewrite.rt:200:9
 put-met-renamed-requires : tie.Need-put-met-renamed-requires Inv-loop μ-loop
 put-met-renamed-requires c κs = search needs
 
--- src/rewrite.rt:201:21
 open-requires : tie.Need-open-requires Inv-loop μ-loop
 open-requires c κs = search needs
 
--- src/rewrite.rt:201:9
 left-requires : tie.Need-left-requires Inv-loop μ-loop
 left-requires c κs = search needs
 
--- src/rewrite.rt:202:9
 onward-requires : tie.Need-onward-requires Inv-loop μ-loop
 onward-requires c κs = search needs
 
--- src/rewrite.rt:198:5
 loop-less : tie.Need-loop-less Inv-loop μ-loop
 loop-less c = left-falls _ (c .before .before .before .before .before .before .before .put-met-renamed .result) _ _ _ _ _ (c .before .before .before .before .before .before .before .before .before .before .before .loop-test .taken) (c .before .left .ensures) (meets-fall _ _ _ _ _ _ _ _ (c .before .before .before .before .before .before .before .before .before .before .before .loop-test .taken) (c .before .before .before .before .before .before .before .before .before .before .meet .ensures) (c .before .before .«open» .ensures) (c .onward .ensures))
 
--- src/rewrite.rt:198:5
 loop-again : tie.Need-loop-again Inv-loop μ-loop
 loop-again c = (c .before .before .before .before .before .before .before .put-met-renamed .kept .1 .1 .1 .1 .1 .1 .1 .1 .1 .1 .1 .1 .0 ∙ c .before .before .before .before .before .before .before .before .before .before .before .before .loop .inv .0, c .before .before .before .before .before .before .before .put-met-renamed .kept .1 .1 .1 .1 .1 .1 .1 .1 .1 .1 .1 .1 .1 .0 ∙ c .before .before .before .before .before .before .before .before .before .before .before .before .loop .inv .1, λ ns e. write-on ns _ _ _ (renameItems (c .before .before .before .before .before .before .before .before .before .before .before .before .before .before .before .before .before .before .before .before .before .args .old .now) (c .before .before .before .before .before .before .before .before .before .before .before .before .before .before .before .before .before .before .before .before .before .args .s .now) (c .before .before .before .before .before .before .before .before .before .before .before .before .before .before .before .before .before .before .before .before .before .args .spots .now) (c .before .before .before .before .before .before .before .before .before .before .before .before .before .before .before .before .before .before .before .before .before .args .b .names) (c .before .before .before .before .before .before .before .before .before .before .before .before .before .before .before .before .before .before .before .before .before .args .b .made) (c .before .before .before .before .before .before .before .before .before .before .before .before .before .before .before .before .before .before .before .before .before .args .a .now) (c .before .before .before .before .before .before .before .before .before .before .before .before .before .before .before .before .before .before .before .before .before .args .n) (c .before .before .before .before .before .before .before .before .before .before .before .before .before .before .before .before .before .before .before .before .before .args .k) (c .before .before .before .before .before .before .before .before .before .before .before .before .before .before .before .before .before .before .before .before .before .args .ids .now) (c .before .before .before .before .before .before .before .before .before .before .before .before .before .before .before .before .before .before .before .before .before .args .held .now) (c .before .before .before .before .before .before .before .before .before .before .before .before .before .before .before .before .before .before .before .before .before .args .rows)) _ _ _ _ _ _ _ _ (c .before .before .before .before .before .before .before .put-met-renamed .result) _ _ (c .before .before .before .before .before .before .before .before .before .before .before .loop-test .taken) (c .before .before .before .before .before .before .before .before .before .before .meet .ensures ns e) (c .before .before .before .before .before .before .before .put-met-renamed .ensures) (c .before .before .«open» .ensures) (c .before .left .ensures) (c .onward .ensures) (c .before .before .before .before .before .before .before .before .before .before .before .before .loop .inv .2 ns e))
 
--- src/rewrite.rt:175:1
 same-length : tie.Need-same-length Inv-loop μ-loop
 same-length c = c .before .loop .inv .0
 
--- src/rewrite.rt:175:1
 same-length-2 : tie.Need-same-length-2 Inv-loop μ-loop
 same-length-2 c = c .before .loop .inv .1
 
--- src/rewrite.rt:175:1
 returns : tie.Need-returns Inv-loop μ-loop
 returns c = λ ns e. rename-done _ _ _ _ _ _ _ _ _ _ _ ns _ _ _ _ _ _ (c .loop-test .left) (c .before .loop .inv .2 ns e)
 

@@ -2,28 +2,19 @@ use Rattle.activations.proofs.RewriteLaws.{var-chosen}
 use borrow.Author.Needs.{needs}
 use Rattle.activations.proofs.rewrite.put_renamed_var.Statement.{statement}
 use Rattle.activations.proofs.rewrite.put_renamed_var.Tie as tie
-use Rattle.activations.proofs.rewrite.put_renamed_var.Reads as reads
-use Rattle.activations.proofs.rewrite.put_renamed_var.Lts as lts
-use Rattle.activations.proofs.rewrite.put_renamed_id.Reads as put-renamed-id-reads
-use Rattle.wire.proofs.writer.put_byte.Reads as put-byte-reads
 
--- src/rewrite.rt:101:9
 put-byte-requires : tie.Need-put-byte-requires
 put-byte-requires c κs = search needs
 
--- src/rewrite.rt:102:5
 put-renamed-id-requires : tie.Need-put-renamed-id-requires
 put-renamed-id-requires c κs = search needs
 
--- src/rewrite.rt:85:1
 same-length : tie.Need-same-length
 same-length c = search needs
 
--- src/rewrite.rt:85:1
 same-length-2 : tie.Need-same-length-2
 same-length-2 c = search needs
 
--- src/rewrite.rt:85:1
 returns : tie.Need-returns
 returns c = var-chosen _ _ _ _ _ _ _ _ _ _ _ _ _ (c .before .before .before .before .before .before .before .before .before .put-byte .ensures _) (c .before .before .before .before .put-renamed-id .ensures)
 

@@ -9,9 +9,6 @@ use Rattle.activations.specs.RewriteAt.{renamedFrom}
 use Rattle.activations.proofs.RewriteLaws.{renamed-end, renamed-hit, renamed-is, renamed-past}
 use Rattle.activations.proofs.rewrite.renamed.Statement.{statement}
 use Rattle.activations.proofs.rewrite.renamed.Tie as tie
-use Rattle.activations.proofs.rewrite.renamed.Reads as reads
-use Rattle.activations.proofs.rewrite.renamed.Lts as lts
-use Rattle.activations.proofs.numbers.sample_id.Reads as sample-id-reads
 
 abbrev Inv-loop : tie.InvT-loop
 Inv-loop old s spots b a n k ids x i₀ v₀ y₀ i v y = (i ≤ length ids) × (renamedFrom (sampleT s spots (b .names) a old (b .made) n k) (drop i ids) v y ≡ renamedFrom (sampleT s spots (b .names) a old (b .made) n k) ids x 65536)
@@ -19,39 +16,30 @@ Inv-loop old s spots b a n k ids x i₀ v₀ y₀ i v y = (i ≤ length ids) × 
 abbrev μ-loop : tie.MeasureT-loop
 μ-loop old s spots b a n k ids x i₀ v₀ y₀ i v y = length ids - i
 
--- src/rewrite.rt:50:5
 loop-holds : tie.Need-loop-holds Inv-loop μ-loop
 loop-holds c = (omega arith, refl)
 
--- src/rewrite.rt:51:12
 mul-if1 : tie.Need-mul-if1 Inv-loop μ-loop
 mul-if1 c = search needs
 
--- src/rewrite.rt:51:12
 shared-slice-read-if1 : tie.Need-shared-slice-read-if1 Inv-loop μ-loop
 shared-slice-read-if1 c = search needs
 
--- src/rewrite.rt:51:12
 cast-if1 : tie.Need-cast-if1 Inv-loop μ-loop
 cast-if1 c = omega (arith, c .shared-slice-known6 .given (c .before .before .loop .i))
 
--- src/rewrite.rt:53:13
 sample-id-requires : tie.Need-sample-id-requires Inv-loop μ-loop
 sample-id-requires c κs = search needs
 
--- src/rewrite.rt:55:9
 add-i : tie.Need-add-i Inv-loop μ-loop
 add-i c = search needs
 
--- src/rewrite.rt:50:5
 loop-less : tie.Need-loop-less Inv-loop μ-loop
 loop-less c = search needs
 
--- src/rewrite.rt:50:5
 loop-again : tie.Need-loop-again Inv-loop μ-loop
 loop-again c = (omega arith, ⊎-elim (λ w. renamed-hit _ (c .before .before .before .before .before .before .before .before .before .args .ids .now) _ (c .before .before .before .loop .v) (c .before .before .before .loop .y) _ _ _ (c .before .before .loop-test .taken) (w .0 .taken) (w .2 ∙ w .1 .ensures) (w .3) (c .before .before .before .loop .inv .1)) (λ w. renamed-past _ (c .before .before .before .before .before .before .before .before .before .args .ids .now) _ (c .before .before .before .loop .v) (c .before .before .before .loop .y) _ _ _ (c .before .before .loop-test .taken) (w .0 .left) (w .1) (w .2) (c .before .before .before .loop .inv .1)) (c .if1 .came))
 
--- src/rewrite.rt:34:1
 returns : tie.Need-returns Inv-loop μ-loop
 returns c = renamed-is _ _ _ _ _ _ _ _ _ _ _ (renamed-end _ (c .before .before .before .before .before .before .before .args .ids .now) _ _ _ _ (c .loop-test .left) (c .before .loop .inv .1))
 
