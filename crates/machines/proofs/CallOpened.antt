@@ -14,6 +14,7 @@ use Rattle.pack.specs.declared.check.Verdict.the-variants as vd
 use Rattle.pack.specs.declared.record.Pack.{Pack}
 use Rattle.pack.proofs.CheckLaws.{record-stands}
 use Rattle.pack.proofs.RoundTrip.{read-value}
+use Rattle.machines.specs.Ends.{EndsRight}
 use Rattle.machines.specs.Relaid.{Long}
 use Rattle.machines.specs.Filled.{Answers, Empty, OpenedAs}
 use Rattle.machines.specs.Call.{lowerMachines, machinesOf}
@@ -34,6 +35,10 @@ pub scratch-empty : Empty (replicate 32768 0) (replicate 32768 0) (replicate 595
 scratch-empty =
     let a = length-replicate {A = ℕ} 32768 0 in let b = length-replicate {A = ℕ} 5958 0 in let c = length-replicate {A = ℕ} 4682 0 in
     record { forNames = omega arith; forMachines = omega arith; noMachine = zeros 32768; forNodes = omega arith; forPlaces = omega arith; forGoals = omega arith; forRegions = omega arith }
+
+-- a table of zeros says no end
+pub scratch-ends : (s : List ℕ) (names : ℕ) → EndsRight s names (replicate 65536 0)
+scratch-ends s names = record { right = λ ns e p h. absurd (omega (arith, zeros 65536 p)) }
 
 -- the table's numbers and values by the verdict
 unfoldable numberFor : Verdict → ℕ

@@ -9,6 +9,7 @@ pub mod Paths
 pub mod Walks
 pub mod Same
 pub mod Covers
+pub mod Ends
 pub mod Laid
 pub mod Lays
 pub mod Valid

@@ -1,5 +1,6 @@
 // The call that lowers a pack's machines: nothing lent is changed before the answer is known.
 use crate::bringing::small;
+use crate::ends::place_ends;
 use crate::judging::judge_all;
 use crate::owners::place_nodes;
 use crate::owners::refused_count;
@@ -29,6 +30,7 @@ ghost use Rattle.pack.specs.Write.{Item};
 ghost use Rattle.pack.specs.Intern.{render};
 ghost use Rattle.pack.specs.Outcome.{Gives, answered, outputOf, reportOf, reported, returned};
 ghost use Rattle.pack.specs.Verdict.{Stands};
+ghost use Rattle.machines.specs.Ends.{EndsRight};
 ghost use Rattle.machines.specs.Laid.{sliceOf};
 ghost use Rattle.machines.specs.Brought.{totalT};
 ghost use Rattle.machines.specs.Relaid.{AllWrite, Long, enumsAt, equationsAt};
@@ -45,6 +47,7 @@ fn fill_tables(
     k: Pack,
     spots: &mut [u16],
     to: &mut [u16],
+    ends: &[u16],
     t: &mut [usize],
     reg: &mut [usize],
     lets: &mut [u8],
@@ -53,7 +56,7 @@ fn fill_tables(
     ats: &mut [usize],
     regs: &mut [usize],
 ) -> usize
-    requires { ⌜ (length (now s) ≤ 65536) × Long (now t) (now reg) (now lets) ⌝ }
+    requires { ⌜ (length (now s) ≤ 65536) × Long (now t) (now reg) (now lets) × EndsRight (now s) (k .names) (now ends) ⌝ }
     ensures { λ r. ⌜ ((ns : List Name) → length ns ≡ k .names → Filled ns (now (s .entry)) k (now (spots .entry)) (now (to .entry)) (now (nodes .entry)) (now (mats .entry)) (now (ats .entry)) (now (regs .entry)) (now (spots .exit)) (now (to .exit)) (now (nodes .exit)) (now (mats .exit)) (now (ats .exit)) (now (regs .exit))) ⌝ }
     ensures { λ r. ⌜ r ≡ totalT (refusedT (now (ats .exit))) (machineCount (now (s .entry)) k) 0 ⌝ }
 {
@@ -64,7 +67,20 @@ fn fill_tables(
     place_names(s, k.names, spots);
     place_machines(s, k.names, k.machines, to);
     place_nodes(s, k.names, old, c.next, nodes);
-    judge_all(s, k.names, spots, to, t, reg, lets, n, m.next, mats, regs);
+    judge_all(
+        s,
+        k.names,
+        spots,
+        to,
+        ends,
+        t,
+        reg,
+        lets,
+        n,
+        m.next,
+        mats,
+        regs,
+    );
     settle_all(s, mats, regs, n, ats, nodes, old);
     refused_count(ats, n)
 }
@@ -75,6 +91,7 @@ fn report_all(
     names: usize,
     spots: &[u16],
     to: &[u16],
+    ends: &[u16],
     t: &mut [usize],
     reg: &mut [usize],
     lets: &mut [u8],
@@ -85,10 +102,10 @@ fn report_all(
     refused: usize,
     report: &mut [u8],
 ) -> Outcome
-    requires { ⌜ (length (now s) ≤ 65536) × Long (now t) (now reg) (now lets) × (n ≤ 65536) × Reports (now s) (now spots) (now to) (now mats) (now regs) (now ats) names n ⌝ }
+    requires { ⌜ (length (now s) ≤ 65536) × Long (now t) (now reg) (now lets) × (n ≤ 65536) × Reports (now s) (now spots) (now to) (now mats) (now regs) (now ats) names n × EndsRight (now s) names (now ends) ⌝ }
     ensures { λ r. ⌜ ((ns : List Name) → length ns ≡ names → (es : ℕ → List ℕ) → EntersAll ns (now (s .entry)) (now (spots .entry)) (now (to .entry)) (now (mats .entry)) (now (regs .entry)) (now (ats .entry)) n es → (output : List ℕ) → Answers (reported (length (now (report .entry))) (two refused ++ bytesT (ofRefused (now (ats .entry)) es) n 0)) (r .number) (r .value) output output (now (report .entry)) (now (report .exit))) ⌝ }
 {
-    let b = report_len(s, names, spots, to, t, reg, lets, mats, ats, regs, n);
+    let b = report_len(s, names, spots, to, ends, t, reg, lets, mats, ats, regs, n);
     if report.len() < b {
         return Outcome {
             number: 7,
@@ -100,6 +117,7 @@ fn report_all(
         names,
         spots,
         to,
+        ends,
         t,
         reg,
         lets,
@@ -122,6 +140,7 @@ fn write_all(
     k: Pack,
     spots: &[u16],
     to: &[u16],
+    ends: &[u16],
     t: &mut [usize],
     reg: &mut [usize],
     lets: &mut [u8],
@@ -131,7 +150,7 @@ fn write_all(
     n: usize,
     output: &mut [u8],
 ) -> Outcome
-    requires { ⌜ (length (now s) ≤ 65536) × (n ≤ 65536) × Long (now t) (now reg) (now lets) ⌝ }
+    requires { ⌜ (length (now s) ≤ 65536) × (n ≤ 65536) × Long (now t) (now reg) (now lets) × EndsRight (now s) (k .names) (now ends) ⌝ }
     ensures { λ r. ⌜ ((ns : List Name) → length ns ≡ k .names → (old : List ℕ) → old ≡ sliceOf (now (s .entry)) 2 (k .enums - 2) → (eqs ens : ℕ → List Item) → AllWrite old (equationsAt ns (now (s .entry)) (now (spots .entry)) (now (to .entry))) (now (mats .entry)) n eqs → AllWrite old (enumsAt ns (now (s .entry)) (now (spots .entry)) (now (to .entry))) (now (mats .entry)) n ens → Gives (answered (length (now (output .entry))) old (render old (sectionsT ns (now (s .entry)) (now (mats .entry)) (now (ats .entry)) (now (regs .entry)) (now (spots .entry)) n eqs ens k) (st maxBytes maxBytes [] []))) (r .number) (r .value) (now (output .entry)) (now (output .exit))) ⌝ }
 {
     let mut out = [0u8; 65536];
@@ -143,6 +162,7 @@ fn write_all(
         k,
         spots,
         to,
+        ends,
         t,
         reg,
         lets,
@@ -162,6 +182,7 @@ fn lower_opened(
     k: Pack,
     spots: &mut [u16],
     to: &mut [u16],
+    ends: &[u16],
     t: &mut [usize],
     reg: &mut [usize],
     lets: &mut [u8],
@@ -172,19 +193,20 @@ fn lower_opened(
     output: &mut [u8],
     report: &mut [u8],
 ) -> Outcome
-    requires { ⌜ (length (now s) ≤ 65536) × Long (now t) (now reg) (now lets) × Empty (now spots) (now to) (now nodes) (now mats) (now ats) (now regs) × OpenedAs (now s) k ⌝ }
+    requires { ⌜ (length (now s) ≤ 65536) × Long (now t) (now reg) (now lets) × Empty (now spots) (now to) (now nodes) (now mats) (now ats) (now regs) × OpenedAs (now s) k × EndsRight (now s) (k .names) (now ends) ⌝ }
     ensures { λ r. ⌜ ((p : Package) → Stands (now (s .entry)) k p → Answers (machinesOf (length (now (output .entry))) (length (now (report .entry))) p) (r .number) (r .value) (now (output .entry)) (now (output .exit)) (now (report .entry)) (now (report .exit))) ⌝ }
 {
     let names = k.names;
     let m = number(s, k.machines);
     let n = small(m.value);
-    let refused = fill_tables(s, k, spots, to, t, reg, lets, nodes, mats, ats, regs);
+    let refused = fill_tables(s, k, spots, to, ends, t, reg, lets, nodes, mats, ats, regs);
     if refused != 0 {
         return report_all(
             s,
             names,
             spots,
             to,
+            ends,
             t,
             reg,
             lets,
@@ -196,7 +218,21 @@ fn lower_opened(
             report,
         );
     }
-    write_all(s, k, spots, to, t, reg, lets, mats, ats, regs, n, output)
+    write_all(
+        s,
+        k,
+        spots,
+        to,
+        ends,
+        t,
+        reg,
+        lets,
+        mats,
+        ats,
+        regs,
+        n,
+        output,
+    )
 }
 
 // The scratch of a call: a pack of 65,536 bytes has at most 32,767 names, 5,957 nodes and 4,681 machines; the layout of
@@ -207,6 +243,7 @@ fn lower_whole(s: &[u8], k: Pack, output: &mut [u8], report: &mut [u8]) -> Outco
 {
     let mut spots = [0u16; 32768];
     let mut to = [0u16; 32768];
+    let mut ends = [0u16; 65536];
     let mut t = [0usize; 7698];
     let mut reg = [0usize; 514];
     let mut lets = [0u8; 131072];
@@ -214,11 +251,13 @@ fn lower_whole(s: &[u8], k: Pack, output: &mut [u8], report: &mut [u8]) -> Outco
     let mut mats = [0usize; 4682];
     let mut ats = [0usize; 4682];
     let mut regs = [0usize; 4682];
+    place_ends(s, k.names, k.machines, &mut ends);
     lower_opened(
         s,
         k,
         &mut spots,
         &mut to,
+        &ends,
         &mut t,
         &mut reg,
         &mut lets,

@@ -1,9 +1,9 @@
 // Whether a resolved machine's states give an output: a state calls its regions and a region its states,
 // with the levels left as the falling number.
+use crate::ends::end_of;
 use crate::rows::first;
 use crate::rows::inner;
 use crate::rows::word;
-use crate::sure::after_equation;
 use crate::sure::number;
 use crate::table::entry;
 ghost use mathlib.Core.List.{List};
@@ -12,6 +12,7 @@ ghost use mathlib.Core.Bool.{_&&_, _||_};
 ghost use Prim.Native.Nat.{_≤_};
 ghost use lib.ListN.{length};
 ghost use Rattle.pack.specs.Names.{Name};
+ghost use Rattle.machines.specs.Ends.{EndsRight};
 ghost use Rattle.machines.specs.Covers.{givesT, orNext, ownT, missT, uncoveredT};
 
 // A yes or no, and the offset after what it was asked of.
@@ -33,13 +34,13 @@ pub fn both(a: bool, b: bool) -> bool
 }
 
 // Whether `out` is an equation's only left name.
-fn gives(s: &[u8], names: usize, out: usize, at: usize) -> Told
-    requires { ⌜ length (now s) ≤ 65536 ⌝ }
+fn gives(s: &[u8], names: usize, ends: &[u16], out: usize, at: usize) -> Told
+    requires { ⌜ (length (now s) ≤ 65536) × EndsRight (now s) names (now ends) ⌝ }
     ensures { λ r. ⌜ ((ns : List Name) → length ns ≡ names → r ≡ givesT ns (now (s .entry)) out at) ⌝ }
 {
     let k = number(s, at);
     let i = number(s, k.next);
-    let next = after_equation(s, names, at);
+    let next = end_of(s, names, ends, at);
     Told {
         yes: both(k.value == 1, i.value == out),
         next,
@@ -47,8 +48,8 @@ fn gives(s: &[u8], names: usize, out: usize, at: usize) -> Told
 }
 
 // Whether an equation of the state at `at` gives `out`.
-fn own(s: &[u8], names: usize, out: usize, at: usize) -> bool
-    requires { ⌜ length (now s) ≤ 65536 ⌝ }
+fn own(s: &[u8], names: usize, ends: &[u16], out: usize, at: usize) -> bool
+    requires { ⌜ (length (now s) ≤ 65536) × EndsRight (now s) names (now ends) ⌝ }
     ensures { λ r. ⌜ ((ns : List Name) → length ns ≡ names → r ≡ ownT ns (now (s .entry)) out at) ⌝ }
 {
     let i = number(s, at);
@@ -57,7 +58,7 @@ fn own(s: &[u8], names: usize, out: usize, at: usize) -> bool
     let mut p = t.next;
     let mut a = false;
     while 0 < n {
-        let e = gives(s, names, out, p);
+        let e = gives(s, names, ends, out, p);
         a = either(a, e.yes);
         n = n - 1;
         p = e.next;
@@ -77,15 +78,16 @@ fn or_next(a: usize, b: usize) -> usize
 fn uncovered_state(
     s: &[u8],
     names: usize,
+    ends: &[u16],
     t: &[usize],
     out: usize,
     levels: usize,
     p: usize,
 ) -> usize
-    requires { ⌜ length (now s) ≤ 65536 ⌝ }
+    requires { ⌜ (length (now s) ≤ 65536) × EndsRight (now s) names (now ends) ⌝ }
     ensures { λ r. ⌜ ((ns : List Name) → length ns ≡ names → r ≡ missT ns (now (s .entry)) (now (t .entry)) out (uncoveredT ns (now (s .entry)) (now (t .entry)) out levels) p) ⌝ }
 {
-    if own(s, names, out, entry(t, p)) {
+    if own(s, names, ends, out, entry(t, p)) {
         return 0;
     }
     let mut n = word(t, p, 5);
@@ -95,7 +97,7 @@ fn uncovered_state(
     let mut g = inner(t, p);
     let mut miss = 0;
     while 0 < n {
-        let m = uncovered_region(s, names, t, out, levels, g);
+        let m = uncovered_region(s, names, ends, t, out, levels, g);
         if m == 0 {
             return 0;
         }
@@ -110,12 +112,13 @@ fn uncovered_state(
 pub fn uncovered_region(
     s: &[u8],
     names: usize,
+    ends: &[u16],
     t: &[usize],
     out: usize,
     levels: usize,
     q: usize,
 ) -> usize
-    requires { ⌜ length (now s) ≤ 65536 ⌝ }
+    requires { ⌜ (length (now s) ≤ 65536) × EndsRight (now s) names (now ends) ⌝ }
     ensures { λ r. ⌜ ((ns : List Name) → length ns ≡ names → r ≡ uncoveredT ns (now (s .entry)) (now (t .entry)) out levels q) ⌝ }
 {
     if levels == 0 {
@@ -124,7 +127,7 @@ pub fn uncovered_region(
     let mut n = word(t, q, 6);
     let mut p = first(t, q);
     while 0 < n {
-        let m = uncovered_state(s, names, t, out, levels - 1, p);
+        let m = uncovered_state(s, names, ends, t, out, levels - 1, p);
         if m != 0 {
             return m;
         }

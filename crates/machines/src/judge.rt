@@ -22,6 +22,7 @@ ghost use mathlib.Core.Path.{_≡_};
 ghost use Prim.Native.Nat.{_≤_};
 ghost use lib.ListN.{length};
 ghost use Rattle.pack.specs.Names.{Name};
+ghost use Rattle.machines.specs.Ends.{EndsRight};
 ghost use Rattle.machines.specs.Lays.{board};
 ghost use Rattle.machines.specs.Judging.{noName, named as namedOf, refusedBy, stateCalled, calledAt, againCalled, outputsJ, outputsAt, checkedJ, laidJ, judgeAt, boardAt};
 
@@ -97,19 +98,20 @@ fn again_called(lets: &[u8], d: usize) -> Called
 fn judge_outputs(
     s: &[u8],
     names: usize,
+    ends: &[u16],
     t: &[usize],
     count: usize,
     from: usize,
     regions: usize,
 ) -> Judged
-    requires { ⌜ length (now s) ≤ 65536 ⌝ }
+    requires { ⌜ (length (now s) ≤ 65536) × EndsRight (now s) names (now ends) ⌝ }
     ensures { λ r. ⌜ ((ns : List Name) → length ns ≡ names → r ≡ outputsJ ns (now (s .entry)) (now (t .entry)) regions count from) ⌝ }
 {
     let mut n = count;
     let mut p = from;
     while 0 < n {
         let x = number(s, p);
-        let m = uncovered_region(s, names, t, x.value, Pack::LEVELS, 0);
+        let m = uncovered_region(s, names, ends, t, x.value, Pack::LEVELS, 0);
         if m != 0 {
             return refused(4, named(x.value), state_called(t, m));
         }
@@ -128,18 +130,19 @@ fn judge_outputs(
 fn judge_checked(
     s: &[u8],
     names: usize,
+    ends: &[u16],
     t: &[usize],
     c: Checked,
     outputs: usize,
     regions: usize,
 ) -> Judged
-    requires { ⌜ length (now s) ≤ 65536 ⌝ }
+    requires { ⌜ (length (now s) ≤ 65536) × EndsRight (now s) names (now ends) ⌝ }
     ensures { λ r. ⌜ ((ns : List Name) → length ns ≡ names → r ≡ checkedJ ns (now (s .entry)) (now (t .entry)) c outputs regions) ⌝ }
 {
     match c {
         Checked::Fine => {
             let k = number(s, outputs);
-            judge_outputs(s, names, t, k.value, k.next, regions)
+            judge_outputs(s, names, ends, t, k.value, k.next, regions)
         }
         Checked::Initial(q) => refused(2, called_in(t, q, entry(t, q)), no_name()),
         Checked::Target {
@@ -154,13 +157,14 @@ fn judge_checked(
 fn judge_laid(
     s: &[u8],
     names: usize,
+    ends: &[u16],
     t: &[usize],
     lets: &[u8],
     letters: usize,
     regions: usize,
     outputs: usize,
 ) -> Judged
-    requires { ⌜ length (now s) ≤ 65536 ⌝ }
+    requires { ⌜ (length (now s) ≤ 65536) × EndsRight (now s) names (now ends) ⌝ }
     ensures { λ r. ⌜ ((ns : List Name) → length ns ≡ names → r ≡ laidJ ns (now (s .entry)) (now (t .entry)) (now (lets .entry)) letters regions outputs) ⌝ }
 {
     if entry(t, 6) == 0 {
@@ -171,7 +175,7 @@ fn judge_laid(
         return refused(5, again_called(lets, d), no_name());
     }
     let c = check_region(s, names, t, Pack::LEVELS, 0);
-    judge_checked(s, names, t, c, outputs, regions)
+    judge_checked(s, names, ends, t, c, outputs, regions)
 }
 
 // The machine at the offset `at`. Where it resolves, it is then laid out in the tables.
@@ -180,12 +184,13 @@ pub fn judge(
     names: usize,
     spots: &[u16],
     to: &[u16],
+    ends: &[u16],
     t: &mut [usize],
     reg: &mut [usize],
     lets: &mut [u8],
     at: usize,
 ) -> Judged
-    requires { ⌜ length (now s) ≤ 65536 ⌝ }
+    requires { ⌜ (length (now s) ≤ 65536) × EndsRight (now s) names (now ends) ⌝ }
     ensures { λ r. ⌜ ((ns : List Name) → length ns ≡ names → r ≡ judgeAt ns (now (s .entry)) (now (spots .entry)) (now (to .entry)) at (now (t .entry)) (now (reg .entry)) (now (lets .entry))) ⌝ }
     ensures { λ r. ⌜ ((ns : List Name) → length ns ≡ names → now (lets .exit) ≡ boardAt ns (now (s .entry)) (now (spots .entry)) (now (to .entry)) at (now (t .entry)) (now (reg .entry)) (now (lets .entry)) .lets) ⌝ }
 {
@@ -199,7 +204,7 @@ pub fn judge(
         Walked::Went(_, _, _) => {
             let l = lay_machine(s, names, spots, to, t, reg, lets, i);
             let o = to_outputs(s, names, m.next);
-            judge_laid(s, names, t, lets, l.letters, l.regions, o)
+            judge_laid(s, names, ends, t, lets, l.letters, l.regions, o)
         }
     }
 }

@@ -5,6 +5,7 @@ pub mod table; // names and machines by name index
 pub mod path; // the machines on the way from the top
 pub mod heads; // what resolving needs of a state
 pub mod walk; // resolving, which counts states and makes no tree
+pub mod ends; // where equations end
 pub mod cover; // whether a resolved machine's states give an output
 pub mod spell; // full names of states, as letters
 pub mod opening; // a region before its states

@@ -18,6 +18,7 @@ ghost use Rattle.wire.specs.Writer.{stateOf};
 ghost use Rattle.pack.specs.Names.{Name};
 ghost use Rattle.pack.specs.Write.{Item};
 ghost use Rattle.pack.specs.Intern.{render};
+ghost use Rattle.machines.specs.Ends.{EndsRight};
 ghost use Rattle.machines.specs.Brought.{eachT};
 ghost use Rattle.machines.specs.Relaid.{AllWrite, Long, broughtAt, enumsAt, equationsAt};
 ghost use Rattle.machines.specs.Parts.{broughtEquationsT};
@@ -29,6 +30,7 @@ fn put_equations(
     names: usize,
     spots: &[u16],
     to: &[u16],
+    ends: &[u16],
     t: &mut [usize],
     reg: &mut [usize],
     lets: &mut [u8],
@@ -37,7 +39,7 @@ fn put_equations(
     made: &mut [u8],
     w: Writer,
 ) -> Writer
-    requires { ⌜ length (now s) ≤ 65536 ⌝ }
+    requires { ⌜ (length (now s) ≤ 65536) × EndsRight (now s) names (now ends) ⌝ }
     ensures { λ r. ⌜ ((ns : List Name) → length ns ≡ names → stateOf (now (out .exit)) (now (made .exit)) r ≡ render (now (old .entry)) (equationsAt ns (now (s .entry)) (now (spots .entry)) (now (to .entry)) at (now (t .entry)) (now (reg .entry)) (now (lets .entry))) (stateOf (now (out .entry)) (now (made .entry)) w)) ⌝ }
 {
     let m = number(s, at);
@@ -45,7 +47,7 @@ fn put_equations(
     let l = lay_machine(s, names, spots, to, t, reg, lets, i);
     let o = to_outputs(s, names, m.next);
     let v = put_regions_equations(old, s, names, spots, t, reg, lets, l.regions, out, made, w);
-    put_outputs(old, s, names, t, lets, o, out, made, v)
+    put_outputs(old, s, names, ends, t, lets, o, out, made, v)
 }
 
 // Its enums.
@@ -80,6 +82,7 @@ fn put_brought_equations(
     names: usize,
     spots: &[u16],
     to: &[u16],
+    ends: &[u16],
     t: &mut [usize],
     reg: &mut [usize],
     lets: &mut [u8],
@@ -91,13 +94,27 @@ fn put_brought_equations(
     made: &mut [u8],
     w: Writer,
 ) -> Writer
-    requires { ⌜ length (now s) ≤ 65536 ⌝ }
+    requires { ⌜ (length (now s) ≤ 65536) × EndsRight (now s) names (now ends) ⌝ }
     ensures { λ r. ⌜ ((ns : List Name) → length ns ≡ names → stateOf (now (out .exit)) (now (made .exit)) r ≡ render (now (old .entry)) (broughtAt ns (now (s .entry)) (now (spots .entry)) (now (to .entry)) (now (mats .entry)) (now (ats .entry)) k i (now (t .entry)) (now (reg .entry)) (now (lets .entry))) (stateOf (now (out .entry)) (now (made .entry)) w)) ⌝ }
 {
     let a = entry(ats, i);
     let m = entry(mats, i);
     if a == k {
-        return put_equations(old, s, names, spots, to, t, reg, lets, m, out, made, w);
+        return put_equations(
+            old,
+            s,
+            names,
+            spots,
+            to,
+            ends,
+            t,
+            reg,
+            lets,
+            m,
+            out,
+            made,
+            w,
+        );
     }
     w
 }
@@ -109,6 +126,7 @@ pub fn put_all_equations(
     names: usize,
     spots: &[u16],
     to: &[u16],
+    ends: &[u16],
     t: &mut [usize],
     reg: &mut [usize],
     lets: &mut [u8],
@@ -120,7 +138,7 @@ pub fn put_all_equations(
     made: &mut [u8],
     w: Writer,
 ) -> Writer
-    requires { ⌜ (length (now s) ≤ 65536) × Long (now t) (now reg) (now lets) ⌝ }
+    requires { ⌜ (length (now s) ≤ 65536) × Long (now t) (now reg) (now lets) × EndsRight (now s) names (now ends) ⌝ }
     ensures { λ r. ⌜ ((ns : List Name) → length ns ≡ names → (eqs : ℕ → List Item) → AllWrite (now (old .entry)) (equationsAt ns (now (s .entry)) (now (spots .entry)) (now (to .entry))) (now (mats .entry)) n eqs → stateOf (now (out .exit)) (now (made .exit)) r ≡ render (now (old .entry)) (eachT (broughtEquationsT (now (ats .entry)) eqs k) n 0) (stateOf (now (out .entry)) (now (made .entry)) w)) ⌝ }
 {
     let mut v = w;
@@ -133,6 +151,7 @@ pub fn put_all_equations(
             names,
             spots,
             to,
+            ends,
             t,
             reg,
             lets,

@@ -17,6 +17,7 @@ ghost use lib.ListN.{length};
 ghost use Rattle.wire.specs.Bytes.{two};
 ghost use Rattle.pack.specs.Names.{Name};
 ghost use Rattle.pack.specs.Outcome.{overwritten};
+ghost use Rattle.machines.specs.Ends.{EndsRight};
 ghost use Rattle.machines.specs.Relaid.{Long};
 ghost use Rattle.machines.specs.Reporting.{bytesT, ofRefused, refusalT, lettersT, refusedEntryT, EntersAll, RoomAt, RoomForAll};
 
@@ -26,6 +27,7 @@ fn refusal_of(
     names: usize,
     spots: &[u16],
     to: &[u16],
+    ends: &[u16],
     t: &mut [usize],
     reg: &mut [usize],
     lets: &mut [u8],
@@ -33,14 +35,14 @@ fn refusal_of(
     regs: &[usize],
     i: usize,
 ) -> Judged
-    requires { ⌜ length (now s) ≤ 65536 ⌝ }
+    requires { ⌜ (length (now s) ≤ 65536) × EndsRight (now s) names (now ends) ⌝ }
     ensures { λ r. ⌜ ((ns : List Name) → length ns ≡ names → r ≡ refusalT ns (now (s .entry)) (now (spots .entry)) (now (to .entry)) (now (mats .entry)) (now (regs .entry)) i (now (t .entry)) (now (reg .entry)) (now (lets .entry))) ⌝ }
     ensures { λ r. ⌜ ((ns : List Name) → length ns ≡ names → now (lets .exit) ≡ lettersT ns (now (s .entry)) (now (spots .entry)) (now (to .entry)) (now (mats .entry)) (now (regs .entry)) i (now (t .entry)) (now (reg .entry)) (now (lets .entry))) ⌝ }
 {
     let at = entry(mats, i);
     let g = entry(regs, i);
     if g == 0 {
-        return judge(s, names, spots, to, t, reg, lets, at);
+        return judge(s, names, spots, to, ends, t, reg, lets, at);
     }
     let m = number(s, at);
     let o = number(s, m.next);
@@ -53,6 +55,7 @@ fn refusal_len(
     names: usize,
     spots: &[u16],
     to: &[u16],
+    ends: &[u16],
     t: &mut [usize],
     reg: &mut [usize],
     lets: &mut [u8],
@@ -61,7 +64,7 @@ fn refusal_len(
     regs: &[usize],
     i: usize,
 ) -> usize
-    requires { ⌜ (length (now s) ≤ 65536) × Long (now t) (now reg) (now lets) ⌝ }
+    requires { ⌜ (length (now s) ≤ 65536) × Long (now t) (now reg) (now lets) × EndsRight (now s) names (now ends) ⌝ }
     ensures { λ r. ⌜ (r ≤ 34359738368) × ((ns : List Name) → length ns ≡ names → r ≡ length (refusedEntryT ns (now (s .entry)) (now (spots .entry)) (now (to .entry)) (now (mats .entry)) (now (regs .entry)) (now (ats .entry)) i (now (t .entry)) (now (reg .entry)) (now (lets .entry)))) ⌝ }
 {
     let a = entry(ats, i);
@@ -70,7 +73,7 @@ fn refusal_len(
     }
     let at = entry(mats, i);
     let m = number(s, at);
-    let j = refusal_of(s, names, spots, to, t, reg, lets, mats, regs, i);
+    let j = refusal_of(s, names, spots, to, ends, t, reg, lets, mats, regs, i);
     entry_len(s, spots, lets, m.value, j)
 }
 
@@ -80,6 +83,7 @@ pub fn report_len(
     names: usize,
     spots: &[u16],
     to: &[u16],
+    ends: &[u16],
     t: &mut [usize],
     reg: &mut [usize],
     lets: &mut [u8],
@@ -88,13 +92,13 @@ pub fn report_len(
     regs: &[usize],
     n: usize,
 ) -> usize
-    requires { ⌜ (length (now s) ≤ 65536) × Long (now t) (now reg) (now lets) × (n ≤ 65536) ⌝ }
+    requires { ⌜ (length (now s) ≤ 65536) × Long (now t) (now reg) (now lets) × (n ≤ 65536) × EndsRight (now s) names (now ends) ⌝ }
     ensures { λ r. ⌜ ((ns : List Name) → length ns ≡ names → (es : ℕ → List ℕ) → EntersAll ns (now (s .entry)) (now (spots .entry)) (now (to .entry)) (now (mats .entry)) (now (regs .entry)) (now (ats .entry)) n es → r ≡ 2 + length (bytesT (ofRefused (now (ats .entry)) es) n 0)) ⌝ }
 {
     let mut i = 0;
     let mut c = 2;
     while i < n {
-        c += refusal_len(s, names, spots, to, t, reg, lets, mats, ats, regs, i);
+        c += refusal_len(s, names, spots, to, ends, t, reg, lets, mats, ats, regs, i);
         i += 1;
     }
     c
@@ -106,6 +110,7 @@ fn put_refusal(
     names: usize,
     spots: &[u16],
     to: &[u16],
+    ends: &[u16],
     t: &mut [usize],
     reg: &mut [usize],
     lets: &mut [u8],
@@ -116,7 +121,7 @@ fn put_refusal(
     report: &mut [u8],
     at: usize,
 ) -> usize
-    requires { ⌜ (length (now s) ≤ 65536) × RoomAt (now s) (now spots) (now to) (now mats) (now regs) (now ats) (now t) (now reg) (now lets) names i at (length (now report)) ⌝ }
+    requires { ⌜ (length (now s) ≤ 65536) × RoomAt (now s) (now spots) (now to) (now mats) (now regs) (now ats) (now t) (now reg) (now lets) names i at (length (now report)) × EndsRight (now s) names (now ends) ⌝ }
     ensures { λ r. ⌜ ((ns : List Name) → length ns ≡ names → (r ≡ at + length (refusedEntryT ns (now (s .entry)) (now (spots .entry)) (now (to .entry)) (now (mats .entry)) (now (regs .entry)) (now (ats .entry)) i (now (t .entry)) (now (reg .entry)) (now (lets .entry)))) × (now (report .exit) ≡ overwritten at (refusedEntryT ns (now (s .entry)) (now (spots .entry)) (now (to .entry)) (now (mats .entry)) (now (regs .entry)) (now (ats .entry)) i (now (t .entry)) (now (reg .entry)) (now (lets .entry))) (now (report .entry)))) ⌝ }
 {
     let a = entry(ats, i);
@@ -125,7 +130,7 @@ fn put_refusal(
     }
     let p = entry(mats, i);
     let m = number(s, p);
-    let j = refusal_of(s, names, spots, to, t, reg, lets, mats, regs, i);
+    let j = refusal_of(s, names, spots, to, ends, t, reg, lets, mats, regs, i);
     put_entry(s, spots, lets, m.value, j, report, at)
 }
 
@@ -135,6 +140,7 @@ pub fn put_report(
     names: usize,
     spots: &[u16],
     to: &[u16],
+    ends: &[u16],
     t: &mut [usize],
     reg: &mut [usize],
     lets: &mut [u8],
@@ -145,7 +151,7 @@ pub fn put_report(
     refused: usize,
     report: &mut [u8],
 )
-    requires { ⌜ (length (now s) ≤ 65536) × Long (now t) (now reg) (now lets) × RoomForAll (now s) (now spots) (now to) (now mats) (now regs) (now ats) names n (length (now report)) ⌝ }
+    requires { ⌜ (length (now s) ≤ 65536) × Long (now t) (now reg) (now lets) × RoomForAll (now s) (now spots) (now to) (now mats) (now regs) (now ats) names n (length (now report)) × EndsRight (now s) names (now ends) ⌝ }
     ensures { λ _. ⌜ ((ns : List Name) → length ns ≡ names → (es : ℕ → List ℕ) → EntersAll ns (now (s .entry)) (now (spots .entry)) (now (to .entry)) (now (mats .entry)) (now (regs .entry)) (now (ats .entry)) n es → now (report .exit) ≡ overwritten 0 (two refused ++ bytesT (ofRefused (now (ats .entry)) es) n 0) (now (report .entry))) ⌝ }
 {
     put_count(refused, report);
@@ -157,6 +163,7 @@ pub fn put_report(
             names,
             spots,
             to,
+            ends,
             t,
             reg,
             lets,

@@ -19,6 +19,7 @@ ghost use Rattle.wire.specs.Writer.{st, stateOf};
 ghost use Rattle.pack.specs.Names.{Name};
 ghost use Rattle.pack.specs.Write.{Item};
 ghost use Rattle.pack.specs.Intern.{render};
+ghost use Rattle.machines.specs.Ends.{EndsRight};
 ghost use Rattle.machines.specs.Relaid.{AllWrite, Long, enumsAt, equationsAt};
 ghost use Rattle.machines.specs.Parts.{enumsPartT, originsPartT, sectionsT};
 
@@ -101,6 +102,7 @@ pub fn put_sections(
     k: Pack,
     spots: &[u16],
     to: &[u16],
+    ends: &[u16],
     t: &mut [usize],
     reg: &mut [usize],
     lets: &mut [u8],
@@ -111,7 +113,7 @@ pub fn put_sections(
     out: &mut [u8],
     made: &mut [u8],
 ) -> Writer
-    requires { ⌜ (length (now s) ≤ 65536) × (n ≤ 65536) × Long (now t) (now reg) (now lets) ⌝ }
+    requires { ⌜ (length (now s) ≤ 65536) × (n ≤ 65536) × Long (now t) (now reg) (now lets) × EndsRight (now s) (k .names) (now ends) ⌝ }
     ensures { λ r. ⌜ ((ns : List Name) → length ns ≡ k .names → (eqs ens : ℕ → List Item) → AllWrite (now (old .entry)) (equationsAt ns (now (s .entry)) (now (spots .entry)) (now (to .entry))) (now (mats .entry)) n eqs → AllWrite (now (old .entry)) (enumsAt ns (now (s .entry)) (now (spots .entry)) (now (to .entry))) (now (mats .entry)) n ens → stateOf (now (out .exit)) (now (made .exit)) r ≡ render (now (old .entry)) (sectionsT ns (now (s .entry)) (now (mats .entry)) (now (ats .entry)) (now (regs .entry)) (now (spots .entry)) n eqs ens k) (st (length (now (out .entry))) (length (now (made .entry))) [] [])) ⌝ }
 {
     let w = Writer::start();
@@ -139,6 +141,7 @@ pub fn put_sections(
         k.names,
         spots,
         to,
+        ends,
         t,
         reg,
         lets,

@@ -3,12 +3,12 @@
 use crate::chains::put_test;
 use crate::cover::both;
 use crate::cover::uncovered_region;
+use crate::ends::end_of;
 use crate::rows::between;
 use crate::rows::first;
 use crate::rows::inner;
 use crate::rows::left;
 use crate::rows::word;
-use crate::sure::after_equation;
 use crate::sure::after_expr;
 use crate::sure::after_port;
 use crate::sure::number;
@@ -24,12 +24,13 @@ ghost use lib.ListN.{length, getD};
 ghost use Rattle.wire.specs.Writer.{puts, stateOf};
 ghost use Rattle.pack.specs.Names.{Name};
 ghost use Rattle.pack.specs.Intern.{render};
+ghost use Rattle.machines.specs.Ends.{EndsRight};
 ghost use Rattle.machines.specs.Covers.{uncoveredT};
 ghost use Rattle.machines.specs.Values.{sideT, sideBytes, enteredT, inStateT, valueT, outputT, portOutputsT};
 
 // Where the right side stands of the first equation of the state at `at` that has x as its only left name; 0 where there is none.
-fn own_side(s: &[u8], names: usize, x: usize, at: usize) -> usize
-    requires { ⌜ length (now s) ≤ 65536 ⌝ }
+fn own_side(s: &[u8], names: usize, ends: &[u16], x: usize, at: usize) -> usize
+    requires { ⌜ (length (now s) ≤ 65536) × EndsRight (now s) names (now ends) ⌝ }
     ensures { λ r. ⌜ ((ns : List Name) → length ns ≡ names → r ≡ sideT ns (now (s .entry)) x at) ⌝ }
 {
     let i = number(s, at);
@@ -42,7 +43,7 @@ fn own_side(s: &[u8], names: usize, x: usize, at: usize) -> usize
         if both(k.value == 1, l.value == x) {
             return l.next;
         }
-        p = after_equation(s, names, p);
+        p = end_of(s, names, ends, p);
         n = n - 1;
     }
     0
@@ -52,29 +53,38 @@ fn own_side(s: &[u8], names: usize, x: usize, at: usize) -> usize
 fn put_own(
     s: &[u8],
     names: usize,
+    ends: &[u16],
     t: &[usize],
     x: usize,
     p: usize,
     out: &mut [u8],
     w: Writer,
 ) -> Writer
-    requires { ⌜ length (now s) ≤ 65536 ⌝ }
+    requires { ⌜ (length (now s) ≤ 65536) × EndsRight (now s) names (now ends) ⌝ }
     ensures { λ r. ⌜ ((ns : List Name) → length ns ≡ names → (m : List ℕ) → stateOf (now (out .exit)) m r ≡ puts (sideBytes ns (now (s .entry)) x (getD (now (t .entry)) p 0)) (stateOf (now (out .entry)) m w)) ⌝ }
 {
-    let a = own_side(s, names, x, entry(t, p));
+    let a = own_side(s, names, ends, x, entry(t, p));
     let e = after_expr(s, names, a);
     put_bytes(between(s, a, e), out, w)
 }
 
 // The first region of the state at the word p that gives x in all its states; 0 where there is none.
-fn entered(s: &[u8], names: usize, t: &[usize], x: usize, levels: usize, p: usize) -> usize
-    requires { ⌜ length (now s) ≤ 65536 ⌝ }
+fn entered(
+    s: &[u8],
+    names: usize,
+    ends: &[u16],
+    t: &[usize],
+    x: usize,
+    levels: usize,
+    p: usize,
+) -> usize
+    requires { ⌜ (length (now s) ≤ 65536) × EndsRight (now s) names (now ends) ⌝ }
     ensures { λ r. ⌜ ((ns : List Name) → length ns ≡ names → r ≡ enteredT (now (t .entry)) (uncoveredT ns (now (s .entry)) (now (t .entry)) x levels) p) ⌝ }
 {
     let mut n = word(t, p, 5);
     let mut g = inner(t, p);
     while 0 < n {
-        let m = uncovered_region(s, names, t, x, levels, g);
+        let m = uncovered_region(s, names, ends, t, x, levels, g);
         if m == 0 {
             return g;
         }
@@ -89,6 +99,7 @@ fn put_state_value(
     old: &[u8],
     s: &[u8],
     names: usize,
+    ends: &[u16],
     t: &[usize],
     lets: &[u8],
     x: usize,
@@ -98,14 +109,14 @@ fn put_state_value(
     made: &mut [u8],
     w: Writer,
 ) -> Writer
-    requires { ⌜ length (now s) ≤ 65536 ⌝ }
+    requires { ⌜ (length (now s) ≤ 65536) × EndsRight (now s) names (now ends) ⌝ }
     ensures { λ r. ⌜ ((ns : List Name) → length ns ≡ names → stateOf (now (out .exit)) (now (made .exit)) r ≡ render (now (old .entry)) (inStateT (now (s .entry)) (now (t .entry)) (now (lets .entry)) ns x (valueT (now (s .entry)) (now (t .entry)) (now (lets .entry)) ns x levels) (uncoveredT ns (now (s .entry)) (now (t .entry)) x levels) p) (stateOf (now (out .entry)) (now (made .entry)) w)) ⌝ }
 {
-    let g = entered(s, names, t, x, levels, p);
+    let g = entered(s, names, ends, t, x, levels, p);
     if g == 0 {
-        return put_own(s, names, t, x, p, out, w);
+        return put_own(s, names, ends, t, x, p, out, w);
     }
-    put_value(old, s, names, t, lets, x, levels, g, out, made, w)
+    put_value(old, s, names, ends, t, lets, x, levels, g, out, made, w)
 }
 
 // The value of x by the states of the region at the word q; the last has no test.
@@ -113,6 +124,7 @@ fn put_value(
     old: &[u8],
     s: &[u8],
     names: usize,
+    ends: &[u16],
     t: &[usize],
     lets: &[u8],
     x: usize,
@@ -122,7 +134,7 @@ fn put_value(
     made: &mut [u8],
     w: Writer,
 ) -> Writer
-    requires { ⌜ length (now s) ≤ 65536 ⌝ }
+    requires { ⌜ (length (now s) ≤ 65536) × EndsRight (now s) names (now ends) ⌝ }
     ensures { λ r. ⌜ ((ns : List Name) → length ns ≡ names → stateOf (now (out .exit)) (now (made .exit)) r ≡ render (now (old .entry)) (valueT (now (s .entry)) (now (t .entry)) (now (lets .entry)) ns x levels q) (stateOf (now (out .entry)) (now (made .entry)) w)) ⌝ }
 {
     if levels == 0 {
@@ -133,14 +145,14 @@ fn put_value(
     let mut p = first(t, q);
     while 1 < n {
         let a = put_test(old, t, lets, q, p, out, made, v);
-        v = put_state_value(old, s, names, t, lets, x, levels - 1, p, out, made, a);
+        v = put_state_value(old, s, names, ends, t, lets, x, levels - 1, p, out, made, a);
         p = word(t, p, 4);
         n = left(v, n - 1);
     }
     if n == 0 {
         return v;
     }
-    put_state_value(old, s, names, t, lets, x, levels - 1, p, out, made, v)
+    put_state_value(old, s, names, ends, t, lets, x, levels - 1, p, out, made, v)
 }
 
 // The equation of the output x of the machine that is laid out.
@@ -148,6 +160,7 @@ fn put_output(
     old: &[u8],
     s: &[u8],
     names: usize,
+    ends: &[u16],
     t: &[usize],
     lets: &[u8],
     x: usize,
@@ -155,12 +168,25 @@ fn put_output(
     made: &mut [u8],
     w: Writer,
 ) -> Writer
-    requires { ⌜ length (now s) ≤ 65536 ⌝ }
+    requires { ⌜ (length (now s) ≤ 65536) × EndsRight (now s) names (now ends) ⌝ }
     ensures { λ r. ⌜ ((ns : List Name) → length ns ≡ names → stateOf (now (out .exit)) (now (made .exit)) r ≡ render (now (old .entry)) (outputT (now (s .entry)) (now (t .entry)) (now (lets .entry)) ns x) (stateOf (now (out .entry)) (now (made .entry)) w)) ⌝ }
 {
     let a = put_u16(out, w, 1);
     let b = put_u16(out, a, x);
-    put_value(old, s, names, t, lets, x, Pack::LEVELS, 0, out, made, b)
+    put_value(
+        old,
+        s,
+        names,
+        ends,
+        t,
+        lets,
+        x,
+        Pack::LEVELS,
+        0,
+        out,
+        made,
+        b,
+    )
 }
 
 // The equations of its outputs, whose count stands at `at`.
@@ -168,6 +194,7 @@ pub fn put_outputs(
     old: &[u8],
     s: &[u8],
     names: usize,
+    ends: &[u16],
     t: &[usize],
     lets: &[u8],
     at: usize,
@@ -175,7 +202,7 @@ pub fn put_outputs(
     made: &mut [u8],
     w: Writer,
 ) -> Writer
-    requires { ⌜ length (now s) ≤ 65536 ⌝ }
+    requires { ⌜ (length (now s) ≤ 65536) × EndsRight (now s) names (now ends) ⌝ }
     ensures { λ r. ⌜ ((ns : List Name) → length ns ≡ names → stateOf (now (out .exit)) (now (made .exit)) r ≡ render (now (old .entry)) (portOutputsT (now (s .entry)) (now (t .entry)) (now (lets .entry)) ns at) (stateOf (now (out .entry)) (now (made .entry)) w)) ⌝ }
 {
     let c = number(s, at);
@@ -184,7 +211,7 @@ pub fn put_outputs(
     let mut v = w;
     while 0 < n {
         let x = number(s, p);
-        v = put_output(old, s, names, t, lets, x.value, out, made, v);
+        v = put_output(old, s, names, ends, t, lets, x.value, out, made, v);
         p = after_port(s, names, p);
         n = left(v, n - 1);
     }

@@ -1,7 +1,13 @@
-use Rattle.machines.proofs.CallOpened.{scratch-empty, scratch-long}
+use Rattle.machines.proofs.CallOpened.{scratch-empty, scratch-ends, scratch-long}
 use borrow.Author.Needs.{needs}
 use Rattle.machines.proofs.call.lower_whole.Statement.{statement}
 use Rattle.machines.proofs.call.lower_whole.Tie as tie
+
+slice-aggregate-place-ends : tie.Need-slice-aggregate-place-ends
+slice-aggregate-place-ends c = search needs
+
+place-ends-requires : tie.Need-place-ends-requires
+place-ends-requires c κs = (c .before .before .before .before .pre .0, scratch-ends _ _)
 
 slice-aggregate-lower-opened : tie.Need-slice-aggregate-lower-opened
 slice-aggregate-lower-opened c = search needs
@@ -30,8 +36,11 @@ slice-aggregate-lower-opened-8 c = search needs
 slice-aggregate-lower-opened-9 : tie.Need-slice-aggregate-lower-opened-9
 slice-aggregate-lower-opened-9 c = search needs
 
+slice-aggregate-lower-opened-10 : tie.Need-slice-aggregate-lower-opened-10
+slice-aggregate-lower-opened-10 c = search needs
+
 lower-opened-requires : tie.Need-lower-opened-requires
-lower-opened-requires c κs = (c .before .before .before .before .before .before .before .before .before .before .before .before .before .before .pre .0, scratch-long, scratch-empty, c .before .before .before .before .before .before .before .before .before .before .before .before .before .before .pre .1)
+lower-opened-requires c κs = (c .before .before .before .before .before .before .before .before .before .before .before .before .before .before .before .before .before .before .pre .0, scratch-long, scratch-empty, c .before .before .before .before .before .before .before .before .before .before .before .before .before .before .before .before .before .before .pre .1, c .before .before .before .before .before .before .before .before .before .before .before .before .before .place-ends .ensures)
 
 same-length : tie.Need-same-length
 same-length c = search needs
@@ -46,6 +55,8 @@ pub lower-whole-spec : {M : Type 1} → statement M
 lower-whole-spec =
     tie.close
     (tie.spec
+    slice-aggregate-place-ends
+    place-ends-requires
     slice-aggregate-lower-opened
     slice-aggregate-lower-opened-2
     slice-aggregate-lower-opened-3
@@ -55,6 +66,7 @@ lower-whole-spec =
     slice-aggregate-lower-opened-7
     slice-aggregate-lower-opened-8
     slice-aggregate-lower-opened-9
+    slice-aggregate-lower-opened-10
     lower-opened-requires
     same-length
     same-length-2

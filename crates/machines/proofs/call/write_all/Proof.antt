@@ -14,7 +14,7 @@ slice-aggregate-put-sections-2 : tie.Need-slice-aggregate-put-sections-2
 slice-aggregate-put-sections-2 c = search needs
 
 put-sections-requires : tie.Need-put-sections-requires
-put-sections-requires c κs = (c .before .before .before .before .before .before .before .before .before .before .before .before .before .before .before .before .pre .0, c .before .before .before .before .before .before .before .before .before .before .before .before .before .before .before .before .pre .1, c .before .before .before .before .before .before .before .before .before .before .before .before .before .before .before .before .pre .2)
+put-sections-requires c κs = (c .before .before .before .before .before .before .before .before .before .before .before .before .before .before .before .before .before .pre .0, c .before .before .before .before .before .before .before .before .before .before .before .before .before .before .before .before .before .pre .1, c .before .before .before .before .before .before .before .before .before .before .before .before .before .before .before .before .before .pre .2, c .before .before .before .before .before .before .before .before .before .before .before .before .before .before .before .before .before .pre .3)
 
 slice-aggregate-finish : tie.Need-slice-aggregate-finish
 slice-aggregate-finish c = search needs
@@ -38,7 +38,7 @@ same-length-4 : tie.Need-same-length-4
 same-length-4 c = search needs
 
 returns : tie.Need-returns
-returns c = λ ns e old o eqs ens h g. finished-as _ old _ _ _ _ _ _ _ _ _ (c .before .before .before .before .before .before .before .before .before .before .before .before .before .before .before .before .before .before .before .before .between .ensures) o (c .before .before .before .before .before .before .before .before .before .before .before .before .before .before .put-sections .ensures ns e eqs ens (write-as old _ _ (c .before .before .before .before .before .before .before .before .before .before .before .before .before .before .before .before .before .before .before .before .between .ensures) o _ (c .before .before .before .before .before .before .before .before .before .before .before .before .before .before .before .before .before .before .before .before .before .before .before .before .before .before .before .before .before .before .before .args .mats .now) _ eqs h) (write-as old _ _ (c .before .before .before .before .before .before .before .before .before .before .before .before .before .before .before .before .before .before .before .before .between .ensures) o _ (c .before .before .before .before .before .before .before .before .before .before .before .before .before .before .before .before .before .before .before .before .before .before .before .before .before .before .before .before .before .before .before .args .mats .now) _ ens g)) empty-buffers (c .before .before .finish .ensures)
+returns c = λ ns e old o eqs ens h g. finished-as _ old _ _ _ _ _ _ _ _ _ (c .before .before .before .before .before .before .before .before .before .before .before .before .before .before .before .before .before .before .before .before .between .ensures) o (c .before .before .before .before .before .before .before .before .before .before .before .before .before .before .put-sections .ensures ns e eqs ens (write-as old _ _ (c .before .before .before .before .before .before .before .before .before .before .before .before .before .before .before .before .before .before .before .before .between .ensures) o _ (c .before .before .before .before .before .before .before .before .before .before .before .before .before .before .before .before .before .before .before .before .before .before .before .before .before .before .before .before .before .before .before .before .args .mats .now) _ eqs h) (write-as old _ _ (c .before .before .before .before .before .before .before .before .before .before .before .before .before .before .before .before .before .before .before .before .between .ensures) o _ (c .before .before .before .before .before .before .before .before .before .before .before .before .before .before .before .before .before .before .before .before .before .before .before .before .before .before .before .before .before .before .before .before .args .mats .now) _ ens g)) empty-buffers (c .before .before .finish .ensures)
 
 pub write-all-spec : {M : Type 1} → statement M
 write-all-spec =

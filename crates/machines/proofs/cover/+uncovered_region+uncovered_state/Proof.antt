@@ -25,52 +25,52 @@ use Rattle.machines.proofs.table.entry.Reads as entry-reads
 use Rattle.machines.proofs.cover.+uncovered_region+uncovered_state.{statement}
 use Rattle.machines.proofs.cover.+uncovered_region+uncovered_state.Tie.{close}
 
-abbrev μ-uncovered-region : Measures 2 uncovered-region-kinds.ps ℕ
-μ-uncovered-region κs a = a .1 .1 .1 .1 .0 + a .1 .1 .1 .1 .0
+abbrev μ-uncovered-region : Measures 3 uncovered-region-kinds.ps ℕ
+μ-uncovered-region κs a = a .1 .1 .1 .1 .1 .0 + a .1 .1 .1 .1 .1 .0
 
-abbrev μ-uncovered-state : Measures 2 uncovered-state-kinds.ps ℕ
-μ-uncovered-state κs a = a .1 .1 .1 .1 .0 + a .1 .1 .1 .1 .0 + 1
+abbrev μ-uncovered-state : Measures 3 uncovered-state-kinds.ps ℕ
+μ-uncovered-state κs a = a .1 .1 .1 .1 .1 .0 + a .1 .1 .1 .1 .1 .0 + 1
 
-abbrev uncovered-region-at : ℕ → In 2 uncovered-region-kinds.ps
+abbrev uncovered-region-at : ℕ → In 3 uncovered-region-kinds.ps
 uncovered-region-at t =
     and
-    2
+    3
     uncovered-region-kinds.ps
-    (is 2 uncovered-region-kinds.ps μ-uncovered-region t)
+    (is 3 uncovered-region-kinds.ps μ-uncovered-region t)
     uncovered-region.Pre
 
-abbrev uncovered-region-below : ℕ → In 2 uncovered-region-kinds.ps
+abbrev uncovered-region-below : ℕ → In 3 uncovered-region-kinds.ps
 uncovered-region-below t =
     and
-    2
+    3
     uncovered-region-kinds.ps
-    (falls 2 uncovered-region-kinds.ps _<_ μ-uncovered-region t)
+    (falls 3 uncovered-region-kinds.ps _<_ μ-uncovered-region t)
     uncovered-region.Pre
 
-abbrev uncovered-state-at : ℕ → In 2 uncovered-state-kinds.ps
+abbrev uncovered-state-at : ℕ → In 3 uncovered-state-kinds.ps
 uncovered-state-at t =
     and
-    2
+    3
     uncovered-state-kinds.ps
-    (is 2 uncovered-state-kinds.ps μ-uncovered-state t)
+    (is 3 uncovered-state-kinds.ps μ-uncovered-state t)
     uncovered-state.Pre
 
-abbrev uncovered-state-below : ℕ → In 2 uncovered-state-kinds.ps
+abbrev uncovered-state-below : ℕ → In 3 uncovered-state-kinds.ps
 uncovered-state-below t =
     and
-    2
+    3
     uncovered-state-kinds.ps
-    (falls 2 uncovered-state-kinds.ps _<_ μ-uncovered-state t)
+    (falls 3 uncovered-state-kinds.ps _<_ μ-uncovered-state t)
     uncovered-state.Pre
 
 abbrev uncovered-region-calls : ℕ → uncovered-region-lts.Claims
 uncovered-region-calls t = (word-reads.Asked, word-reads.Learnt, first-reads.Asked, first-reads.Learnt, uncovered-state-below t, uncovered-state.Post)
 
 abbrev uncovered-region-Inv-loop : uncovered-region-lts.InvT-loop
-uncovered-region-Inv-loop s names t out levels q n₀ p₀ n p = (ns : List Name) → length ns ≡ names → firstMiss t (missT ns s t out (uncoveredT ns s t out (levels - 1))) n p ≡ firstMiss t (missT ns s t out (uncoveredT ns s t out (levels - 1))) n₀ p₀
+uncovered-region-Inv-loop s names ends t out levels q n₀ p₀ n p = (ns : List Name) → length ns ≡ names → firstMiss t (missT ns s t out (uncoveredT ns s t out (levels - 1))) n p ≡ firstMiss t (missT ns s t out (uncoveredT ns s t out (levels - 1))) n₀ p₀
 
 abbrev uncovered-region-μ-loop : uncovered-region-lts.MeasureT-loop
-uncovered-region-μ-loop s names t out levels q n₀ p₀ n p = n
+uncovered-region-μ-loop s names ends t out levels q n₀ p₀ n p = n
 
 uncovered-region-returns : (t : ℕ) → uncovered-region-lts.Need-returns (uncovered-region-calls t) (uncovered-region-at t) uncovered-region.Post uncovered-region-Inv-loop uncovered-region-μ-loop
 uncovered-region-returns t c = λ ns e. uncovered-none ns _ _ _ _ _ (c .if1 .taken)
@@ -93,7 +93,7 @@ uncovered-region-uncovered-state-requires :
     uncovered-region.Post
     uncovered-region-Inv-loop
     uncovered-region-μ-loop
-uncovered-region-uncovered-state-requires t c κs = (omega (arith, c .before .before .before .before .if1 .left, c .before .before .before .before .before .before .before .pre .0), c .before .before .before .before .before .before .before .pre .1)
+uncovered-region-uncovered-state-requires t c κs = (omega (arith, c .before .before .before .before .if1 .left, c .before .before .before .before .before .before .before .before .pre .0), c .before .before .before .before .before .before .before .before .pre .1)
 
 uncovered-region-returns-2 : (t : ℕ) → uncovered-region-lts.Need-returns-2 (uncovered-region-calls t) (uncovered-region-at t) uncovered-region.Post uncovered-region-Inv-loop uncovered-region-μ-loop
 uncovered-region-returns-2 t c = λ ns e. first-found _ _ _ _ _ _ (c .before .before .loop-test .taken) (c .before .uncovered-state .ensures ns e) (c .if2 .taken) (c .before .before .before .loop .inv ns e) ∙ uncovered-some ns _ _ _ _ _ _ _ (c .before .before .before .before .before .before .if1 .left) (c .before .before .before .before .before .word .ensures) (c .before .before .before .before .first .ensures)
@@ -117,16 +117,16 @@ abbrev uncovered-state-calls : ℕ → uncovered-state-lts.Claims
 uncovered-state-calls t = (entry-reads.Asked, entry-reads.Learnt, own-reads.Asked, own-reads.Learnt, word-reads.Asked, word-reads.Learnt, inner-reads.Asked, inner-reads.Learnt, uncovered-region-below t, uncovered-region.Post, or-next-reads.Asked, or-next-reads.Learnt)
 
 abbrev uncovered-state-Inv-loop : uncovered-state-lts.InvT-loop
-uncovered-state-Inv-loop s names t out levels p n₀ g₀ miss₀ n g miss = (ns : List Name) → length ns ≡ names → allMiss t (uncoveredT ns s t out levels) n g miss ≡ allMiss t (uncoveredT ns s t out levels) n₀ g₀ 0
+uncovered-state-Inv-loop s names ends t out levels p n₀ g₀ miss₀ n g miss = (ns : List Name) → length ns ≡ names → allMiss t (uncoveredT ns s t out levels) n g miss ≡ allMiss t (uncoveredT ns s t out levels) n₀ g₀ 0
 
 abbrev uncovered-state-μ-loop : uncovered-state-lts.MeasureT-loop
-uncovered-state-μ-loop s names t out levels p n₀ g₀ miss₀ n g miss = n
+uncovered-state-μ-loop s names ends t out levels p n₀ g₀ miss₀ n g miss = n
 
 uncovered-state-entry-requires : (t : ℕ) → uncovered-state-lts.Need-entry-requires (uncovered-state-calls t) (uncovered-state-at t) uncovered-state.Post uncovered-state-Inv-loop uncovered-state-μ-loop
 uncovered-state-entry-requires t c κs = search needs
 
 uncovered-state-own-requires : (t : ℕ) → uncovered-state-lts.Need-own-requires (uncovered-state-calls t) (uncovered-state-at t) uncovered-state.Post uncovered-state-Inv-loop uncovered-state-μ-loop
-uncovered-state-own-requires t c κs = c .before .before .before .pre .1
+uncovered-state-own-requires t c κs = c .before .before .before .before .pre .1
 
 uncovered-state-returns : (t : ℕ) → uncovered-state-lts.Need-returns (uncovered-state-calls t) (uncovered-state-at t) uncovered-state.Post uncovered-state-Inv-loop uncovered-state-μ-loop
 uncovered-state-returns t c = λ ns e. state-own ns _ _ _ _ _ _ _ (c .before .before .entry .ensures) (c .before .own .ensures ns e) (c .if1 .taken)
@@ -145,7 +145,7 @@ uncovered-state-loop-holds t c = λ ns e. refl
 
 uncovered-state-uncovered-region-requires :
     (t : ℕ) → uncovered-state-lts.Need-uncovered-region-requires (uncovered-state-calls t) (uncovered-state-at t) uncovered-state.Post uncovered-state-Inv-loop uncovered-state-μ-loop
-uncovered-state-uncovered-region-requires t c κs = (omega (arith, c .before .before .before .before .before .before .before .before .before .before .pre .0), c .before .before .before .before .before .before .before .before .before .before .pre .1)
+uncovered-state-uncovered-region-requires t c κs = (omega (arith, c .before .before .before .before .before .before .before .before .before .before .before .pre .0), c .before .before .before .before .before .before .before .before .before .before .before .pre .1)
 
 uncovered-state-returns-3 : (t : ℕ) → uncovered-state-lts.Need-returns-3 (uncovered-state-calls t) (uncovered-state-at t) uncovered-state.Post uncovered-state-Inv-loop uncovered-state-μ-loop
 uncovered-state-returns-3 t c = λ ns e. all-given _ _ _ _ _ _ _ (c .before .before .loop-test .taken) (c .before .uncovered-region .ensures ns e) (c .if3 .taken) (c .before .before .before .loop .inv ns e) ∙ state-regions ns _ _ _ _ _ _ _ _ _ (c .before .before .before .before .before .before .before .before .before .entry .ensures) (c .before .before .before .before .before .before .before .before .own .ensures ns e) (c .before .before .before .before .before .before .before .if1 .left) (c .before .before .before .before .before .before .word .ensures) (c .before .before .before .before .before .if2 .left) (c .before .before .before .before .inner .ensures)

@@ -10,10 +10,10 @@ use Rattle.machines.proofs.cover.own.Statement.{statement}
 use Rattle.machines.proofs.cover.own.Tie as tie
 
 abbrev Inv-loop : tie.InvT-loop
-Inv-loop s names out at n₀ p₀ a₀ n p a = (ns : List Name) → length ns ≡ names → tells (givesT ns s out) _||_ n p a ≡ tells (givesT ns s out) _||_ n₀ p₀ a₀
+Inv-loop s names ends out at n₀ p₀ a₀ n p a = (ns : List Name) → length ns ≡ names → tells (givesT ns s out) _||_ n p a ≡ tells (givesT ns s out) _||_ n₀ p₀ a₀
 
 abbrev μ-loop : tie.MeasureT-loop
-μ-loop s names out at n₀ p₀ a₀ n p a = n
+μ-loop s names ends out at n₀ p₀ a₀ n p a = n
 
 number-requires : tie.Need-number-requires Inv-loop μ-loop
 number-requires c κs = search needs

@@ -9,10 +9,10 @@ use Rattle.machines.proofs.judge.judge_outputs.Statement.{statement}
 use Rattle.machines.proofs.judge.judge_outputs.Tie as tie
 
 abbrev Inv-loop : tie.InvT-loop
-Inv-loop s names t count from regions n₀ p₀ n p = (ns : List Name) → length ns ≡ names → outputsJ ns s t regions n p ≡ outputsJ ns s t regions count from
+Inv-loop s names ends t count from regions n₀ p₀ n p = (ns : List Name) → length ns ≡ names → outputsJ ns s t regions n p ≡ outputsJ ns s t regions count from
 
 abbrev μ-loop : tie.MeasureT-loop
-μ-loop s names t count from regions n₀ p₀ n p = n
+μ-loop s names ends t count from regions n₀ p₀ n p = n
 
 loop-holds : tie.Need-loop-holds Inv-loop μ-loop
 loop-holds c = λ ns e. refl

@@ -16,7 +16,7 @@ put-new-head-requires : tie.Need-put-new-head-requires
 put-new-head-requires c κs = search needs
 
 put-node-equations-requires : tie.Need-put-node-equations-requires
-put-node-equations-requires c κs = c .before .before .before .before .before .before .before .before .before .before .before .before .before .before .before .before .before .before .before .before .before .before .before .before .before .before .before .before .pre
+put-node-equations-requires c κs = c .before .before .before .before .before .before .before .before .before .before .before .before .before .before .before .before .before .before .before .before .before .before .before .before .before .before .before .before .before .pre
 
 same-length : tie.Need-same-length
 same-length c = search needs

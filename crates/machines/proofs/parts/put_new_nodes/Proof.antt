@@ -18,19 +18,19 @@ use Rattle.machines.proofs.parts.put_new_nodes.Statement.{statement}
 use Rattle.machines.proofs.parts.put_new_nodes.Tie as tie
 
 abbrev Inv-loop : tie.InvT-loop
-Inv-loop old s names spots to t₀ reg₀ lets₀ mats ats regs n out₀ made₀ v₀ i₀ c₀ t reg lets out made v i c = (length {A = ℕ} t ≡ length {A = ℕ} t₀) × (length {A = ℕ} reg ≡ length {A = ℕ} reg₀) × (length {A = ℕ} lets ≡ length {A = ℕ} lets₀) × (length {A = ℕ} out ≡ length {A = ℕ} out₀) × (length {A = ℕ} made ≡ length {A = ℕ} made₀) × (i + c ≤ n) × ((ns : List Name) → length ns ≡ names → (eqs : ℕ → List Item) → AllWrite old (equationsAt ns s spots to) mats n eqs → render old (eachT (newNodeT ns s mats ats regs spots n eqs) c i) (stateOf out made v) ≡ render old (eachT (newNodeT ns s mats ats regs spots n eqs) n 0) (stateOf out₀ made₀ v₀))
+Inv-loop old s names spots to ends t₀ reg₀ lets₀ mats ats regs n out₀ made₀ v₀ i₀ c₀ t reg lets out made v i c = (length {A = ℕ} t ≡ length {A = ℕ} t₀) × (length {A = ℕ} reg ≡ length {A = ℕ} reg₀) × (length {A = ℕ} lets ≡ length {A = ℕ} lets₀) × (length {A = ℕ} out ≡ length {A = ℕ} out₀) × (length {A = ℕ} made ≡ length {A = ℕ} made₀) × (i + c ≤ n) × ((ns : List Name) → length ns ≡ names → (eqs : ℕ → List Item) → AllWrite old (equationsAt ns s spots to) mats n eqs → render old (eachT (newNodeT ns s mats ats regs spots n eqs) c i) (stateOf out made v) ≡ render old (eachT (newNodeT ns s mats ats regs spots n eqs) n 0) (stateOf out₀ made₀ v₀))
 
 abbrev μ-loop : tie.MeasureT-loop
-μ-loop old s names spots to t₀ reg₀ lets₀ mats ats regs n out₀ made₀ v₀ i₀ c₀ t reg lets out made v i c = c
+μ-loop old s names spots to ends t₀ reg₀ lets₀ mats ats regs n out₀ made₀ v₀ i₀ c₀ t reg lets out made v i c = c
 
 loop-holds : tie.Need-loop-holds Inv-loop μ-loop
 loop-holds c = (refl, refl, refl, refl, refl, omega arith, λ ns e eqs h. refl)
 
 put-new-node-requires : tie.Need-put-new-node-requires Inv-loop μ-loop
-put-new-node-requires c κs = (c .before .before .before .before .before .before .before .before .before .before .before .before .before .before .before .before .before .before .before .pre .0, c .before .before .before .before .before .before .before .before .before .before .before .before .before .before .before .before .before .before .before .pre .1, long-kept _ _ _ _ _ _ (c .before .before .before .before .before .before .loop .inv .0) (c .before .before .before .before .before .before .loop .inv .1) (c .before .before .before .before .before .before .loop .inv .2) (c .before .before .before .before .before .before .before .before .before .before .before .before .before .before .before .before .before .before .before .pre .2))
+put-new-node-requires c κs = (c .before .before .before .before .before .before .before .before .before .before .before .before .before .before .before .before .before .before .before .before .pre .0, c .before .before .before .before .before .before .before .before .before .before .before .before .before .before .before .before .before .before .before .before .pre .1, long-kept _ _ _ _ _ _ (c .before .before .before .before .before .before .loop .inv .0) (c .before .before .before .before .before .before .loop .inv .1) (c .before .before .before .before .before .before .loop .inv .2) (c .before .before .before .before .before .before .before .before .before .before .before .before .before .before .before .before .before .before .before .before .pre .2), c .before .before .before .before .before .before .before .before .before .before .before .before .before .before .before .before .before .before .before .before .pre .3)
 
 add-i : tie.Need-add-i Inv-loop μ-loop
-add-i c = omega (arith, c .before .before .before .before .before .before .before .before .before .before .before .before .before .before .before .before .before .loop .inv .5, c .before .before .before .before .before .before .before .before .before .before .before .before .before .before .before .before .loop-test .taken, c .before .before .before .before .before .before .before .before .before .before .before .before .before .before .before .before .before .before .before .before .before .before .before .before .before .before .before .before .before .before .fits .n)
+add-i c = omega (arith, c .before .before .before .before .before .before .before .before .before .before .before .before .before .before .before .before .before .loop .inv .5, c .before .before .before .before .before .before .before .before .before .before .before .before .before .before .before .before .loop-test .taken, c .before .before .before .before .before .before .before .before .before .before .before .before .before .before .before .before .before .before .before .before .before .before .before .before .before .before .before .before .before .before .before .fits .n)
 
 sub-left : tie.Need-sub-left Inv-loop μ-loop
 sub-left c = search needs
@@ -42,7 +42,7 @@ loop-less : tie.Need-loop-less Inv-loop μ-loop
 loop-less c = left-less (c .before .before .before .before .before .before .before .before .before .before .before .put-new-node .result) _ _ (c .before .before .before .before .before .before .before .before .before .before .before .before .before .before .before .before .before .loop-test .taken) (c .left .ensures)
 
 loop-again : tie.Need-loop-again Inv-loop μ-loop
-loop-again c = (c .before .before .before .before .before .before .before .before .before .before .before .put-new-node .kept .1 .1 .1 .1 .1 .0 ∙ c .before .before .before .before .before .before .before .before .before .before .before .before .before .before .before .before .before .before .loop .inv .0, c .before .before .before .before .before .before .before .before .before .before .before .put-new-node .kept .1 .1 .1 .1 .1 .1 .0 ∙ c .before .before .before .before .before .before .before .before .before .before .before .before .before .before .before .before .before .before .loop .inv .1, c .before .before .before .before .before .before .before .before .before .before .before .put-new-node .kept .1 .1 .1 .1 .1 .1 .1 .0 ∙ c .before .before .before .before .before .before .before .before .before .before .before .before .before .before .before .before .before .before .loop .inv .2, c .before .before .before .before .before .before .before .before .before .before .before .put-new-node .kept .1 .1 .1 .1 .1 .1 .1 .1 .1 .1 .1 .1 .1 .0 ∙ c .before .before .before .before .before .before .before .before .before .before .before .before .before .before .before .before .before .before .loop .inv .3, c .before .before .before .before .before .before .before .before .before .before .before .put-new-node .kept .1 .1 .1 .1 .1 .1 .1 .1 .1 .1 .1 .1 .1 .1 .0 ∙ c .before .before .before .before .before .before .before .before .before .before .before .before .before .before .before .before .before .before .loop .inv .4, omega (arith, c .before .before .before .before .before .before .before .before .before .before .before .before .before .before .before .before .before .before .loop .inv .5, left-less (c .before .before .before .before .before .before .before .before .before .before .before .put-new-node .result) _ _ (c .before .before .before .before .before .before .before .before .before .before .before .before .before .before .before .before .before .loop-test .taken) (c .left .ensures)), λ ns e eqs h. each-left _ (newNodeT ns _ _ _ _ _ _ eqs) _ _ _ _ _ _ _ _ (c .before .before .before .before .before .before .before .before .before .before .before .before .before .before .before .before .before .loop-test .taken) (c .before .before .before .before .before .before .before .before .before .before .before .put-new-node .ensures ns e eqs h) (c .left .ensures) (c .before .before .before .before .before .before .before .before .before .before .before .before .before .before .before .before .before .before .loop .inv .6 ns e eqs h))
+loop-again c = (c .before .before .before .before .before .before .before .before .before .before .before .put-new-node .kept .1 .1 .1 .1 .1 .1 .0 ∙ c .before .before .before .before .before .before .before .before .before .before .before .before .before .before .before .before .before .before .loop .inv .0, c .before .before .before .before .before .before .before .before .before .before .before .put-new-node .kept .1 .1 .1 .1 .1 .1 .1 .0 ∙ c .before .before .before .before .before .before .before .before .before .before .before .before .before .before .before .before .before .before .loop .inv .1, c .before .before .before .before .before .before .before .before .before .before .before .put-new-node .kept .1 .1 .1 .1 .1 .1 .1 .1 .0 ∙ c .before .before .before .before .before .before .before .before .before .before .before .before .before .before .before .before .before .before .loop .inv .2, c .before .before .before .before .before .before .before .before .before .before .before .put-new-node .kept .1 .1 .1 .1 .1 .1 .1 .1 .1 .1 .1 .1 .1 .1 .0 ∙ c .before .before .before .before .before .before .before .before .before .before .before .before .before .before .before .before .before .before .loop .inv .3, c .before .before .before .before .before .before .before .before .before .before .before .put-new-node .kept .1 .1 .1 .1 .1 .1 .1 .1 .1 .1 .1 .1 .1 .1 .1 .0 ∙ c .before .before .before .before .before .before .before .before .before .before .before .before .before .before .before .before .before .before .loop .inv .4, omega (arith, c .before .before .before .before .before .before .before .before .before .before .before .before .before .before .before .before .before .before .loop .inv .5, left-less (c .before .before .before .before .before .before .before .before .before .before .before .put-new-node .result) _ _ (c .before .before .before .before .before .before .before .before .before .before .before .before .before .before .before .before .before .loop-test .taken) (c .left .ensures)), λ ns e eqs h. each-left _ (newNodeT ns _ _ _ _ _ _ eqs) _ _ _ _ _ _ _ _ (c .before .before .before .before .before .before .before .before .before .before .before .before .before .before .before .before .before .loop-test .taken) (c .before .before .before .before .before .before .before .before .before .before .before .put-new-node .ensures ns e eqs h) (c .left .ensures) (c .before .before .before .before .before .before .before .before .before .before .before .before .before .before .before .before .before .before .loop .inv .6 ns e eqs h))
 
 same-length : tie.Need-same-length Inv-loop μ-loop
 same-length c = search needs

@@ -16,7 +16,7 @@ put-old-head-requires : tie.Need-put-old-head-requires
 put-old-head-requires c κs = search needs
 
 put-node-equations-requires : tie.Need-put-node-equations-requires
-put-node-equations-requires c κs = c .before .before .before .before .before .before .before .before .before .before .before .before .before .before .before .before .before .before .before .before .before .before .before .before .before .before .before .pre
+put-node-equations-requires c κs = c .before .before .before .before .before .before .before .before .before .before .before .before .before .before .before .before .before .before .before .before .before .before .before .before .before .before .before .before .pre
 
 same-length : tie.Need-same-length
 same-length c = search needs

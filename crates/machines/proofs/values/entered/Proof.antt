@@ -10,10 +10,10 @@ use Rattle.machines.proofs.values.entered.Statement.{statement}
 use Rattle.machines.proofs.values.entered.Tie as tie
 
 abbrev Inv-loop : tie.InvT-loop
-Inv-loop s names t x levels p n₀ g₀ n g = (ns : List Name) → length ns ≡ names → givingFrom t (uncoveredT ns s t x levels) n g ≡ givingFrom t (uncoveredT ns s t x levels) n₀ g₀
+Inv-loop s names ends t x levels p n₀ g₀ n g = (ns : List Name) → length ns ≡ names → givingFrom t (uncoveredT ns s t x levels) n g ≡ givingFrom t (uncoveredT ns s t x levels) n₀ g₀
 
 abbrev μ-loop : tie.MeasureT-loop
-μ-loop s names t x levels p n₀ g₀ n g = n
+μ-loop s names ends t x levels p n₀ g₀ n g = n
 
 word-requires : tie.Need-word-requires Inv-loop μ-loop
 word-requires c κs = search needs

@@ -9,10 +9,10 @@ use Rattle.machines.proofs.values.own_side.Statement.{statement}
 use Rattle.machines.proofs.values.own_side.Tie as tie
 
 abbrev Inv-loop : tie.InvT-loop
-Inv-loop s names x at n₀ p₀ n p = (ns : List Name) → length ns ≡ names → sideFrom ns s x n p ≡ sideFrom ns s x n₀ p₀
+Inv-loop s names ends x at n₀ p₀ n p = (ns : List Name) → length ns ≡ names → sideFrom ns s x n p ≡ sideFrom ns s x n₀ p₀
 
 abbrev μ-loop : tie.MeasureT-loop
-μ-loop s names x at n₀ p₀ n p = n
+μ-loop s names ends x at n₀ p₀ n p = n
 
 number-requires : tie.Need-number-requires Inv-loop μ-loop
 number-requires c κs = search needs
@@ -35,8 +35,8 @@ both-requires c κs = search needs
 returns : tie.Need-returns Inv-loop μ-loop
 returns c = λ ns e. side-is ns _ _ _ _ _ _ (c .before .before .before .before .before .before .before .before .before .number .ensures) (c .before .before .before .before .before .before .before .before .number2 .ensures) (side-found ns _ _ _ _ _ _ _ _ (c .before .before .before .before .before .before .loop-test .taken) (c .before .before .before .before .before .number3 .ensures) (c .before .before .before .before .number4 .ensures) (c .before .both .ensures) (c .if1 .taken) (c .before .before .before .before .before .before .before .loop .inv ns e))
 
-after-equation-requires : tie.Need-after-equation-requires Inv-loop μ-loop
-after-equation-requires c κs = search needs
+end-of-requires : tie.Need-end-of-requires Inv-loop μ-loop
+end-of-requires c κs = search needs
 
 sub-n : tie.Need-sub-n Inv-loop μ-loop
 sub-n c = search needs
@@ -45,7 +45,7 @@ loop-less : tie.Need-loop-less Inv-loop μ-loop
 loop-less c = search needs
 
 loop-again : tie.Need-loop-again Inv-loop μ-loop
-loop-again c = λ ns e. side-went ns _ _ _ _ _ _ _ _ _ (c .before .before .before .before .before .before .before .loop-test .taken) (c .before .before .before .before .before .before .number3 .ensures) (c .before .before .before .before .before .number4 .ensures) (c .before .before .both .ensures) (c .before .if1 .left) (c .after-equation .ensures ns e) (c .before .before .before .before .before .before .before .before .loop .inv ns e)
+loop-again c = λ ns e. side-went ns _ _ _ _ _ _ _ _ _ (c .before .before .before .before .before .before .before .loop-test .taken) (c .before .before .before .before .before .before .number3 .ensures) (c .before .before .before .before .before .number4 .ensures) (c .before .before .both .ensures) (c .before .if1 .left) (c .end-of .ensures ns e) (c .before .before .before .before .before .before .before .before .loop .inv ns e)
 
 returns-2 : tie.Need-returns-2 Inv-loop μ-loop
 returns-2 c = λ ns e. side-is ns _ _ _ _ _ _ (c .before .before .before .number .ensures) (c .before .before .number2 .ensures) (side-done ns _ _ _ _ _ (c .loop-test .left) (c .before .loop .inv ns e))
@@ -63,7 +63,7 @@ own-side-spec =
     number-requires-4
     both-requires
     returns
-    after-equation-requires
+    end-of-requires
     sub-n
     loop-less
     loop-again

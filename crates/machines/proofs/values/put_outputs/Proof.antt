@@ -13,10 +13,10 @@ use Rattle.machines.proofs.values.put_outputs.Statement.{statement}
 use Rattle.machines.proofs.values.put_outputs.Tie as tie
 
 abbrev Inv-loop : tie.InvT-loop
-Inv-loop old s names t lets at out₀ made₀ n₀ p₀ v₀ out made n p v = (length {A = ℕ} out ≡ length {A = ℕ} out₀) × (length {A = ℕ} made ≡ length {A = ℕ} made₀) × ((ns : List Name) → length ns ≡ names → render old (outputsT s t lets ns n p) (stateOf out made v) ≡ render old (outputsT s t lets ns n₀ p₀) (stateOf out₀ made₀ v₀))
+Inv-loop old s names ends t lets at out₀ made₀ n₀ p₀ v₀ out made n p v = (length {A = ℕ} out ≡ length {A = ℕ} out₀) × (length {A = ℕ} made ≡ length {A = ℕ} made₀) × ((ns : List Name) → length ns ≡ names → render old (outputsT s t lets ns n p) (stateOf out made v) ≡ render old (outputsT s t lets ns n₀ p₀) (stateOf out₀ made₀ v₀))
 
 abbrev μ-loop : tie.MeasureT-loop
-μ-loop old s names t lets at out₀ made₀ n₀ p₀ v₀ out made n p v = n
+μ-loop old s names ends t lets at out₀ made₀ n₀ p₀ v₀ out made n p v = n
 
 number-requires : tie.Need-number-requires Inv-loop μ-loop
 number-requires c κs = search needs
@@ -43,7 +43,7 @@ loop-less : tie.Need-loop-less Inv-loop μ-loop
 loop-less c = left-less (c .before .before .before .before .before .before .put-output .result) _ _ (c .before .before .before .before .before .before .before .before .before .before .loop-test .taken) (c .left .ensures)
 
 loop-again : tie.Need-loop-again Inv-loop μ-loop
-loop-again c = (c .before .before .before .before .before .before .put-output .kept .1 .1 .1 .1 .1 .1 .0 ∙ c .before .before .before .before .before .before .before .before .before .before .before .loop .inv .0, c .before .before .before .before .before .before .put-output .kept .1 .1 .1 .1 .1 .1 .1 .0 ∙ c .before .before .before .before .before .before .before .before .before .before .before .loop .inv .1, λ ns e. outputs-more _ _ _ _ ns _ _ _ _ _ _ _ _ _ _ (c .before .before .before .before .before .before .before .before .before .before .loop-test .taken) (c .before .before .before .before .before .before .before .before .before .number2 .ensures) (c .before .before .before .before .before .before .put-output .ensures ns e) (c .before .after-port .ensures ns e) (c .left .ensures) (c .before .before .before .before .before .before .before .before .before .before .before .loop .inv .2 ns e))
+loop-again c = (c .before .before .before .before .before .before .put-output .kept .1 .1 .1 .1 .1 .1 .1 .0 ∙ c .before .before .before .before .before .before .before .before .before .before .before .loop .inv .0, c .before .before .before .before .before .before .put-output .kept .1 .1 .1 .1 .1 .1 .1 .1 .0 ∙ c .before .before .before .before .before .before .before .before .before .before .before .loop .inv .1, λ ns e. outputs-more _ _ _ _ ns _ _ _ _ _ _ _ _ _ _ (c .before .before .before .before .before .before .before .before .before .before .loop-test .taken) (c .before .before .before .before .before .before .before .before .before .number2 .ensures) (c .before .before .before .before .before .before .put-output .ensures ns e) (c .before .after-port .ensures ns e) (c .left .ensures) (c .before .before .before .before .before .before .before .before .before .before .before .loop .inv .2 ns e))
 
 same-length : tie.Need-same-length Inv-loop μ-loop
 same-length c = search needs
