@@ -2,11 +2,12 @@
 use Prim.Native.Nat.{ℕ, zero, suc, _+_, _*_, _-_, _<_, _≤_}
 use native.Mathlib.Numerals.{add-one}
 use native.Mathlib.Omega.{arith}
-use mathlib.Core.List.{List}
-use mathlib.Core.Bool.{cond}
+use mathlib.Core.List.{List, []}
+use mathlib.Core.Bool.{Bool, cond, false, true}
 use mathlib.Core.Path.{_≡_, refl, sym, ap, _∙_}
 use lib.ListN.{getD}
-use borrow.Author.Tests.{eq-eqb, ne-eqb, lt-ltb, le-ltb}
+use lib.Dec.{eqb}
+use borrow.Author.Tests.{eq-eqb, eqb-false, eqb-true, ne-eqb, lt-ltb, le-ltb}
 use Rattle.wire.specs.declared.writer.Writer.{Writer}
 use Rattle.wire.specs.Writer.{State, stateOf}
 use Rattle.pack.specs.Limits.{absent}
@@ -19,7 +20,7 @@ use Rattle.machines.specs.declared.sure.Num.{Num}
 use Rattle.machines.specs.Stands.{endOf}
 use Rattle.machines.specs.Sure.{numberIn}
 use Rattle.machines.specs.Tables.{outputsIn}
-use Rattle.machines.specs.Brought.{bringsEquationsT, bringsLocalsT, eachT, equationCountT, localCountT, localsIn, madeOf, ownedT, regionsT, smallOf, totalT}
+use Rattle.machines.specs.Brought.{bringsEquationsT, bringsLocalsT, broughtLocalsT, eachT, equationCountT, localCountT, localsIn, madeOf, ownedT, regionsT, smallOf, totalT}
 use Rattle.machines.proofs.RowLaws.{left-same}
 use Rattle.machines.proofs.SureLaws.{on}
 
@@ -62,6 +63,44 @@ pub each-none : (old : List ℕ) (f : ℕ → List Item) (i n : ℕ) (s z : Stat
 unfolding eachT render
 each-none old f i zero s z l h = h
 each-none old f i (suc n) s z l h = absurd (omega arith)
+
+-- machines that go elsewhere: one more of them, and what is written of them
+pub elsewhere-more : (ats : List ℕ) (k i p a : ℕ) → a ≡ getD ats p 0 → (a ≡ k → ⊥) → ((j : ℕ) → i ≤ j → j < p → getD ats j 0 ≡ k → ⊥)
+    → (j : ℕ) → i ≤ j → j < p + 1 → getD ats j 0 ≡ k → ⊥
+elsewhere-more ats k i p a e h g j l m q = go (eqb j p) refl
+  where
+    go : (b : Bool) → eqb j p ≡ b → ⊥
+    go true d = h (e ∙ ap (λ (y : ℕ). getD ats y 0) (sym (eqb-true j p d)) ∙ q)
+    go false d = g j l (omega (arith, eqb-false j p d)) q
+
+each-one : (f : ℕ → List Item) (c i : ℕ) → f i ≡ [] → eachT f (c - i) i ≡ eachT f (c - suc i) (suc i)
+unfolding eachT
+each-one f c i e = go (c - i) refl
+  where
+    go : (m : ℕ) → c - i ≡ m → eachT f (c - i) i ≡ eachT f (c - suc i) (suc i)
+    go zero d = let g : c - suc i ≡ 0 = omega arith in rw (d, g)
+    go (suc m) d = let g : c - suc i ≡ m = omega arith in rw (d, g, e)
+
+pub each-skip : (f : ℕ → List Item) (c j m i : ℕ) → i + m ≡ j → ((p : ℕ) → i ≤ p → p < j → f p ≡ []) → eachT f (c - i) i ≡ eachT f (c - j) j
+each-skip f c j zero i e h = let d : i ≡ j = omega arith in ap (λ (y : ℕ). eachT f (c - y) y) d
+each-skip f c j (suc m) i e h = each-one f c i (h i (omega arith) (omega arith)) ∙ each-skip f c j m (suc i) (omega arith) (λ p l q. h p (omega arith) q)
+
+-- a loop that writes items until the writer is full, past indexes without any: its start, one more, and the end
+pub each-first : (old : List ℕ) (f : ℕ → List Item) (n j : ℕ) (s : State) → 0 ≤ j → ((p : ℕ) → 0 ≤ p → p < j → f p ≡ []) → render old (eachT f (n - j) j) s ≡ render old (eachT f n 0) s
+each-first old f n j s l h = let e : n - 0 ≡ n = omega arith in ap (λ x. render old x s) (sym (each-skip f n j j 0 (omega arith) h) ∙ ap (λ (y : ℕ). eachT f y 0) e)
+
+pub each-next : (old : List ℕ) (f : ℕ → List Item) (i c d j : ℕ) (o m : List ℕ) (w : Writer) (s z : State) → i < c → stateOf o m w ≡ render old (f i) s → d ≡ cond (w .full) 0 c
+    → i + 1 ≤ j → ((p : ℕ) → i + 1 ≤ p → p < j → f p ≡ []) → render old (eachT f (c - i) i) s ≡ z → render old (eachT f (d - j) j) (stateOf o m w) ≡ z
+each-next old f i c d j o m w s z l e g k h q =
+    ap (λ x. render old x (stateOf o m w)) (sym (each-skip f d j (j - (i + 1)) (i + 1) (omega arith) h))
+    ∙ each-left old f i (c - i) (d - (i + 1)) o m w s z (omega arith) e (rest (w .full) g) q
+  where
+    rest : (b : Bool) → d ≡ cond b 0 c → d - (i + 1) ≡ cond b 0 (c - i - 1)
+    rest true x = omega arith
+    rest false x = omega arith
+
+pub each-over : (old : List ℕ) (f : ℕ → List Item) (i c : ℕ) (s z : State) → c ≤ i → render old (eachT f (c - i) i) s ≡ z → s ≡ z
+each-over old f i c s z l h = each-none old f i (c - i) s z (omega arith) h
 
 -- counts
 pub small-is : (k : ℕ) → k < 65536 → k ≡ smallOf k
@@ -118,3 +157,8 @@ module _ (ns : List Name) (s : List ℕ) where
     pub brings-no-locals : (a ≡ k → ⊥) → 0 ≡ bringsLocalsT ns s mats ats regs k i
     unfolding bringsLocalsT
     brings-no-locals h = rw (← ea, ne-eqb a k h)
+
+-- a machine that goes elsewhere brings no locals
+pub no-locals : (ns : List Name) (s mats ats regs spots : List ℕ) (k i : ℕ) → (getD ats i 0 ≡ k → ⊥) → broughtLocalsT ns s mats ats regs spots k i ≡ []
+unfolding broughtLocalsT
+no-locals ns s mats ats regs spots k i h = rw (ne-eqb (getD ats i 0) k h)

@@ -24,7 +24,7 @@ use Rattle.machines.specs.Judging.{layAt}
 use Rattle.machines.specs.Brought.{eachT}
 use Rattle.machines.specs.Relaid.{AllWrite, Long, Writes, broughtAt, enumsAt, equationsAt}
 use Rattle.machines.specs.Parts.{broughtEquationsT}
-use Rattle.machines.proofs.BroughtLaws.{each-left}
+use Rattle.machines.proofs.BroughtLaws.{each-first, each-left, each-next}
 
 -- tables of the same lengths
 pub long-kept : (t reg lets u v l : List ℕ) → length u ≡ length t → length v ≡ length reg → length l ≡ length lets → Long t reg lets → Long u v l
@@ -70,11 +70,16 @@ module _ (ns : List Name) (s spots to t reg lets mats ats : List ℕ) (k i a m :
   unfolding broughtAt render
   goes-elsewhere z h = rw (← ea, ne-eqb a k h) refl
 
+-- nor does it bring equations
+no-equations : (ats : List ℕ) (eqs : ℕ → List Item) (k i : ℕ) → (getD ats i 0 ≡ k → ⊥) → broughtEquationsT ats eqs k i ≡ []
+unfolding broughtEquationsT
+no-equations ats eqs k i h = rw (ne-eqb (getD ats i 0) k h)
+
 -- one machine more, whatever the tables held
-module _ (ns : List Name) (sb spots to old mats : List ℕ) (n i c d : ℕ) (t reg lets o m : List ℕ) (w : Writer) (s z : State) (long : Long t reg lets) (room : i + c ≤ n) (some : 0 < c) (rest : d ≡ cond (w .full) 0 (c - 1)) where
+module _ (ns : List Name) (sb spots to old mats : List ℕ) (n i : ℕ) (t reg lets : List ℕ) (long : Long t reg lets) (here : i < n) where
   wrote : (f : ℕ → List ℕ → List ℕ → List ℕ → List Item) (g : ℕ → List Item) → AllWrite old f mats n g → (y : State) → render old (f (getD mats i 0) t reg lets) y ≡ render old (g i) y
   unfolding Writes
-  wrote f g h y = h i (omega arith) t reg lets long y
+  wrote f g h y = h i here t reg lets long y
 
   wrote-brought : (eqs : ℕ → List Item) (ats : List ℕ) (k : ℕ) → AllWrite old (equationsAt ns sb spots to) mats n eqs → (y : State) → render old (broughtAt ns sb spots to mats ats k i t reg lets) y ≡ render old (broughtEquationsT ats eqs k i) y
   unfolding broughtEquationsT broughtAt
@@ -84,9 +89,16 @@ module _ (ns : List Name) (sb spots to old mats : List ℕ) (n i c d : ℕ) (t r
       go true = wrote (equationsAt ns sb spots to) eqs h y
       go false = refl
 
-  pub equations-more : (eqs : ℕ → List Item) (ats : List ℕ) (k : ℕ) → AllWrite old (equationsAt ns sb spots to) mats n eqs → stateOf o m w ≡ render old (broughtAt ns sb spots to mats ats k i t reg lets) s → render old (eachT (broughtEquationsT ats eqs k) c i) s ≡ z
-      → render old (eachT (broughtEquationsT ats eqs k) d (i + 1)) (stateOf o m w) ≡ z
-  equations-more eqs ats k h e = each-left old (broughtEquationsT ats eqs k) i c d o m w s z some (e ∙ wrote-brought eqs ats k h s) rest
+  pub equations-next : (eqs : ℕ → List Item) (ats : List ℕ) (k c d j : ℕ) (o m : List ℕ) (w : Writer) (s z : State) → AllWrite old (equationsAt ns sb spots to) mats n eqs → i < c → stateOf o m w ≡ render old (broughtAt ns sb spots to mats ats k i t reg lets) s → d ≡ cond (w .full) 0 c
+      → i + 1 ≤ j → ((p : ℕ) → i + 1 ≤ p → p < j → getD ats p 0 ≡ k → ⊥) → render old (eachT (broughtEquationsT ats eqs k) (c - i) i) s ≡ z → render old (eachT (broughtEquationsT ats eqs k) (d - j) j) (stateOf o m w) ≡ z
+  equations-next eqs ats k c d j o m w s z h l e g r q = each-next old (broughtEquationsT ats eqs k) i c d j o m w s z l (e ∙ wrote-brought eqs ats k h s) g r (λ p a b. no-equations ats eqs k p (q p a b))
 
+  enums-written : (ens : ℕ → List Item) (a : ℕ) (s w : State) → AllWrite old (enumsAt ns sb spots to) mats n ens → a ≡ getD mats i 0 → w ≡ render old (enumsAt ns sb spots to a t reg lets) s → w ≡ render old (ens i) s
+  enums-written ens a s w h ea e = e ∙ ap (λ x. render old (enumsAt ns sb spots to x t reg lets) s) ea ∙ wrote (enumsAt ns sb spots to) ens h s
+
+pub equations-first : (old ats : List ℕ) (eqs : ℕ → List Item) (k n j : ℕ) (s : State) → 0 ≤ j → ((p : ℕ) → 0 ≤ p → p < j → getD ats p 0 ≡ k → ⊥) → render old (eachT (broughtEquationsT ats eqs k) (n - j) j) s ≡ render old (eachT (broughtEquationsT ats eqs k) n 0) s
+equations-first old ats eqs k n j s l h = each-first old (broughtEquationsT ats eqs k) n j s l (λ p a b. no-equations ats eqs k p (h p a b))
+
+module _ (ns : List Name) (sb spots to old mats : List ℕ) (n i c d : ℕ) (t reg lets o m : List ℕ) (w : Writer) (s z : State) (long : Long t reg lets) (room : i + c ≤ n) (some : 0 < c) (rest : d ≡ cond (w .full) 0 (c - 1)) where
   pub enums-more : (ens : ℕ → List Item) (a : ℕ) → AllWrite old (enumsAt ns sb spots to) mats n ens → a ≡ getD mats i 0 → stateOf o m w ≡ render old (enumsAt ns sb spots to a t reg lets) s → render old (eachT ens c i) s ≡ z → render old (eachT ens d (i + 1)) (stateOf o m w) ≡ z
-  enums-more ens a h ea e = each-left old ens i c d o m w s z some (e ∙ ap (λ x. render old (enumsAt ns sb spots to x t reg lets) s) ea ∙ wrote (enumsAt ns sb spots to) ens h s) rest
+  enums-more ens a h ea e = each-left old ens i c d o m w s z some (enums-written ns sb spots to old mats n i t reg lets long (omega arith) ens a s (stateOf o m w) h ea e) rest

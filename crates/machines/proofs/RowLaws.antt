@@ -80,6 +80,14 @@ left-less w n k l e = go (w .full) e
     go true f = omega arith
     go false f = omega arith
 
+-- nor is it more than all
+pub left-most : (w : Writer) (n k : ℕ) → k ≡ cond (w .full) 0 n → k ≤ n
+left-most w n k e = go (w .full) e
+  where
+    go : (b : Bool) → k ≡ cond b 0 n → k ≤ n
+    go true x = omega arith
+    go false x = omega arith
+
 -- the prefix of a name, by whether there is one
 no-prefix : (n : Name) (s : State) → length n ≡ 0 → s ≡ puts (prefixOf n) s
 unfolding prefixOf puts

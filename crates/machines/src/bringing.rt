@@ -8,8 +8,8 @@ use pack::parts::then_ports;
 use wire::answer::Skipped;
 ghost use mathlib.Core.List.{List};
 ghost use mathlib.Core.Path.{_≡_};
-ghost use Prim.Native.Nat.{_-_, _*_, _<_, _≤_};
-ghost use lib.ListN.{length};
+ghost use Prim.Native.Nat.{ℕ, _-_, _*_, _<_, _≤_};
+ghost use lib.ListN.{length, getD};
 ghost use Rattle.pack.specs.Names.{Name};
 ghost use Rattle.pack.specs.Read.{portsIn};
 ghost use Rattle.machines.specs.Stands.{endOf};
@@ -74,6 +74,20 @@ pub fn local_count(s: &[u8], names: usize, at: usize, regions: usize) -> usize
     let a = to_locals(s, names, at);
     let l = number(s, a);
     made_count(regions, l.value)
+}
+
+// The first of n machines, from i on, that goes to the node k; no less than n where there is none.
+pub fn next_to(ats: &[usize], n: usize, k: usize, i: usize) -> usize
+    ensures { λ r. ⌜ (i ≤ r) × ((j : ℕ) → i ≤ j → j < r → getD (now (ats .entry)) j 0 ≡ k → ⊥) ⌝ }
+{
+    let mut p = i;
+    while p < n {
+        if entry(ats, p) == k {
+            return p;
+        }
+        p += 1;
+    }
+    p
 }
 
 // How many equations the machine i brings to the node k.

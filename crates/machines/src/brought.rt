@@ -1,6 +1,7 @@
 // The locals that machines bring to a node: their own ones are copied, then those of their regions are made.
 use crate::bringing::after_ports;
 use crate::bringing::inner_count;
+use crate::bringing::next_to;
 use crate::bringing::to_locals;
 use crate::locals::put_inner_locals;
 use crate::locals::put_region_locals;
@@ -93,12 +94,12 @@ pub fn put_all_locals(
     ensures { λ r. ⌜ ((ns : List Name) → length ns ≡ names → stateOf (now (out .exit)) (now (made .exit)) r ≡ render (now (old .entry)) (eachT (broughtLocalsT ns (now (s .entry)) (now (mats .entry)) (now (ats .entry)) (now (regs .entry)) (now (spots .entry)) k) n 0) (stateOf (now (out .entry)) (now (made .entry)) w)) ⌝ }
 {
     let mut v = w;
-    let mut i = 0;
     let mut c = n;
-    while 0 < c {
+    let mut i = next_to(ats, c, k, 0);
+    while i < c {
         v = put_brought(old, s, names, spots, mats, ats, regs, k, i, out, made, v);
-        i += 1;
-        c = left(v, c - 1);
+        c = left(v, c);
+        i = next_to(ats, c, k, i + 1);
     }
     v
 }

@@ -1,4 +1,5 @@
 // What is written of machines that are laid out again: their equations, their enums. Tables between two of them may hold anything.
+use crate::bringing::next_to;
 use crate::enums::put_enums;
 use crate::lay::lay_machine;
 use crate::regions::put_regions_equations;
@@ -142,9 +143,9 @@ pub fn put_all_equations(
     ensures { λ r. ⌜ ((ns : List Name) → length ns ≡ names → (eqs : ℕ → List Item) → AllWrite (now (old .entry)) (equationsAt ns (now (s .entry)) (now (spots .entry)) (now (to .entry))) (now (mats .entry)) n eqs → stateOf (now (out .exit)) (now (made .exit)) r ≡ render (now (old .entry)) (eachT (broughtEquationsT (now (ats .entry)) eqs k) n 0) (stateOf (now (out .entry)) (now (made .entry)) w)) ⌝ }
 {
     let mut v = w;
-    let mut i = 0;
     let mut c = n;
-    while 0 < c {
+    let mut i = next_to(ats, c, k, 0);
+    while i < c {
         v = put_brought_equations(
             old,
             s,
@@ -163,8 +164,8 @@ pub fn put_all_equations(
             made,
             v,
         );
-        i += 1;
-        c = left(v, c - 1);
+        c = left(v, c);
+        i = next_to(ats, c, k, i + 1);
     }
     v
 }
