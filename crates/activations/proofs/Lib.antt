@@ -55,3 +55,4 @@ pub mod ReadsKnown
 pub mod RewriteKnown
 pub mod PinsKnown
 pub mod ScopesKnown
+pub mod BegunLaws

@@ -48,3 +48,4 @@ pub mod HeldAs
 pub mod HoldersAt
 pub mod ScopesAt
 pub mod Asked
+pub mod BegunAt

@@ -25,3 +25,4 @@ pub mod hold; // holders made known
 pub mod holders; // the equations of holders
 pub mod samples; // the samples that are new in a scope
 pub mod scopes; // the equations of scopes
+pub mod begin; // an activation begun
