@@ -56,3 +56,4 @@ pub mod RewriteKnown
 pub mod PinsKnown
 pub mod ScopesKnown
 pub mod BegunLaws
+pub mod EquationLaws

@@ -49,3 +49,4 @@ pub mod HoldersAt
 pub mod ScopesAt
 pub mod Asked
 pub mod BegunAt
+pub mod EquationsAt

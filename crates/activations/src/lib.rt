@@ -26,3 +26,4 @@ pub mod holders; // the equations of holders
 pub mod samples; // the samples that are new in a scope
 pub mod scopes; // the equations of scopes
 pub mod begin; // an activation begun
+pub mod equations; // all equations of an activation
