@@ -9,7 +9,7 @@ use mathlib.Core.Path.{_≡_, refl, sym, ap, subst, _∙_}
 use lib.ListN.{length, getD, length-set}
 use lib.Seq.{getD-set-other, getD-set-same}
 use lib.Dec.{eqb, ltb}
-use borrow.Author.Tests.{eq-eqb, eqb-true, le-ltb, lt-ltb, ltb-false, ltb-true, ne-eqb}
+use borrow.Author.Tests.{eq-eqb, eqb-true, le-ltb, lt-ltb, ne-eqb}
 use Rattle.wire.specs.Answer.{counted, many, u16, value}
 use Rattle.wire.specs.Lists.{Bytes}
 use Rattle.wire.proofs.Answers.{bind-value, map-value}

@@ -9,7 +9,7 @@ use Rattle.wire.specs.declared.writer.Writer.{Writer}
 use Rattle.wire.specs.Writer.{State, put, puts, stateOf}
 use Rattle.pack.specs.Names.{Name}
 use Rattle.pack.specs.Syntax.{Expr}
-use Rattle.pack.specs.Write.{Item, exprItems, flagByte, nm, one, portItems, raw, tyItems}
+use Rattle.pack.specs.Write.{Item, exprItems, flagByte, nm, raw}
 use Rattle.pack.specs.Intern.{putItem, putName, render}
 use Rattle.pack.proofs.Interns.{render-append}
 use Rattle.machines.proofs.RowLaws.{left-same}
@@ -17,11 +17,7 @@ use Rattle.activations.specs.declared.made.Var.the-variants as vr
 use Rattle.activations.specs.MadeNames.{Scope, branch, clockVar, other, scopeAt}
 use Rattle.activations.specs.Clocks.{onto, under}
 use Rattle.activations.specs.Vars.{branchVar}
-use Rattle.activations.specs.ByNumber.{boolPort, ontoItems, underItems, whenItems}
-
-pub bool-port : (old n : List ℕ) (s : State) → put 0 (putName old n s) ≡ render old (portItems (boolPort n)) s
-unfolding portItems tyItems one boolPort render putItem puts
-bool-port old n s = refl
+use Rattle.activations.specs.ByNumber.{ontoItems, underItems, whenItems}
 
 pub when-term : (old : List ℕ) (a : Name) (k b : ℕ) (s : State) → put b (putName old (branchVar vr.Clock a k) (put 14 s)) ≡ render old (whenItems a k b) s
 unfolding whenItems branchVar render putItem puts

@@ -2,16 +2,15 @@
 use Prim.Native.Nat.{ℕ, zero, suc, _<_, _≤_}
 use native.Mathlib.Omega.{arith}
 use mathlib.Core.List.{List, [], _∷_, _++_, append-assoc, append-nil}
-use mathlib.Core.Option.{Option, none, some}
+use mathlib.Core.Option.{none}
 use mathlib.Core.Path.{_≡_, refl, sym, ap, _∙_}
 use lib.ListN.{length}
-use lib.Dec.{ltb}
 use borrow.Author.Tests.{lt-ltb}
 use Rattle.wire.specs.Answer.{many, value}
 use Rattle.wire.specs.Lists.{All, Bytes}
 use Rattle.wire.specs.Writer.{State}
 use Rattle.pack.specs.Names.{Name}
-use Rattle.pack.specs.Syntax.{Activation, Branch, Equation, Expr, eUnary, oNot}
+use Rattle.pack.specs.Syntax.{Activation, Branch, Expr, eUnary, oNot}
 use Rattle.pack.specs.Forms.{nameAt}
 use Rattle.pack.specs.Legal.{Fresh, LegalName}
 use Rattle.pack.specs.Read.{activationIn, branchIn, exprIn}
@@ -28,7 +27,6 @@ use Rattle.activations.specs.Unlast.{conditionsOf, unlast}
 use Rattle.activations.specs.Flags.{andAlso, flagEquations}
 use Rattle.activations.specs.Places.{actAt, branchEnd}
 use Rattle.activations.specs.Walks.{LastIs}
-use Rattle.activations.specs.UnlastAt.{unlastT}
 use Rattle.activations.specs.Passes.{passT}
 use Rattle.activations.specs.FlagsAt.{branchFlagsT, flagItems, flagT, flagsT, priorItems, priorOf, untakenItems, untakenT}
 use Rattle.activations.specs.declared.parts.Act.{Act}

@@ -1,5 +1,5 @@
 -- Activations lowered one after the other are what each brings to its owner, node by node.
-use Prim.Native.Nat.{ℕ, zero, suc, _+_, _≤_, _<_}
+use Prim.Native.Nat.{ℕ, suc, _+_, _≤_}
 use native.Mathlib.Omega.{arith}
 use mathlib.Core.List.{List, [], _∷_, _++_, append-assoc, append-nil}
 use mathlib.Core.Bool.{Bool, true, false, cond}
@@ -9,7 +9,7 @@ use lib.Dec.{eqb}
 use borrow.Author.Tests.{eq-eqb, ne-eqb}
 use Rattle.pack.specs.Names.{Name, eqName}
 use Rattle.pack.specs.Legal.{place}
-use Rattle.pack.specs.Syntax.{Activation, Enum, Equation, Node, Package, Port}
+use Rattle.pack.specs.Syntax.{Activation, Enum, Node, Package}
 use Rattle.machines.specs.Machines.{Made, extend, extendIn, nodeNamed, refusing, start}
 use Rattle.machines.specs.Sections.{nodeNames}
 use Rattle.activations.specs.Lower.{Lowered, lowered, make, refuse}

@@ -9,7 +9,7 @@ use Rattle.pack.specs.Read.{portIn}
 use Rattle.machines.specs.Stands.{endOf}
 use Rattle.machines.specs.Sure.{numberIn, with}
 use Rattle.machines.specs.Emits.{packName}
-use Rattle.activations.specs.MadeNames.{Scope, branch, clockVar, flagVar, noneVar, other, scopeAt, valueVar}
+use Rattle.activations.specs.MadeNames.{Scope, branch, clockVar, flagVar, other, scopeAt, valueVar}
 use Rattle.activations.specs.Defines.{eqn}
 use Rattle.activations.specs.Clocks.{under}
 use Rattle.activations.specs.Merges.{mergeFrom}
@@ -40,21 +40,6 @@ guardOf a k = eqn (clockVar a k) (under a k (eVar (flagVar a k)))
 unfoldable pub guardsFrom : Name → ℕ → ℕ → List Equation
 guardsFrom a k zero = []
 guardsFrom a k (suc n) = guardOf a k ∷ guardsFrom a (suc k) n
-
--- their locals
-unfoldable pub guardPorts : Name → ℕ → ℕ → List Port
-guardPorts a k zero = []
-guardPorts a k (suc n) = boolPort (clockVar a k) ∷ guardPorts a (suc k) n
-
--- the flags of branch k where a branch follows
-unfoldable pub pairPorts : Name → ℕ → List Port
-pairPorts a k = boolPort (flagVar a k) ∷ boolPort (noneVar a k) ∷ []
-
--- the locals of the flags of n branches from k on
-unfoldable pub flagPorts : Name → ℕ → ℕ → List Port
-flagPorts a k zero = []
-flagPorts a k (suc zero) = boolPort (flagVar a k) ∷ []
-flagPorts a k (suc (suc n)) = pairPorts a k ++ flagPorts a (suc k) (suc n)
 
 -- an output from the scopes of n branches from k on, and the else scope
 unfoldable pub mergedFrom : Name → Name → ℕ → ℕ → Expr

@@ -1,25 +1,21 @@
-// The guards of branches, and the locals of flags and guards. They depend on the number of branches only.
+// The guards of branches: they depend on the number of branches only.
 use crate::made::Var;
-use crate::terms::put_bool;
 use crate::terms::put_left;
 use crate::terms::put_under;
 use crate::terms::put_variable;
 use machines::rows::left;
 use wire::writer::Writer;
 ghost use mathlib.Core.List.{List};
-ghost use mathlib.Core.Option.{none};
 ghost use mathlib.Core.Path.{_≡_};
 ghost use Prim.Native.Nat.{_<_, _^_};
 ghost use lib.ListN.{length};
 ghost use Rattle.wire.specs.Writer.{stateOf};
-ghost use Rattle.pack.specs.Syntax.{Expr, tBool};
-ghost use Rattle.pack.specs.Write.{each, equationItems, portItems};
+ghost use Rattle.pack.specs.Syntax.{Expr};
+ghost use Rattle.pack.specs.Write.{each, equationItems};
 ghost use Rattle.pack.specs.Intern.{render};
 ghost use Rattle.activations.specs.Clocks.{guardEquations};
-ghost use Rattle.activations.specs.Defines.{asLocals};
-ghost use Rattle.activations.specs.Flags.{flagEquations};
 ghost use Rattle.activations.specs.Lower.{tailOf};
-ghost use Rattle.activations.specs.ByNumber.{guardOf, pairPorts};
+ghost use Rattle.activations.specs.ByNumber.{guardOf};
 
 // The guard of the branch k.
 fn put_guard(old: &[u8], a: &[u8], k: usize, out: &mut [u8], made: &mut [u8], w: Writer) -> Writer
@@ -52,62 +48,4 @@ pub fn put_guards(
         m = left(v, m - 1);
     }
     v
-}
-
-// The locals of the guards of n branches.
-pub fn put_guard_locals(
-    old: &[u8],
-    a: &[u8],
-    n: usize,
-    out: &mut [u8],
-    made: &mut [u8],
-    w: Writer,
-) -> Writer
-    requires { ⌜ n < 2 ^ 63 ⌝ }
-    ensures { λ r. ⌜ ((cs : List Expr) → length cs ≡ n → stateOf (now (out .exit)) (now (made .exit)) r ≡ render (now (old .entry)) (each portItems (asLocals tBool (guardEquations (now (a .entry)) 1 (tailOf cs)))) (stateOf (now (out .entry)) (now (made .entry)) w)) ⌝ }
-{
-    let mut v = w;
-    let mut k = 1;
-    let mut m = n;
-    while 1 < m {
-        v = put_bool(old, a, Var::Clock, k, out, made, v);
-        k += 1;
-        m = left(v, m - 1);
-    }
-    v
-}
-
-// The locals of the flags of the branch k, where a branch follows.
-fn put_pair(old: &[u8], a: &[u8], k: usize, out: &mut [u8], made: &mut [u8], w: Writer) -> Writer
-    requires { ⌜ k < 2 ^ 63 ⌝ }
-    ensures { λ r. ⌜ stateOf (now (out .exit)) (now (made .exit)) r ≡ render (now (old .entry)) (each portItems (pairPorts (now (a .entry)) k)) (stateOf (now (out .entry)) (now (made .entry)) w) ⌝ }
-{
-    let c = put_bool(old, a, Var::Flag, k, out, made, w);
-    put_bool(old, a, Var::Untaken, k, out, made, c)
-}
-
-// The locals of the flags of n branches; the last has one only.
-pub fn put_flag_locals(
-    old: &[u8],
-    a: &[u8],
-    n: usize,
-    out: &mut [u8],
-    made: &mut [u8],
-    w: Writer,
-) -> Writer
-    requires { ⌜ n < 2 ^ 63 ⌝ }
-    ensures { λ r. ⌜ ((cs : List Expr) → length cs ≡ n → stateOf (now (out .exit)) (now (made .exit)) r ≡ render (now (old .entry)) (each portItems (asLocals tBool (flagEquations (now (a .entry)) none 0 cs))) (stateOf (now (out .entry)) (now (made .entry)) w)) ⌝ }
-{
-    let mut v = w;
-    let mut k = 0;
-    let mut m = n;
-    while 1 < m {
-        v = put_pair(old, a, k, out, made, v);
-        k += 1;
-        m = left(v, m - 1);
-    }
-    if m == 0 {
-        return v;
-    }
-    put_bool(old, a, Var::Flag, k, out, made, v)
 }

@@ -10,7 +10,7 @@ pub mod misused; // calls of `last` with other arguments
 pub mod checks; // what is refused before `last` is sought
 pub mod terms; // variables of branches and clocks, written
 pub mod flags; // the flags of branches
-pub mod guards; // guards, and the locals of flags and guards
+pub mod guards; // guards of branches
 pub mod merges; // outputs, merged from the scopes
 pub mod unlast; // expressions with calls of `last` replaced
 pub mod types; // the types of variables

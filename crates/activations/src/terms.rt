@@ -1,4 +1,4 @@
-// Variables of branches as expressions, left sides and locals; the clocks of scopes, up to their argument.
+// Variables of branches as expressions and left sides; the clocks of scopes, up to their argument.
 use crate::made::Var;
 use crate::made::put_var;
 use machines::rows::left;
@@ -10,11 +10,11 @@ ghost use mathlib.Core.Path.{_≡_};
 ghost use Prim.Native.Nat.{_<_, _^_};
 ghost use Rattle.wire.specs.Writer.{stateOf};
 ghost use Rattle.pack.specs.Syntax.{eVar};
-ghost use Rattle.pack.specs.Write.{exprItems, list, nameItems, portItems};
+ghost use Rattle.pack.specs.Write.{exprItems, list, nameItems};
 ghost use Rattle.pack.specs.Intern.{render};
 ghost use Rattle.activations.specs.MadeNames.{scopeAt};
 ghost use Rattle.activations.specs.Vars.{branchVar};
-ghost use Rattle.activations.specs.ByNumber.{boolPort, ontoItems, underItems, whenItems};
+ghost use Rattle.activations.specs.ByNumber.{ontoItems, underItems, whenItems};
 
 // A branch's variable as an expression.
 pub fn put_variable(
@@ -48,23 +48,6 @@ pub fn put_left(
 {
     let c = put_u16(out, w, 1);
     put_var(old, a, v, k, out, made, c)
-}
-
-// A branch's variable as a Boolean local.
-pub fn put_bool(
-    old: &[u8],
-    a: &[u8],
-    v: Var,
-    k: usize,
-    out: &mut [u8],
-    made: &mut [u8],
-    w: Writer,
-) -> Writer
-    requires { ⌜ k < 2 ^ 63 ⌝ }
-    ensures { λ r. ⌜ stateOf (now (out .exit)) (now (made .exit)) r ≡ render (now (old .entry)) (portItems (boolPort (branchVar v (now (a .entry)) k))) (stateOf (now (out .entry)) (now (made .entry)) w) ⌝ }
-{
-    let c = put_var(old, a, v, k, out, made, w);
-    put_byte(out, c, 0)
 }
 
 // A `when` on the clock of the branch k, up to its argument.
