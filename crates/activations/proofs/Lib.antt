@@ -57,3 +57,4 @@ pub mod PinsKnown
 pub mod ScopesKnown
 pub mod BegunLaws
 pub mod EquationLaws
+pub mod FoundOnce

@@ -37,7 +37,7 @@ use Rattle.activations.proofs.RowsNoted.{note-count, note-is, note-leng
 use Rattle.activations.proofs.ActRead.{BranchRead, act-to, activation-value, body-to, branch-end-to, branch-number-to, branch-value, counted-value, equation-end-to, equation-value, right-side-to}
 
 -- calls, by their kind
-unfoldable kindSought : CallKind → Exprs → List Sought → List Sought
+unfoldable pub kindSought : CallKind → Exprs → List Sought → List Sought
 kindSought plain xs hs = soughtIn xs hs
 kindSought badLast xs hs = soughtIn xs hs
 kindSought (lastOf v i) xs hs = note v i hs
@@ -48,7 +48,7 @@ by-kind plain xs hs = refl
 by-kind badLast xs hs = refl
 by-kind (lastOf v i) xs hs = refl
 
-call-sought : (f : Name) (xs : Exprs) (k : CallKind) (hs : List Sought) → callKind f xs ≡ k → sought (eCall f xs) hs ≡ kindSought k xs hs
+pub call-sought : (f : Name) (xs : Exprs) (k : CallKind) (hs : List Sought) → callKind f xs ≡ k → sought (eCall f xs) hs ≡ kindSought k xs hs
 unfolding sought
 call-sought f xs k hs e = by-kind (callKind f xs) xs hs ∙ ap (λ y. kindSought y xs hs) e
 
@@ -57,7 +57,7 @@ unfolding through listOf soughtIn
 in-order xNil hs = refl
 in-order (xCons a xs) hs = in-order xs (sought a hs)
 
-found-append : (xs ys : List Expr) (hs : List Sought) → found (xs ++ ys) hs ≡ found ys (found xs hs)
+pub found-append : (xs ys : List Expr) (hs : List Sought) → found (xs ++ ys) hs ≡ found ys (found xs hs)
 unfolding found
 found-append [] ys hs = refl
 found-append (x ∷ xs) ys hs = found-append xs ys (sought x hs)
