@@ -58,3 +58,5 @@ pub mod ScopesKnown
 pub mod BegunLaws
 pub mod EquationLaws
 pub mod FoundOnce
+pub mod RowsKnown
+pub mod HoldersKnown
