@@ -47,7 +47,7 @@ use Rattle.activations.proofs.RowsNoted.{put-length, put-other, put-sam
 use Rattle.activations.proofs.HoldLaws.{from-step, row-known, row-needs, row-unknown}
 
 -- one port more at the end
-last-snoc : (ports : List Port) (p : Port) (n : Name) → lastTyped (ports ++ (p ∷ [])) n ≡ cond (eqName (p .name) n) (some (p .ty)) (lastTyped ports n)
+pub last-snoc : (ports : List Port) (p : Port) (n : Name) → lastTyped (ports ++ (p ∷ [])) n ≡ cond (eqName (p .name) n) (some (p .ty)) (lastTyped ports n)
 unfolding lastTyped firstOf
 last-snoc ports p n = last-append ports (p ∷ []) n ∙ go (eqName (p .name) n)
   where

@@ -60,3 +60,6 @@ pub mod EquationLaws
 pub mod FoundOnce
 pub mod RowsKnown
 pub mod HoldersKnown
+pub mod LocalsLeft
+pub mod ReadsEach
+pub mod ScopeLocalsKnown

@@ -53,7 +53,7 @@ built-place ns a made m n e = ap (placeBuilt ns (length ns) made) (puts-fit 255 
     fits : length n ≤ 255 → placeBuilt ns (length ns) made (cond (leb (0 + length n) 255) (st 255 0 n []) full) ≡ place ns n
     fits g = ap (λ (b : Bool). placeBuilt ns (length ns) made (cond b (st 255 0 n []) full)) (le-leb (0 + length n) 255 (omega arith)) ∙ made-place ns made 255 0 n [] m e
 
-sample-made : (a : Name) (c : Scope) (v : Name) → isMade (sampleVar a c v) ≡ true
+pub sample-made : (a : Name) (c : Scope) (v : Name) → isMade (sampleVar a c v) ≡ true
 unfolding isMade sliceOf sampleVar madeName actPrefix eqName
 sample-made a c v = refl
 

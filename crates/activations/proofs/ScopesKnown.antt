@@ -55,7 +55,7 @@ use Rattle.activations.proofs.RewriteKnown.{rename-written}
 use Rattle.activations.proofs.PinsKnown.{pinned-written}
 
 -- those of the numbers that are not among others
-unfoldable freshIn : List ℕ → List ℕ → List ℕ
+unfoldable pub freshIn : List ℕ → List ℕ → List ℕ
 freshIn seen [] = []
 freshIn seen (x ∷ xs) = cond (among x seen) (freshIn seen xs) (x ∷ freshIn seen xs)
 
@@ -68,7 +68,7 @@ fresh-more x seen (y ∷ ys) e =
     let g = fresh-more x seen ys (o .1) in
     λ j. cond (f j) (g j) (y ∷ g j)
 
-fresh-length : (seen ids : List ℕ) → length (freshIn seen ids) ≤ length ids
+pub fresh-length : (seen ids : List ℕ) → length (freshIn seen ids) ≤ length ids
 unfolding freshIn
 fresh-length seen [] = omega arith
 fresh-length seen (x ∷ xs) =
@@ -77,7 +77,7 @@ fresh-length seen (x ∷ xs) =
 
 module _ (ns : List Name) (a : Name) (fresh : Fresh [] ns) (few : length ns + length ns ≤ 65536) where
   -- what was seen and what is read, joined: the new ones after the old
-  joined : (ids seen : List ℕ) → All (IsId ns a) ids → Once ids → length seen + length ids < 21848 → joinT ids seen ≡ seen ++ freshIn seen ids
+  pub joined : (ids seen : List ℕ) → All (IsId ns a) ids → Once ids → length seen + length ids < 21848 → joinT ids seen ≡ seen ++ freshIn seen ids
   unfolding joinT freshIn All Once
   joined [] seen all once l = sym (append-none seen)
     where
@@ -92,7 +92,7 @@ module _ (ns : List Name) (a : Name) (fresh : Fresh [] ns) (few : length ns + le
       ∙ ap (λ (z : List ℕ). (seen ++ (x ∷ [])) ++ z) (fresh-more x seen xs (once .0))
       ∙ append-assoc seen (x ∷ []) (freshIn seen xs))
 
-  names-fresh : (seen ids : List ℕ) → All (IsId ns a) seen → All (IsId ns a) ids → namesOf ns a (freshIn seen ids) ≡ dropIn (namesOf ns a seen) (namesOf ns a ids)
+  pub names-fresh : (seen ids : List ℕ) → All (IsId ns a) seen → All (IsId ns a) ids → namesOf ns a (freshIn seen ids) ≡ dropIn (namesOf ns a seen) (namesOf ns a ids)
   unfolding freshIn dropIn namesOf All
   names-fresh seen [] s all = refl
   names-fresh seen (x ∷ xs) s all =
@@ -100,20 +100,20 @@ module _ (ns : List Name) (a : Name) (fresh : Fresh [] ns) (few : length ns + le
       (λ e. names-fresh seen xs s (all .1)) (λ e. ap (λ (r : List Name). nameOf ns a x ∷ r) (names-fresh seen xs s (all .1)))
       ∙ ap (λ (b : Bool). cond b (dropIn (namesOf ns a seen) (namesOf ns a xs)) (nameOf ns a x ∷ dropIn (namesOf ns a seen) (namesOf ns a xs))) (among-is ns a fresh x seen (all .0) s)
 
-  ids-fresh : (seen ids : List ℕ) → All (IsId ns a) ids → All (IsId ns a) (freshIn seen ids)
+  pub ids-fresh : (seen ids : List ℕ) → All (IsId ns a) ids → All (IsId ns a) (freshIn seen ids)
   unfolding freshIn All
   ids-fresh seen [] all = tt
   ids-fresh seen (x ∷ xs) all = by-bool (λ (b : Bool). All (IsId ns a) (cond b (freshIn seen xs) (x ∷ freshIn seen xs))) (among x seen) (λ e. ids-fresh seen xs (all .1)) (λ e. (all .0, ids-fresh seen xs (all .1)))
 
 -- the first left name of an equation that was read
 module _ (ns : List Name) (s : List ℕ) where
-  names-move : (at : ℕ) (x : List Name) (q : ℕ) → namesIn ns s at ≡ value x q → at ≤ q
+  pub names-move : (at : ℕ) (x : List Name) (q : ℕ) → namesIn ns s at ≡ value x q → at ≤ q
   unfolding namesIn counted nameIn
   names-move at x q e =
       let f = fwd-bind (length s) at (u16 s at) _ (fwd-u16 s at) (λ n p. fwd-many (length s) (nameIn ns s) (λ i. fwd-map (length s) i _ _ (fwd-index (length ns) s i)) n p) x q e in
       f .on
 
-  first-left-to : (at : ℕ) (x : List Name) (q : ℕ) → namesIn ns s at ≡ value x q → 0 < length x → (i : ℕ) × (firstLeftIn s at ≡ i) × (i < length ns) × (nameAt ns i ≡ firstLeft x)
+  pub first-left-to : (at : ℕ) (x : List Name) (q : ℕ) → namesIn ns s at ≡ value x q → 0 < length x → (i : ℕ) × (firstLeftIn s at ≡ i) × (i < length ns) × (nameAt ns i ≡ firstLeft x)
   unfolding namesIn firstLeftIn firstLeft
   first-left-to at [] q e l = absurd (omega arith)
   first-left-to at (x ∷ xs) q e l =
@@ -125,6 +125,15 @@ module _ (ns : List Name) (s : List ℕ) where
 equation-parts : (n : Name) (e : Expr) → equationItems (eqn n e) ≡ raw (two 1) ∷ nm n ∷ exprItems e
 unfolding equationItems eqn list each nameItems
 equation-parts n e = refl
+
+-- the scopes of branches, and the else scope after them
+pub scope-branch : (n k : ℕ) → k < n → scopeAt n k ≡ branch k
+unfolding scopeAt
+scope-branch n k h = ap (λ (b : Bool). cond b (branch k) other) (lt-ltb k n h)
+
+pub scope-else : (n : ℕ) → scopeAt n n ≡ other
+unfolding scopeAt
+scope-else n = ap (λ (b : Bool). cond b (branch n) other) (le-ltb n n (omega arith))
 
 -- a pack that was read; an activation's name, its n branches; the holders' rows, the types of variables and outputs; the variables
 -- that are known; what holds of the variables that have rows
@@ -141,14 +150,6 @@ module _ (ns : List Name) (fresh : Fresh [] ns) (legal : All LegalName ns) (few 
 
   few-names : length ns < 65536
   few-names = omega arith
-
-  scope-branch : (k : ℕ) → k < n → scopeAt n k ≡ branch k
-  unfolding scopeAt
-  scope-branch k h = ap (λ (b : Bool). cond b (branch k) other) (lt-ltb k n h)
-
-  scope-else : scopeAt n n ≡ other
-  unfolding scopeAt
-  scope-else = ap (λ (b : Bool). cond b (branch n) other) (le-ltb n n (omega arith))
 
   module _ (k : ℕ) where
     -- the equation of a sample
@@ -276,7 +277,7 @@ module _ (ns : List Name) (fresh : Fresh [] ns) (legal : All LegalName ns) (few 
       let m = many-more (branchIn ns s) c p x xs q e in
       let r = branch-value ns s p x (m .0) (m .1) in
       (λ j. branchesT (enc ns) s spots (length ns) made ns last held rows env outs a n (suc k) c (branch-end-to ns s p x (m .0) r j) (scopeT (enc ns) s spots (length ns) made ns last held rows env outs a n k (body-to ns s p x (m .0) r j) z))
-      ∙ ap (branchesT (enc ns) s spots (length ns) made ns last held rows env outs a n (suc k) c (m .0)) (scope-known k (r .to-equations) (x .equations) (m .0) z (r .equations) (f .0) ∙ ap (λ (t : Scope). render (enc ns) (each equationItems (scopeEquations a n vars t [] (x .equations))) z) (scope-branch k (omega arith)))
+      ∙ ap (branchesT (enc ns) s spots (length ns) made ns last held rows env outs a n (suc k) c (m .0)) (scope-known k (r .to-equations) (x .equations) (m .0) z (r .equations) (f .0) ∙ ap (λ (t : Scope). render (enc ns) (each equationItems (scopeEquations a n vars t [] (x .equations))) z) (scope-branch n k (omega arith)))
       ∙ branches-known (suc k) c (m .0) xs q (render (enc ns) (each equationItems (scopeEquations a n vars (branch k) [] (x .equations))) z) (m .2) (omega arith) (f .1)
       ∙ sym (render-append (enc ns) (each equationItems (scopeEquations a n vars (branch k) [] (x .equations))) (each equationItems (branchEquations a n vars (suc k) xs)) z)
       ∙ ap (λ (is : List Item). render (enc ns) is z) (sym (each-append equationItems (scopeEquations a n vars (branch k) [] (x .equations)) (branchEquations a n vars (suc k) xs)))
@@ -289,6 +290,6 @@ module _ (ns : List Name) (fresh : Fresh [] ns) (legal : All LegalName ns) (few 
       ap (λ (x : Num). scopeT (enc ns) s spots (length ns) made ns last held rows env outs a n n to (branchesT (enc ns) s spots (length ns) made ns last held rows env outs a n 0 n (x .next) z)) (number-num s branches n b c)
       ∙ ap (scopeT (enc ns) s spots (length ns) made ns last held rows env outs a n n to) (branches-known 0 n b bs to z d (omega arith) f)
       ∙ scope-known n to es q (render (enc ns) (each equationItems (branchEquations a n vars 0 bs)) z) e g
-      ∙ ap (λ (t : Scope). render (enc ns) (each equationItems (scopeEquations a n vars t [] es)) (render (enc ns) (each equationItems (branchEquations a n vars 0 bs)) z)) scope-else
+      ∙ ap (λ (t : Scope). render (enc ns) (each equationItems (scopeEquations a n vars t [] es)) (render (enc ns) (each equationItems (branchEquations a n vars 0 bs)) z)) (scope-else n)
       ∙ sym (render-append (enc ns) (each equationItems (branchEquations a n vars 0 bs)) (each equationItems (scopeEquations a n vars other [] es)) z)
       ∙ ap (λ (is : List Item). render (enc ns) is z) (sym (each-append equationItems (branchEquations a n vars 0 bs) (scopeEquations a n vars other [] es)))
