@@ -1,18 +1,18 @@
 -- What is found has no variable twice, and has every variable that a replaced call of `last` asks for.
-use mathlib.Core.List.{List, [], _∷_, _++_}
+use mathlib.Core.List.{List, [], _∷_}
 use mathlib.Core.Bool.{Bool, true, false, cond, _||_}
 use mathlib.Core.Option.{Option}
 use mathlib.Core.Path.{_≡_, refl, sym, ap, subst, _∙_}
 use Rattle.wire.specs.Lists.{All}
 use Rattle.pack.specs.Names.{Name, eqName, member}
 use Rattle.pack.specs.Report.{firstOf}
-use Rattle.pack.specs.Syntax.{Activation, Branch, Equation, Expr, Exprs, eArray, eArrow, eBinary, eCall, eCast, eConst, eField, eIf, eIndex, eIterate, eMerge, ePre, eStruct, eTuple, eUnary, eVar, eWhen, xCons, xNil}
-use Rattle.pack.proofs.Tables.{all-append, eqName-refl, eqName-true}
+use Rattle.pack.specs.Syntax.{Expr, Exprs, eArray, eArrow, eBinary, eCall, eCast, eConst, eField, eIf, eIndex, eIterate, eMerge, ePre, eStruct, eTuple, eUnary, eVar, eWhen, xCons, xNil}
+use Rattle.pack.proofs.Tables.{eqName-refl, eqName-true}
 use Rattle.activations.specs.LastCalls.{CallKind, badLast, callKind, lastOf, plain}
-use Rattle.activations.specs.Sought.{Sought, bodies, conditions, expressions, found, note, rightSides, sought, soughtIn}
+use Rattle.activations.specs.Sought.{Sought, found, note, sought, soughtIn}
 use Rattle.activations.specs.Asked.{Asked, AskedIn, ofCall}
-use Rattle.activations.proofs.NumbersKnown.{by-bool, eqName-turns}
-use Rattle.activations.proofs.SoughtFound.{call-sought, found-append, kindSought}
+use Rattle.activations.proofs.NumbersKnown.{by-bool}
+use Rattle.activations.proofs.SoughtFound.{call-sought, kindSought}
 
 -- the names of what is found
 unfoldable pub varsOf : List Sought → List Name
@@ -37,7 +37,7 @@ or-same true c = refl
 or-same false true = refl
 or-same false false = refl
 
-or-assoc : (b c d : Bool) → b || (c || d) ≡ (b || c) || d
+pub or-assoc : (b c d : Bool) → b || (c || d) ≡ (b || c) || d
 or-assoc true c d = refl
 or-assoc false c d = refl
 

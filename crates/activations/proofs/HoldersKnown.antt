@@ -2,7 +2,7 @@
 use Prim.Native.Nat.{ℕ, zero, suc, _+_, _<_}
 use native.Mathlib.Omega.{arith}
 use mathlib.Core.List.{List, [], _∷_, _++_, append-assoc}
-use mathlib.Core.Bool.{Bool, true, false, cond, _||_}
+use mathlib.Core.Bool.{Bool, false, cond, _||_}
 use mathlib.Core.Option.{Option, none, some}
 use mathlib.Core.Path.{_≡_, refl, sym, ap, subst, _∙_}
 use lib.ListN.{length, getD}
@@ -10,7 +10,7 @@ use Rattle.wire.specs.Answer.{counted, value}
 use Rattle.wire.specs.Lists.{All, Bytes}
 use Rattle.wire.specs.Writer.{State}
 use Rattle.pack.specs.Names.{Name, eqName, member}
-use Rattle.pack.specs.Report.{Refusal, firstOf}
+use Rattle.pack.specs.Report.{firstOf}
 use Rattle.pack.specs.Syntax.{Enum, Equation, Expr, Port, Ty}
 use Rattle.pack.specs.Forms.{nameAt}
 use Rattle.pack.specs.Legal.{Fresh, LegalName}
@@ -27,7 +27,6 @@ use Rattle.activations.specs.Defaults.{startOf}
 use Rattle.activations.specs.Types.{lastTyped, portNames, typed}
 use Rattle.activations.specs.Sought.{Sought}
 use Rattle.activations.specs.Holders.{Holding, also, held, hold, holderEquation, holderPort, unheld, withInit, withType}
-use Rattle.activations.specs.Ids.{holderId}
 use Rattle.activations.specs.TypesAt.{Coded}
 use Rattle.activations.specs.SoughtAt.{RowIs, RowsFrom, wordT}
 use Rattle.activations.specs.HeldAs.{KnownAt}
@@ -37,7 +36,7 @@ use Rattle.activations.proofs.TypesKnown.{last-append}
 use Rattle.activations.proofs.NumbersKnown.{by-bool}
 use Rattle.activations.proofs.HolderWritten.{row-written}
 use Rattle.activations.proofs.FoundOnce.{VarsOnce, varsOf}
-use Rattle.activations.proofs.RowsKnown.{is-none, isSome, last-told}
+use Rattle.activations.proofs.RowsKnown.{is-none, last-told}
 
 -- the ports and equations of what was found, one by one: a type, and what it starts from
 pub data Holds (es : List Enum) (a : Name) : List Sought → List Port → List Equation → Type 0 where
@@ -100,13 +99,17 @@ last-here pre p ps h =
     ∙ ap (λ (o : Option Ty). firstOf (firstOf o (cond (eqName (p .name) (p .name)) (some (p .ty)) none)) (lastTyped pre (p .name))) (is-none (lastTyped ps (p .name)) (last-told ps (p .name) ∙ h))
     ∙ ap (λ (b : Bool). firstOf (firstOf none (cond b (some (p .ty)) none)) (lastTyped pre (p .name))) (eqName-refl (p .name))
 
-module _ (ns : List Name) (fresh : Fresh [] ns) (legal : All LegalName ns) (few : length ns < 65536) (s : List ℕ) (by : Bytes s) (b : Base) (enums : List Enum) (q : ℕ) (E : counted (enumIn ns s) s (b .enums) ≡ value enums q)
-    (spots : List ℕ) (placed : (i : ℕ) → i < length ns → packName s spots i ≡ nameAt ns i) (a : Name) (env table : List ℕ) (ports : List Port) where
+-- a pack's names and bytes, an activation's name; the types of variables, the rows; the ports that these are of
+module _ (ns : List Name) (s : List ℕ) (a : Name) (env table : List ℕ) (ports : List Port) where
   -- the types of the rows below a number
-  abbrev RowTypes : ℕ → Type 0
+  abbrev pub RowTypes : ℕ → Type 0
   RowTypes k = (j : ℕ) → j < k → Coded ns s (getD env (wordT table j 2) 0) (lastTyped ports (lastVar a (nameAt ns (wordT table j 0))))
 
-  row-coded : (h : ℕ) (x : Sought) (p : Port) (ps pre : List Port) (t : Ty) → RowIs ns s table h x → p ≡ holderPort a (x .var) t → member (lastVar a (x .var)) (portNames ps) ≡ false → pre ++ (p ∷ ps) ≡ ports
+  pub known-types : (k : ℕ) → KnownAt ns s a env table k ports → RowTypes k
+  known-types k K j l = subst (λ (i : ℕ). Coded ns s (getD env i 0) (lastTyped ports (lastVar a (nameAt ns (wordT table j 0))))) (sym (K .numbers j l)) (K .holders j l)
+
+  -- the type of a row is its own holder's
+  pub row-coded : (h : ℕ) (x : Sought) (p : Port) (ps pre : List Port) (t : Ty) → RowIs ns s table h x → p ≡ holderPort a (x .var) t → member (lastVar a (x .var)) (portNames ps) ≡ false → pre ++ (p ∷ ps) ≡ ports
       → Coded ns s (getD env (wordT table h 2) 0) (lastTyped ports (lastVar a (nameAt ns (wordT table h 0)))) → Coded ns s (getD env (wordT table h 2) 0) (some t)
   unfolding RowIs holderPort
   row-coded h x p ps pre t r e m g c =
@@ -118,7 +121,9 @@ module _ (ns : List Name) (fresh : Fresh [] ns) (legal : All LegalName ns) (few 
       ∙ ap (λ (y : Port). some (y .ty)) e in
       subst (Coded ns s (getD env (wordT table h 2) 0)) w c
 
-  rows-written : (n h : ℕ) (xs : List Sought) (ps : List Port) (gs : List Equation) (pre : List Port) (z : State) → n ≡ length xs → RowsFrom ns s table h xs → Holds enums a xs ps gs → VarsOnce xs → pre ++ ps ≡ ports → RowTypes (h + n)
+module _ (ns : List Name) (fresh : Fresh [] ns) (legal : All LegalName ns) (few : length ns < 65536) (s : List ℕ) (by : Bytes s) (b : Base) (enums : List Enum) (q : ℕ) (E : counted (enumIn ns s) s (b .enums) ≡ value enums q)
+    (spots : List ℕ) (placed : (i : ℕ) → i < length ns → packName s spots i ≡ nameAt ns i) (a : Name) (env table : List ℕ) (ports : List Port) where
+  rows-written : (n h : ℕ) (xs : List Sought) (ps : List Port) (gs : List Equation) (pre : List Port) (z : State) → n ≡ length xs → RowsFrom ns s table h xs → Holds enums a xs ps gs → VarsOnce xs → pre ++ ps ≡ ports → RowTypes ns s a env table ports (h + n)
       → render (enc ns) (eachT (rowItems ns s b spots a env table) n h) z ≡ render (enc ns) (each equationItems gs) z
   unfolding RowsFrom VarsOnce eachT each render
   rows-written zero h [] [] [] pre z e r noHolder o g c = refl
@@ -126,7 +131,7 @@ module _ (ns : List Name) (fresh : Fresh [] ns) (legal : All LegalName ns) (few 
   rows-written zero h (x ∷ xs) (p ∷ ps) (f ∷ gs) pre z e r (holder t i u v w d) o g c = absurd (omega arith)
   rows-written (suc n) h (x ∷ xs) (p ∷ ps) (f ∷ gs) pre z e r (holder t i u v w d) o g c =
       let m : member (lastVar a (x .var)) (portNames ps) ≡ false = holders-told enums a (x .var) xs ps gs d ∙ o .0 in
-      let k = row-coded h x p ps pre t (r .0) u m g (c h (omega arith)) in
+      let k = row-coded ns s a env table ports h x p ps pre t (r .0) u m g (c h (omega arith)) in
       render-append (enc ns) (rowItems ns s b spots a env table h) (eachT (rowItems ns s b spots a env table) n (suc h)) z
       ∙ ap (render (enc ns) (eachT (rowItems ns s b spots a env table) n (suc h))) (row-written ns fresh legal few s by b enums q E spots placed a env table h x t i (r .0) k w z ∙ ap (λ (y : Equation). render (enc ns) (equationItems y) z) (sym v))
       ∙ rows-written n (suc h) xs ps gs (pre ++ (p ∷ [])) (render (enc ns) (equationItems f) z) (omega arith) (r .1) d (o .1) (append-assoc pre (p ∷ []) ps ∙ g) (λ j l. c j (omega arith))
@@ -139,4 +144,4 @@ pub holders-written : (ns : List Name) → Fresh [] ns → All LegalName ns → 
     → (z : State) → render (enc ns) (eachT (rowItems ns s b spots a env table) n 0) z ≡ render (enc ns) (each equationItems gs) z
 holders-written ns fresh legal few s by b enums q E spots placed a env table n xs base outputs ps gs e o r h K z =
     rows-written ns fresh legal few s by b enums q E spots placed a env table (base ++ ps) n 0 xs ps gs base z e r (hold-holds enums a outputs xs base ps gs h) o refl
-    (λ j l. subst (λ (i : ℕ). Coded ns s (getD env i 0) (lastTyped (base ++ ps) (lastVar a (nameAt ns (wordT table j 0))))) (sym (K .numbers j (omega arith))) (K .holders j (omega arith)))
+    (λ j l. known-types ns s a env table (base ++ ps) n K j (omega arith))

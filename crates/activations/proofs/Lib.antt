@@ -63,3 +63,4 @@ pub mod HoldersKnown
 pub mod LocalsLeft
 pub mod ReadsEach
 pub mod ScopeLocalsKnown
+pub mod ActKnown

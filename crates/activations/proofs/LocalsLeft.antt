@@ -1,19 +1,19 @@
 -- What a pass over locals leaves, port by port: what was written, how many there were, and the types that the next activation sees.
-use Prim.Native.Nat.{ℕ, zero, suc, _+_, _*_, _-_, _%_, _<_, _≤_}
+use Prim.Native.Nat.{ℕ, zero, suc, _+_, _%_, _<_, _≤_}
 use native.Mathlib.Omega.{arith}
-use native.Mathlib.Nat.{mod-add-mod, mod-lt, mod-mod}
+use native.Mathlib.Nat.{mod-add-mod, mod-eq-of-lt, mod-lt, mod-mod}
 use mathlib.Core.List.{List, [], _∷_, _++_, append-assoc, append-nil}
-use mathlib.Core.Bool.{Bool, true, false, cond}
+use mathlib.Core.Bool.{Bool, true, cond}
 use mathlib.Core.Logic.{⊎-elim}
-use mathlib.Core.Option.{Option, none, some}
+use mathlib.Core.Option.{Option, some}
 use mathlib.Core.Path.{_≡_, refl, sym, ap, subst, _∙_}
 use lib.ListN.{length, getD, length-append}
 use borrow.Author.Tests.{le-ltb, lt-ltb}
 use Rattle.wire.specs.Lists.{All, Bytes}
 use Rattle.wire.specs.Writer.{State, puts}
 use Rattle.wire.proofs.Writers.{lt-or-le}
-use Rattle.pack.specs.Names.{Name, eqName, member}
-use Rattle.pack.specs.Syntax.{Equation, Expr, Port, Ty, eVar, tBool}
+use Rattle.pack.specs.Names.{Name, eqName}
+use Rattle.pack.specs.Syntax.{Expr, Port, Ty, eVar, tBool}
 use Rattle.pack.specs.Forms.{nameAt}
 use Rattle.pack.specs.Legal.{Fresh, LegalName, place}
 use Rattle.pack.specs.Read.{typeIn}
@@ -24,16 +24,15 @@ use Rattle.pack.proofs.Tables.{eqName-false, eqName-true, name-at-place, place-
 use Rattle.pack.proofs.Written.{table-enc}
 use Rattle.machines.specs.Laid.{sliceOf}
 use Rattle.machines.specs.Stands.{endOf}
-use Rattle.machines.specs.Emits.{packName}
 use Rattle.machines.proofs.LocalLaws.{each-append}
 use Rattle.activations.specs.declared.made.Var.{Var}
 use Rattle.activations.specs.declared.made.Var.the-variants as vr
-use Rattle.activations.specs.MadeNames.{actPrefix, clockVar, flagVar, lastVar, madeName, noneVar}
+use Rattle.activations.specs.MadeNames.{actPrefix, clockVar, flagVar, madeName, noneVar}
 use Rattle.activations.specs.Vars.{branchVar}
-use Rattle.activations.specs.Cells.{putT}
 use Rattle.activations.specs.Defines.{asLocals, eqn, firstLeft}
 use Rattle.activations.specs.Flags.{flagEquations}
 use Rattle.activations.specs.Clocks.{guardEquations}
+use Rattle.activations.specs.ByNumber.{boolPort}
 use Rattle.activations.specs.Types.{lastTyped}
 use Rattle.activations.specs.Lookups.{MadeIs, isMade, placeBuilt}
 use Rattle.activations.specs.TypesAt.{Coded, TypesAre, typeBytes}
@@ -91,6 +90,10 @@ module _ (ns : List Name) (s : List ℕ) where
     room = b .room ∙ a .room;
     types = λ base l h. subst (λ (ps : List Port). TypesAre ns s (w .later) (lastTyped ps)) (append-assoc base ls ms) (b .types (base ++ ls) (let e = a .room in omega arith) (a .types base l h));
   }
+
+  -- the count, by 16 bits
+  pub leaves-count : (ls : List Port) (z u : Left) → Leaves ls z u → z .count < 65536 → u .count ≡ (z .count + length ls) % 65536
+  leaves-count ls z u h l = sym (mod-eq-of-lt (h .low l)) ∙ h .counted
 
   -- one local: its name is a made one, and its type is the code's
   module _ (fresh : Fresh [] ns) (legal : All LegalName ns) (few : length ns < 65536) (by : Bytes s) (short : length s ≤ 65536) (made : Bool) (M : MadeIs ns made) where
@@ -160,9 +163,6 @@ module _ (ns : List Name) (s : List ℕ) where
         })
 
     -- the flags and clocks of branches are Booleans
-    boolPort : Name → Port
-    boolPort x = record { name = x; ty = tBool }
-
     branch-left : (a : Name) (v : Var) (k : ℕ) (z : Left) → isMade (branchVar v a k) ≡ true → Leaves (boolPort (branchVar v a k) ∷ []) z (branchLocalT ns s (enc ns) made a v k z)
     unfolding branchLocalT boolPort
     branch-left a v k z m = leaves-one (branchVar v a k) 1 (boolPort (branchVar v a k)) z refl m (coded-bool ns s)

@@ -19,13 +19,13 @@ use Rattle.pack.specs.Forms.{nameAt}
 use Rattle.pack.specs.Legal.{Fresh, Known, place}
 use Rattle.pack.specs.Read.{portIn, portsIn}
 use Rattle.pack.proofs.Tables.{eqName-ne, eqName-true, place-at-name}
-use Rattle.machines.proofs.Reading.{many-cut, many-more, many-over}
+use Rattle.machines.proofs.Reading.{many-cut, many-more}
 use Rattle.machines.proofs.TableLaws.{past-end}
 use Rattle.activations.specs.MadeNames.{lastVar}
 use Rattle.activations.specs.Types.{firstTyped, lastTyped, portNames, readable, typed}
 use Rattle.activations.specs.Sought.{Sought}
-use Rattle.activations.specs.Ids.{IsId, heldId, holderId, nameOf, oldId}
-use Rattle.activations.specs.TypeCodes.{codeOr, outT, typeAt, typedT}
+use Rattle.activations.specs.Ids.{holderId, nameOf}
+use Rattle.activations.specs.TypeCodes.{codeOr, outT, typedT}
 use Rattle.activations.specs.TypesAt.{Coded, TypesAre}
 use Rattle.activations.specs.SoughtAt.{RowIs, RowsFrom, wordT}
 use Rattle.activations.specs.NumbersAt.{lastIdT, lastRowT}
@@ -34,7 +34,7 @@ use Rattle.activations.proofs.ActRead.{counted-value}
 use Rattle.activations.proofs.IdLaws.{holder-new, holder-old, name-of-holder, name-of-old}
 use Rattle.activations.proofs.TypesKnown.{coded-or, port-read, typed-old}
 use Rattle.activations.proofs.NumbersKnown.{by-bool, eqName-turns}
-use Rattle.activations.proofs.FoundOnce.{Has, varsOf}
+use Rattle.activations.proofs.FoundOnce.{Has, or-assoc, varsOf}
 
 -- whether there is a type
 unfoldable pub isSome : Option Ty → Bool
@@ -56,10 +56,6 @@ or-turns true true = refl
 or-turns true false = refl
 or-turns false true = refl
 or-turns false false = refl
-
-or-assoc : (b c d : Bool) → (b || c) || d ≡ b || (c || d)
-or-assoc true c d = refl
-or-assoc false c d = refl
 
 -- a name has a type where it is among the names of ports
 is-cond : (b : Bool) (t : Ty) → isSome (cond b (some t) none) ≡ b
@@ -85,7 +81,7 @@ first-told (p ∷ ps) m =
 pub member-append : (xs ys : List Name) (m : Name) → member m (xs ++ ys) ≡ member m xs || member m ys
 unfolding member
 member-append [] ys m = refl
-member-append (x ∷ xs) ys m = ap (λ (b : Bool). eqName m x || b) (member-append xs ys m) ∙ sym (or-assoc (eqName m x) (member m xs) (member m ys))
+member-append (x ∷ xs) ys m = ap (λ (b : Bool). eqName m x || b) (member-append xs ys m) ∙ or-assoc (eqName m x) (member m xs) (member m ys)
 
 typed-told : (env outs : List Port) (m : Name) → isSome (typed env outs m) ≡ member m (readable env outs)
 unfolding typed readable

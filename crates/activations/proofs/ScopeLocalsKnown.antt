@@ -12,7 +12,7 @@ use Rattle.pack.specs.Names.{Name, eqName}
 use Rattle.pack.specs.Syntax.{Branch, Equation, Port, Ty}
 use Rattle.pack.specs.Forms.{nameAt}
 use Rattle.pack.specs.Legal.{Fresh, LegalName}
-use Rattle.pack.specs.Read.{branchIn, equationIn, equationsIn, exprIn}
+use Rattle.pack.specs.Read.{branchIn, equationIn, equationsIn}
 use Rattle.pack.specs.Write.{enc}
 use Rattle.pack.proofs.Tables.{all-append}
 use Rattle.machines.specs.Laid.{sliceOf}

@@ -57,7 +57,7 @@ unfolding through listOf soughtIn
 in-order xNil hs = refl
 in-order (xCons a xs) hs = in-order xs (sought a hs)
 
-pub found-append : (xs ys : List Expr) (hs : List Sought) → found (xs ++ ys) hs ≡ found ys (found xs hs)
+found-append : (xs ys : List Expr) (hs : List Sought) → found (xs ++ ys) hs ≡ found ys (found xs hs)
 unfolding found
 found-append [] ys hs = refl
 found-append (x ∷ xs) ys hs = found-append xs ys (sought x hs)
