@@ -1,6 +1,6 @@
 -- What is found has no variable twice, and has every variable that a replaced call of `last` asks for.
 use mathlib.Core.List.{List, [], _∷_}
-use mathlib.Core.Bool.{Bool, true, false, cond, _||_}
+use mathlib.Core.Bool.{Bool, true, false, cond, _||_, or-assoc, or-false, or-true}
 use mathlib.Core.Option.{Option}
 use mathlib.Core.Path.{_≡_, refl, sym, ap, subst, _∙_}
 use Rattle.wire.specs.Lists.{All}
@@ -28,31 +28,18 @@ VarsOnce (h ∷ hs) = (member (h .var) (varsOf hs) ≡ false) × VarsOnce hs
 abbrev pub Has : List Sought → Name → Type 0
 Has hs v = member v (varsOf hs) ≡ true
 
-or-end : (b : Bool) → b || false ≡ b
-or-end true = refl
-or-end false = refl
-
 or-same : (b c : Bool) → b || c ≡ (b || c) || b
 or-same true c = refl
-or-same false true = refl
-or-same false false = refl
-
-pub or-assoc : (b c d : Bool) → b || (c || d) ≡ (b || c) || d
-or-assoc true c d = refl
-or-assoc false c d = refl
-
-or-true : (b : Bool) → b || true ≡ true
-or-true true = refl
-or-true false = refl
+or-same false c = sym (or-false c)
 
 -- one noted more
 note-vars : (w v : Name) (i : Option Expr) (hs : List Sought) → member w (varsOf (note v i hs)) ≡ member w (varsOf hs) || eqName w v
 unfolding note varsOf member
-note-vars w v i [] = or-end (eqName w v)
+note-vars w v i [] = or-false (eqName w v)
 note-vars w v i (h ∷ hs) =
     by-bool (λ (b : Bool). (eqName (h .var) v ≡ b) → member w (varsOf (cond b (record { var = h .var; init = firstOf (h .init) i } ∷ hs) (h ∷ note v i hs))) ≡ (eqName w (h .var) || member w (varsOf hs)) || eqName w v) (eqName (h .var) v)
     (λ e g. or-same (eqName w (h .var)) (member w (varsOf hs)) ∙ ap (λ (y : Name). (eqName w (h .var) || member w (varsOf hs)) || eqName w y) (eqName-true (h .var) v g))
-    (λ e g. ap (λ (b : Bool). eqName w (h .var) || b) (note-vars w v i hs) ∙ or-assoc (eqName w (h .var)) (member w (varsOf hs)) (eqName w v))
+    (λ e g. ap (λ (b : Bool). eqName w (h .var) || b) (note-vars w v i hs) ∙ sym (or-assoc (eqName w (h .var)) (member w (varsOf hs)) (eqName w v)))
     refl
 
 note-has : (w v : Name) (i : Option Expr) (hs : List Sought) → Has hs w → Has (note v i hs) w

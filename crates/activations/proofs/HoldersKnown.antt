@@ -29,7 +29,8 @@ use Rattle.activations.specs.Sought.{Sought}
 use Rattle.activations.specs.Holders.{Holding, also, held, hold, holderEquation, holderPort, unheld, withInit, withType}
 use Rattle.activations.specs.TypesAt.{Coded}
 use Rattle.activations.specs.SoughtAt.{RowIs, RowsFrom, wordT}
-use Rattle.activations.specs.HeldAs.{KnownAt}
+use Rattle.activations.specs.HoldAt.{Hold}
+use Rattle.activations.specs.HeldAs.{HeldAs, KnownAt, asHeld}
 use Rattle.activations.specs.HoldersAt.{rowItems}
 use Rattle.activations.proofs.IdLaws.{last-same}
 use Rattle.activations.proofs.TypesKnown.{last-append}
@@ -73,6 +74,14 @@ module _ (es : List Enum) (a : Name) (outs : List Port) where
   pub hold-holds : (xs : List Sought) (env ps : List Port) (gs : List Equation) → hold es a env outs xs ≡ held ps gs → Holds es a xs ps gs
   unfolding HoldsAs
   hold-holds xs env ps gs e = subst (HoldsAs es a xs) e (hold-parts xs env)
+
+-- THE LAW: where no holder is refused, all are known by the tables
+pub held-known : (ns : List Name) (s : List ℕ) (a : Name) (z : Hold) (n : ℕ) (base : List Port) (xs : List Sought) (H : Holding) (ps : List Port) (gs : List Equation) → HeldAs ns s a z n base xs H → H ≡ held ps gs
+    → (z .kind ≡ 0) × KnownAt ns s a (z .env) (z .held) n (base ++ ps) × RowsFrom ns s (z .held) 0 xs
+held-known ns s a z n base xs H ps gs h e = go (subst (HeldAs ns s a z n base xs) e h)
+  where
+    go : HeldAs ns s a z n base xs (held ps gs) → (z .kind ≡ 0) × KnownAt ns s a (z .env) (z .held) n (base ++ ps) × RowsFrom ns s (z .held) 0 xs
+    go (asHeld k K r) = (k, K, r)
 
 -- holders have one name where their variables have
 last-tells : (a v w : Name) → eqName (lastVar a v) (lastVar a w) ≡ eqName v w

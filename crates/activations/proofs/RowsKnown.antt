@@ -2,7 +2,7 @@
 use Prim.Native.Nat.{ℕ, zero, suc, _+_, _*_, _<_, _≤_}
 use native.Mathlib.Omega.{arith}
 use mathlib.Core.List.{List, [], _∷_, _++_}
-use mathlib.Core.Bool.{Bool, true, false, cond, _||_}
+use mathlib.Core.Bool.{Bool, true, false, cond, _||_, or-assoc, or-comm}
 use mathlib.Core.Logic.{⊎-elim}
 use mathlib.Core.Option.{Option, none, some}
 use mathlib.Core.Path.{_≡_, refl, sym, ap, subst, _∙_}
@@ -34,7 +34,7 @@ use Rattle.activations.proofs.ActRead.{counted-value}
 use Rattle.activations.proofs.IdLaws.{holder-new, holder-old, name-of-holder, name-of-old}
 use Rattle.activations.proofs.TypesKnown.{coded-or, port-read, typed-old}
 use Rattle.activations.proofs.NumbersKnown.{by-bool, eqName-turns}
-use Rattle.activations.proofs.FoundOnce.{Has, or-assoc, varsOf}
+use Rattle.activations.proofs.FoundOnce.{Has, varsOf}
 
 -- whether there is a type
 unfoldable pub isSome : Option Ty → Bool
@@ -51,12 +51,6 @@ unfolding isSome
 is-none none e = refl
 is-none (some t) e = absurd (let z : _≡_ {A = ℕ} 1 0 = ap (λ (b : Bool). cond b 1 0) e in omega arith)
 
-or-turns : (b c : Bool) → b || c ≡ c || b
-or-turns true true = refl
-or-turns true false = refl
-or-turns false true = refl
-or-turns false false = refl
-
 -- a name has a type where it is among the names of ports
 is-cond : (b : Bool) (t : Ty) → isSome (cond b (some t) none) ≡ b
 unfolding isSome
@@ -69,7 +63,7 @@ last-told [] m = refl
 last-told (p ∷ ps) m =
     is-first (lastTyped ps m) (cond (eqName (p .name) m) (some (p .ty)) none)
     ∙ (λ i. last-told ps m i || (is-cond (eqName (p .name) m) (p .ty) ∙ eqName-turns (p .name) m) i)
-    ∙ or-turns (member m (portNames ps)) (eqName m (p .name))
+    ∙ or-comm (member m (portNames ps)) (eqName m (p .name))
 
 first-told : (ps : List Port) (m : Name) → isSome (firstTyped ps m) ≡ member m (portNames ps)
 unfolding firstTyped portNames member isSome
@@ -81,7 +75,7 @@ first-told (p ∷ ps) m =
 pub member-append : (xs ys : List Name) (m : Name) → member m (xs ++ ys) ≡ member m xs || member m ys
 unfolding member
 member-append [] ys m = refl
-member-append (x ∷ xs) ys m = ap (λ (b : Bool). eqName m x || b) (member-append xs ys m) ∙ or-assoc (eqName m x) (member m xs) (member m ys)
+member-append (x ∷ xs) ys m = ap (λ (b : Bool). eqName m x || b) (member-append xs ys m) ∙ sym (or-assoc (eqName m x) (member m xs) (member m ys))
 
 typed-told : (env outs : List Port) (m : Name) → isSome (typed env outs m) ≡ member m (readable env outs)
 unfolding typed readable
