@@ -64,3 +64,6 @@ pub mod LocalsLeft
 pub mod ReadsEach
 pub mod ScopeLocalsKnown
 pub mod ActKnown
+pub mod BegunLaws
+pub mod EquationLaws
+pub mod EquationsKnown
