@@ -64,6 +64,4 @@ pub mod LocalsLeft
 pub mod ReadsEach
 pub mod ScopeLocalsKnown
 pub mod ActKnown
-pub mod BegunLaws
-pub mod EquationLaws
 pub mod EquationsKnown
