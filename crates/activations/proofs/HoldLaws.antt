@@ -20,8 +20,8 @@ use Rattle.activations.specs.Lookups.{placeBuilt}
 use Rattle.activations.specs.MadeNames.{lastVar}
 use Rattle.activations.specs.TypeCodes.{typedT}
 use Rattle.activations.specs.TypesAt.{isMissing, startT}
-use Rattle.activations.specs.SoughtAt.{rowT, wordT}
-use Rattle.activations.specs.HoldAt.{Hold, heldIdT, holdCode, holdFrom, holdOf, holdRow, holderNumber, holderT, knownT, needsT}
+use Rattle.activations.specs.SoughtAt.{wordT}
+use Rattle.activations.specs.HoldAt.{Hold, holdCode, holdFrom, holdOf, holdRow, holderNumber, holderT, knownT, needsT}
 
 pub old-is : (n i x : ℕ) → i < n → i ≡ oldOr n i x
 unfolding oldOr
@@ -39,14 +39,6 @@ module _ (old s : List ℕ) (b : Base) (spots : List ℕ) (a : Name) where
   pub holder-is : (v r : ℕ) (n : Name) → n ≡ packName s spots v → r ≡ holderNumber old b (lastVar a n) v → r ≡ holderT old s b spots a v
   unfolding holderT
   holder-is v r n e f = f ∙ ap (λ y. holderNumber old b (lastVar a y) v) e
-
-  pub held-row : (held : List ℕ) (n v h r : ℕ) → h ≡ rowT held v n 0 → h < n → r ≡ wordT held h 2 → r ≡ heldIdT old s b spots a held n v
-  unfolding heldIdT
-  held-row held n v h r e l f = rw (← e, lt-ltb h n l) f
-
-  pub held-none : (held : List ℕ) (n v h r : ℕ) → h ≡ rowT held v n 0 → n ≤ h → r ≡ holderT old s b spots a v → r ≡ heldIdT old s b spots a held n v
-  unfolding heldIdT
-  held-none held n v h r e l f = rw (← e, le-ltb h n l) f
 
 pub needs-asked : (ns : List Name) (s : List ℕ) (b : Base) (init c : ℕ) (t : Start) (r : Bool) → init ≡ 0 → t ≡ startT ns s (b .enums) c → r ≡ isMissing t → r ≡ needsT ns s b init c
 unfolding needsT

@@ -2,7 +2,7 @@
 use Prim.Native.Nat.{ℕ, zero, suc, _+_, _*_}
 use mathlib.Core.List.{List, []}
 use mathlib.Core.Bool.{Bool, false, cond}
-use lib.Dec.{eqb, ltb}
+use lib.Dec.{eqb}
 use Rattle.wire.specs.Writer.{puts, st}
 use Rattle.pack.specs.Names.{Name}
 use Rattle.pack.specs.Intern.{table}
@@ -14,7 +14,7 @@ use Rattle.activations.specs.Lookups.{placeBuilt}
 use Rattle.activations.specs.MadeNames.{lastVar}
 use Rattle.activations.specs.TypeCodes.{typedT}
 use Rattle.activations.specs.TypesAt.{isMissing, startT}
-use Rattle.activations.specs.SoughtAt.{rowT, wordT}
+use Rattle.activations.specs.SoughtAt.{wordT}
 
 -- the number of the holder of a name, v more than the number of names where it is no old one
 unfoldable pub holderNumber : List ℕ → Base → Name → ℕ → ℕ
@@ -24,10 +24,6 @@ module _ (old s : List ℕ) (b : Base) (spots : List ℕ) (a : Name) where
   -- the number of the holder of v
   unfoldable pub holderT : ℕ → ℕ
   holderT v = holderNumber old b (lastVar a (packName s spots v)) v
-
-  -- the number in v's row among n, computed where there is no row
-  unfoldable pub heldIdT : List ℕ → ℕ → ℕ → ℕ
-  heldIdT held n v = cond (ltb (rowT held v n 0) n) (wordT held (rowT held v n 0) 2) (holderT v)
 
 -- types and rows while holders are made known, and what is answered: 0, or the kind of a refusal and its variable
 pub record Hold : Type 0 where

@@ -1,16 +1,14 @@
 // Names by number: an old name's index; for the holder of v that is no old name, v more than the number of names.
 use crate::base::Base;
 use crate::base::lookup_made;
-use crate::cells::word;
 use crate::made::put_last_text;
-use crate::seek::row_of;
 use machines::rows::pack_name;
 use wire::writer::Writer;
 ghost use mathlib.Core.Path.{_≡_};
 ghost use Prim.Native.Nat.{_+_, _≤_};
 ghost use Rattle.activations.specs.Ids.{oldOr};
 ghost use Rattle.activations.specs.MadeNames.{lastVar};
-ghost use Rattle.activations.specs.HoldAt.{holderNumber, holderT, heldIdT};
+ghost use Rattle.activations.specs.HoldAt.{holderNumber, holderT};
 
 // x where it is an old name's index, else v more than the number of names.
 fn old_or(names: usize, x: usize, v: usize) -> usize
@@ -38,25 +36,4 @@ pub fn holder_id(old: &[u8], s: &[u8], b: Base, spots: &[u16], a: &[u8], v: usiz
 {
     let n = pack_name(s, spots, v);
     number_of(old, b, a, n, v)
-}
-
-// The same from v's row among n, computed where there is none.
-pub fn held_id(
-    old: &[u8],
-    s: &[u8],
-    b: Base,
-    spots: &[u16],
-    a: &[u8],
-    held: &[u16],
-    n: usize,
-    v: usize,
-) -> usize
-    requires { ⌜ (b .names ≤ 65536) × (v ≤ 65536) × (n ≤ 8192) ⌝ }
-    ensures { λ r. ⌜ r ≡ heldIdT (now (old .entry)) (now (s .entry)) b (now (spots .entry)) (now (a .entry)) (now (held .entry)) n v ⌝ }
-{
-    let h = row_of(held, n, v);
-    if h < n {
-        return word(held, 3 * h, 2);
-    }
-    holder_id(old, s, b, spots, a, v)
 }

@@ -130,28 +130,7 @@ fn put_scoped(
 pub fn put_sample_start(out: &mut [u8], w: Writer, a: &[u8], n: usize, k: usize) -> Writer
     ensures { λ r. ⌜ ((m : List ℕ) → stateOf (now (out .exit)) m r ≡ puts (sampleVar (now (a .entry)) (scopeAt n k) []) (stateOf (now (out .entry)) m w)) ⌝ }
 {
-    let b = put_start(out, w, a);
-    let c = put_bytes(b"_s", out, b);
-    let d = put_tag(out, c, n, k);
-    put_bytes(b"_", out, d)
-}
-
-// The sample of v in the scope k of n branches, by its number among the names.
-pub fn put_sample(
-    old: &[u8],
-    a: &[u8],
-    n: usize,
-    k: usize,
-    v: &[u8],
-    out: &mut [u8],
-    made: &mut [u8],
-    w: Writer,
-) -> Writer
-    ensures { λ r. ⌜ stateOf (now (out .exit)) (now (made .exit)) r ≡ putName (now (old .entry)) (sampleVar (now (a .entry)) (scopeAt n k) (now (v .entry))) (stateOf (now (out .entry)) (now (made .entry)) w) ⌝ }
-{
-    let mut buf = [0u8; 255];
-    let t = put_scoped(&mut buf, Writer::start(), a, b"_s", n, k, v);
-    put_built(old, &buf, t, out, made, w)
+    put_scoped(out, w, a, b"_s", n, k, b"")
 }
 
 // The text of the name of what the scope k of n branches gives o.
