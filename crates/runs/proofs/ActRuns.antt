@@ -1,0 +1,162 @@
+-- Demand 3 for activations.
+use Prim.Native.Nat.{ℕ, suc, _<_}
+use native.Mathlib.Omega.{arith}
+use mathlib.Core.List.{List, [], _∷_, _++_}
+use mathlib.Core.Bool.{Bool, true, false, cond, _&&_}
+use mathlib.Core.Option.{none, some}
+use mathlib.Core.Path.{_≡_, refl, sym, subst, _∙_}
+use lib.ListN.{length}
+use Rattle.pack.specs.Names.{Name}
+use Rattle.pack.specs.Syntax.{Activation, Branch, Equation, Expr, Port}
+use Rattle.pack.proofs.Tables.{eqName-true}
+use Rattle.machines.specs.Lower.{isOnly}
+use Rattle.activations.specs.Clocks.{guardEquations}
+use Rattle.activations.specs.Defines.{eqn, firstLeft}
+use Rattle.activations.specs.Flags.{flagEquations}
+use Rattle.activations.specs.Lower.{actEquations, tailOf}
+use Rattle.activations.specs.MadeNames.{Scope, actPrefix, branch, other, valueVar}
+use Rattle.activations.specs.Merges.{mergeEquations, mergeFrom}
+use Rattle.activations.specs.Samples.{dropIn, sampleEquations}
+use Rattle.activations.specs.Scopes.{branchEquations, rewritten, scopeEquations, scopeReads}
+use Rattle.activations.specs.Unlast.{conditionsOf, unlast}
+use Rattle.runs.specs.Premises.{ActPremises, portsPresent, present, startsWith}
+use Rattle.runs.specs.Run.{Clock, Run, agrees, clockOf, eval, sameClock, satisfies}
+use Rattle.runs.specs.Scopes.{Conditions, OutputGiven, OutputsGiven, choice, chosen, eqScope, givenBy, scopeClock, scopeIn}
+use Rattle.runs.proofs.Accepting.{actAccepted, allAssign, assigns, nonempty, outputsAssigned}
+use Rattle.runs.proofs.Choosing.{from-start, scope-same}
+use Rattle.runs.proofs.ClocksAlike.{eval-alike}
+use Rattle.runs.proofs.Prefixes.{&&-true, ≡→T}
+use Rattle.runs.proofs.RegionRuns.{or-split}
+
+pub satisfies-split : {O : Type 0} (R : Run O) (N : ℕ) (k l : List Equation) → satisfies R N (k ++ l) → satisfies R N k × satisfies R N l
+satisfies-split R N [] l h = (tt, h)
+satisfies-split R N (e ∷ k) l h = let p = satisfies-split R N k l (h .1) in ((h .0, p .0), p .1)
+
+pub only-head : (o : Name) (l : List Name) → isOnly o l ≡ true → firstLeft l ≡ o
+unfolding isOnly firstLeft
+only-head o [] h = absurd (≡→T false h)
+only-head o (x ∷ []) h = eqName-true x o h
+only-head o (x ∷ y ∷ l) h = absurd (≡→T false h)
+
+module _ {O : Type 0} (R : Run O) (N : ℕ) (a : Name) (n : ℕ) (vars : List Name) where
+  -- the equations of a scope: some right side is given for an output that it assigns, and the scope's value agrees with it
+  scope-gives : (s : Scope) (o : Name) (es : List Equation) (old : List Name) → assigns o es ≡ true → satisfies R N (scopeEquations a n vars s old es)
+      → (e : Expr) × (givenBy a n vars s o es ≡ some e) × agrees R N (valueVar a s o ∷ []) e
+  unfolding assigns scopeEquations givenBy eqn
+  scope-gives s o [] old h sat = absurd (≡→T false h)
+  scope-gives s o (e ∷ es) old h sat =
+      go (isOnly o (e .lhs)) refl (λ (h′ : assigns o es ≡ true). scope-gives s o es (old ++ dropIn old r) h′ (parts .1 .1))
+    where
+      r : List Name
+      r = scopeReads a vars e
+
+      this : Equation
+      this = eqn (valueVar a s (firstLeft (e .lhs))) (rewritten a n vars s e)
+
+      parts : satisfies R N (sampleEquations a n s (dropIn old r)) × satisfies R N (this ∷ scopeEquations a n vars s (old ++ dropIn old r) es)
+      parts = satisfies-split R N (sampleEquations a n s (dropIn old r)) (this ∷ scopeEquations a n vars s (old ++ dropIn old r) es) sat
+
+      go : (b : Bool) → isOnly o (e .lhs) ≡ b
+          → (assigns o es ≡ true → (e : Expr) × (givenBy a n vars s o es ≡ some e) × agrees R N (valueVar a s o ∷ []) e)
+          → (e′ : Expr) × (cond (isOnly o (e .lhs)) (some (rewritten a n vars s e)) (givenBy a n vars s o es) ≡ some e′) × agrees R N (valueVar a s o ∷ []) e′
+      go true q r = (rewritten a n vars s e, rw q, rw (only-head o (e .lhs) q) at (parts .1 .0))
+      go false q r = rw q (r (or-split (isOnly o (e .lhs)) (assigns o es) h q))
+
+  -- the equations of the scope of a cycle hold
+  pub chosen-holds : (C : Conditions) (t k : ℕ) (bs : List Branch) (others : List Equation) → satisfies R N (branchEquations a n vars k bs) → satisfies R N (scopeEquations a n vars other [] others)
+      → satisfies R N (scopeEquations a n vars (choice C t k (conditionsOf a bs)) [] (chosen C a t bs others))
+  unfolding branchEquations conditionsOf choice chosen
+  chosen-holds C t k [] others hb ho = ho
+  chosen-holds C t k (b ∷ bs) others hb ho = go (C (unlast a (b .condition)) t) (chosen-holds C t (suc k) bs others (p .1) ho)
+    where
+      p : satisfies R N (scopeEquations a n vars (branch k) [] (b .equations)) × satisfies R N (branchEquations a n vars (suc k) bs)
+      p = satisfies-split R N (scopeEquations a n vars (branch k) [] (b .equations)) (branchEquations a n vars (suc k) bs) hb
+
+      go : (c : Bool) → satisfies R N (scopeEquations a n vars (choice C t (suc k) (conditionsOf a bs)) [] (chosen C a t bs others))
+          → satisfies R N (scopeEquations a n vars (cond c (branch k) (choice C t (suc k) (conditionsOf a bs))) [] (cond c (b .equations) (chosen C a t bs others)))
+      go true r = p .0
+      go false r = r
+
+  pub chosen-assigns : (C : Conditions) (t : ℕ) (o : Name) (bs : List Branch) (others : List Equation) → allAssign o bs ≡ true → assigns o others ≡ true → assigns o (chosen C a t bs others) ≡ true
+  unfolding allAssign chosen
+  chosen-assigns C t o [] others hb ho = ho
+  chosen-assigns C t o (b ∷ bs) others hb ho = go (C (unlast a (b .condition)) t) (chosen-assigns C t o bs others (p .1) ho)
+    where
+      p : (assigns o (b .equations) ≡ true) × (allAssign o bs ≡ true)
+      p = &&-true (assigns o (b .equations)) (allAssign o bs) hb
+
+      go : (c : Bool) → assigns o (chosen C a t bs others) ≡ true → assigns o (cond c (b .equations) (chosen C a t bs others)) ≡ true
+      go true r = p .0
+      go false r = r
+
+pub has-conditions : (a : Name) (bs : List Branch) → nonempty bs ≡ true → conditionsOf a bs ≡ [] → ⊥
+unfolding nonempty conditionsOf
+has-conditions a [] h e = ≡→T false h
+has-conditions a (b ∷ bs) h e = cons-nil (unlast a (b .condition)) (conditionsOf a bs) e
+  where
+    isNil : List Expr → Type 0
+    isNil [] = Unit {0}
+    isNil (x ∷ xs) = ⊥
+
+    cons-nil : (c : Expr) (cs : List Expr) → c ∷ cs ≡ [] → ⊥
+    cons-nil c cs p = subst isNil (sym p) tt
+
+-- an equation on the cycles of its variable, which are those of a clock
+pub on-clock : {O : Type 0} (R : Run O) (N : ℕ) (x : Name) (e : Expr) (d : Clock) → sameClock N (clockOf R x) d → agrees R N (x ∷ []) e → (t : ℕ) → t < N → d t ≡ true → R .at x t ≡ eval R e d t
+on-clock R N x e d s h t lt q =
+    h .1 t lt ∙ (rw (s t lt, q) (eval-alike R e (clockOf R x) d t (λ u l. s u (omega arith))))
+
+module _ {O : Type 0} (R : Run O) (N : ℕ) (C : Conditions) (A : Activation) (before : List Equation) (vars : List Name) (ok : actAccepted A ≡ true) (P : ActPremises R N C A)
+    (sat : satisfies R N (actEquations A before vars)) where
+  a : Name
+  a = A .name
+
+  cs : List Expr
+  cs = conditionsOf (A .name) (A .branches)
+
+  pub free-name : (x : Name) → startsWith actPrefix x ≡ true → R .enums x ≡ false
+  free-name x s = P .free x s
+
+  pub parts : satisfies R N (flagEquations (A .name) none 0 (conditionsOf (A .name) (A .branches)))
+      × satisfies R N (guardEquations (A .name) 1 (tailOf (conditionsOf (A .name) (A .branches))))
+      × satisfies R N (branchEquations (A .name) (length (conditionsOf (A .name) (A .branches))) vars 0 (A .branches))
+      × satisfies R N (scopeEquations (A .name) (length (conditionsOf (A .name) (A .branches))) vars other [] (A .otherwise))
+      × satisfies R N (mergeEquations (A .name) (conditionsOf (A .name) (A .branches)) (A .outputs))
+  unfolding actEquations a cs
+  parts =
+      let n = length cs in
+      let p₀ = satisfies-split R N before _ sat in
+      let p₁ = satisfies-split R N (flagEquations a none 0 cs) _ (p₀ .1) in
+      let p₂ = satisfies-split R N (guardEquations a 1 (tailOf cs)) _ (p₁ .1) in
+      let p₃ = satisfies-split R N (branchEquations a n vars 0 (A .branches)) _ (p₂ .1) in
+      let p₄ = satisfies-split R N (scopeEquations a n vars other [] (A .otherwise)) _ (p₃ .1) in
+      (p₁ .0, p₂ .0, p₃ .0, p₄ .0, p₄ .1)
+
+  output-given : (o : Name) → present R N o → allAssign o (A .branches) ≡ true → assigns o (A .otherwise) ≡ true → agrees R N (o ∷ []) (mergeFrom (A .name) o 0 (conditionsOf (A .name) (A .branches)))
+      → (t : ℕ) → t < N → OutputGiven R C A vars o t
+  unfolding scopeIn scopeClock actAccepted
+  output-given o po ab ao mg t lt =
+      let conds = conditionsOf (A .name) (A .branches) in
+      let s = choice C t 0 conds in
+      let ne = has-conditions (A .name) (A .branches) (&&-true (nonempty (A .branches)) (outputsAssigned (A .branches) (A .otherwise) (A .outputs)) ok .0) in
+      let cl = from-start R N (A .name) free-name C o conds ne po (P .conditions) (parts .0) (parts .1) mg t lt refl in
+      let n = length conds in
+      let g = scope-gives R N (A .name) n vars s o (chosen C (A .name) t (A .branches) (A .otherwise)) []
+      (chosen-assigns R N (A .name) n vars C t o (A .branches) (A .otherwise) ab ao)
+      (chosen-holds R N (A .name) n vars C t 0 (A .branches) (A .otherwise) (parts .2) (parts .3)) in (
+        g .0,
+        g .1,
+        mg .1 t lt ∙ (rw (po t lt) (cl .0 (clockOf R o) ∙ on-clock R N (valueVar (A .name) s o) (g .0) (λ u. eqScope (choice C u 0 conds) s) (cl .1) (g .2) t lt (scope-same s))),
+      )
+
+  outputs-given : (ps : List Port) → portsPresent R N ps → outputsAssigned (A .branches) (A .otherwise) ps ≡ true → satisfies R N (mergeEquations (A .name) (conditionsOf (A .name) (A .branches)) ps) → OutputsGiven R N C A vars ps
+  unfolding outputsAssigned mergeEquations eqn
+  outputs-given [] b h m = tt
+  outputs-given (p ∷ ps) b h m =
+      let x = &&-true (allAssign (p .name) (A .branches) && assigns (p .name) (A .otherwise)) (outputsAssigned (A .branches) (A .otherwise) ps) h in
+      let y = &&-true (allAssign (p .name) (A .branches)) (assigns (p .name) (A .otherwise)) (x .0) in
+      (output-given (p .name) (b .0) (y .0) (y .1) (m .0), outputs-given ps (b .1) (x .1) (m .1))
+
+  pub act-run : OutputsGiven R N C A vars (A .outputs)
+  unfolding actAccepted
+  act-run = outputs-given (A .outputs) (P .base) (&&-true (nonempty (A .branches)) (outputsAssigned (A .branches) (A .otherwise) (A .outputs)) ok .1) (parts .4)

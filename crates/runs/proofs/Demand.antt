@@ -1,0 +1,161 @@
+-- Demand 3.
+use Prim.Native.Nat.{ℕ, suc, _<_}
+use mathlib.Core.List.{List, [], _∷_, _++_}
+use mathlib.Core.Option.{Option, none, some}
+use mathlib.Core.Path.{_≡_, refl, sym, ap, subst, _∙_}
+use Rattle.wire.specs.Lists.{Bytes}
+use Rattle.pack.specs.Legal.{completed, newNames, withNames}
+use Rattle.pack.specs.Names.{Name}
+use Rattle.pack.specs.Outcome.{writes}
+use Rattle.pack.specs.Syntax.{Activation, Drawing, Equation, Expr, Machine, Node, Origin, OriginKind, Package, Port, ofActivation}
+use Rattle.machines.specs.Call.{lowerMachines}
+use Rattle.machines.specs.Checks.{refusalOf}
+use Rattle.machines.specs.Lower.{equationsOf}
+use Rattle.machines.specs.Machines.{Made, madeMachines, withoutMachines}
+use Rattle.machines.specs.Resolve.{asMachine}
+use Rattle.activations.specs.Activations.{madeActivations, withoutActivations}
+use Rattle.activations.specs.Call.{lowerActivations}
+use Rattle.activations.specs.Checks.{branchNames, elseName}
+use Rattle.activations.specs.Lower.{actEquations}
+use Rattle.activations.proofs.Joined.{activations-enums}
+use Rattle.runs.specs.Chart.{Guards}
+use Rattle.runs.specs.Claim.{ActClaim, ActivationsLowered, DemandThree, MachineClaim, MachineRun, MachinesLowered, OutputsAre, Picks, StatesAre, mayRead}
+use Rattle.runs.specs.Premises.{MachinePremises}
+use Rattle.runs.specs.Run.{Run, satisfies}
+use Rattle.runs.specs.Standing.{Block, Stands, actStanding, activationsBefore, blockOf, equationsFrom, machineStanding, machinesBefore}
+use Rattle.runs.proofs.ActRuns.{act-run, satisfies-split}
+use Rattle.runs.proofs.ActsStand.{ActWritten, act-written}
+use Rattle.runs.proofs.ChartStreams.{atEach, found-is}
+use Rattle.runs.proofs.InWords.{in-words}
+use Rattle.runs.proofs.MachineRuns.{RunIsChart, outputsPicked, run-is-chart}
+use Rattle.runs.proofs.MachinesStand.{MachineWritten, machine-written}
+use Rattle.runs.proofs.NotRefused.{not-refused, not-refused-act}
+use Rattle.runs.proofs.ReadsBack.{activations-read-back, lessActivations, lessMachines, machines-read-back}
+use Rattle.runs.proofs.Selecting.{picked-is}
+use Rattle.runs.proofs.Streams.{chart}
+use Rattle.runs.proofs.TreeRuns.{numbered}
+use Rattle.runs.proofs.Zero.{activations-zero, machines-zero}
+
+-- the states that the chart finds
+states-are : {O : Type 0} (R : Run O) (N n : ℕ) (fs : List (ℕ → Name)) → numbered R N n fs → (t : ℕ) → t < N → StatesAre R t n (atEach t fs)
+unfolding atEach
+states-are R N n [] p t lt = tt
+states-are R N n (f ∷ fs) p t lt = (p .0 t lt, states-are R N (suc n) fs (p .1) t lt)
+
+outputs-are : {O : Type 0} (R : Run O) (N : ℕ) (G : Guards) (m : Machine) (ps : List Port) → outputsPicked R N G m ps → OutputsAre R N G m ps
+outputs-are R N G m [] h = tt
+outputs-are R N G m (p ∷ ps) h =
+    ((λ t lt. subst (λ (x : Option Expr). Picks R t x (R .at (p .name) t)) (picked-is G m (p .name) t) (h .0 t lt)), outputs-are R N G m ps (h .1))
+
+-- a run of an accepted machine's equations
+pub machine-run : {O : Type 0} (R : Run O) (N : ℕ) (G : Guards) (m : Machine) → refusalOf m ≡ none → MachinePremises R N G m → satisfies R N (equationsOf m) → MachineRun R N G m
+machine-run R N G m ok P sat =
+    let c : RunIsChart R N G m = run-is-chart R N G m (not-refused m ok) P sat in
+    record {
+      found = λ t lt. subst (λ (x : List Name). StatesAre R t 0 x) (sym (found-is G m t)) (states-are R N 0 (chart G m) (c .found) t lt);
+      words = in-words R N G m (c .found);
+      outputs = outputs-are R N G m (m .outputs) (c .outputs);
+    }
+
+-- what stands for a machine begins with its equations
+machine-stands : {O : Type 0} (R : Run O) (N : ℕ) (o : Option Name) (m : Machine) (k : Made) (nodes : List Node) (origins : List Origin) → Stands o m k nodes origins
+    → satisfies R N (machineStanding o k nodes origins) → satisfies R N (equationsOf m)
+unfolding machineStanding blockOf equationsFrom
+machine-stands R N none m k nodes origins s sat =
+    satisfies-split R N (equationsOf m) (s .later) (subst (λ (es : List Equation). satisfies R N es) (ap equationsFrom (s .stays) ∙ s .stands) sat) .0
+machine-stands R N (some o) m k nodes origins s sat =
+    subst (λ (es : List Equation). satisfies R N es) (ap (λ (r : Option Origin). blockOf r nodes) (s .recorded) ∙ s .stands) sat
+
+act-stands : {O : Type 0} (R : Run O) (N : ℕ) (kind : OriginKind) (name owner : Name) (branches : List Name) (es : List Equation) (k : Made) (nodes : List Node) (origins : List Origin) → Block kind name owner branches es k nodes origins
+    → satisfies R N (actStanding k nodes origins) → satisfies R N es
+unfolding actStanding blockOf
+act-stands R N kind name owner branches es k nodes origins s sat =
+    subst (λ (xs : List Equation). satisfies R N xs) (ap (λ (r : Option Origin). blockOf r nodes) (s .recorded) ∙ s .stands) sat
+
+-- one machine of a package
+machine-claim : (p : Package) → madeMachines p .refusals ≡ [] → (pre : List Drawing) (d : Drawing) (post : List Drawing) → p .machines ≡ pre ++ (d ∷ post) → MachineClaim p (completed (lessMachines p)) pre d
+unfolding completed withNames withoutMachines
+machine-claim p unrefused pre d post e =
+    let w : MachineWritten p pre d = machine-written p unrefused pre d post e in
+    let m = asMachine d (w .pass .states) in
+    record {
+      states = w .pass .states;
+      count = w .pass .count;
+      resolved = w .pass .walk;
+      stands = w .place;
+      runs = λ {O} R N G P sat. machine-run R N G m (w .pass .unrefused) P (machine-stands R N (d .owner) m (machinesBefore p pre) (madeMachines p .nodes) (madeMachines p .origins) (w .place) sat);
+    }
+
+-- one activation of a package
+act-claim : (p : Package) → madeActivations p .refusals ≡ [] → (pre : List Activation) (A : Activation) (post : List Activation) → p .activations ≡ pre ++ (A ∷ post) → ActClaim p (completed (lessActivations p)) pre A
+unfolding completed withNames withoutActivations
+act-claim p unrefused pre A post e =
+    let w : ActWritten p pre A = act-written p unrefused pre A post e in
+    let vars = mayRead A (w .owner) (w .pass .ports) in
+    record {
+      owner = w .owner;
+      owns = w .owns;
+      ports = w .pass .ports;
+      holders = w .pass .holders;
+      holding = w .pass .holding;
+      stands = w .place;
+      runs = λ {O} R N C P sat.
+          act-run R N C A (w .pass .holders) vars (not-refused-act A (w .pass .unrefused)) P
+          (act-stands R N ofActivation (A .name) (A .owner) (branchNames (A .branches) ++ (elseName ∷ [])) (actEquations A (w .pass .holders) vars) (activationsBefore p pre) (madeActivations p .nodes) (madeActivations p .origins) (w .place) sat);
+    }
+
+-- a pack of machines that is lowered to b
+pub machines-lowered : (s : List ℕ) (output report : ℕ) (b : List ℕ) → Bytes s → lowerMachines s output report ≡ writes b → MachinesLowered s b
+unfolding completed withNames withoutMachines
+machines-lowered s output report b by e =
+    let w = machines-read-back s output report b by e in
+    let p = w .held in
+    record {
+      held = p;
+      reads = w .reads;
+      unrefused = w .unrefused;
+      got = completed (lessMachines p);
+      back = w .back;
+      more = newNames (lessMachines p);
+      names = refl;
+      enums = refl;
+      nodes = refl;
+      machines = refl;
+      activations = refl;
+      origins = refl;
+      each = machine-claim p (w .unrefused);
+    }
+
+-- a pack of activations that is lowered to b
+pub activations-lowered : (s : List ℕ) (output report : ℕ) (b : List ℕ) → Bytes s → lowerActivations s output report ≡ writes b → ActivationsLowered s b
+unfolding completed withNames withoutActivations
+activations-lowered s output report b by e =
+    let w = activations-read-back s output report b by e in
+    let p = w .held in
+    record {
+      held = p;
+      reads = w .reads;
+      unrefused = w .unrefused;
+      got = completed (lessActivations p);
+      back = w .back;
+      more = newNames (lessActivations p);
+      names = refl;
+      enums = activations-enums p;
+      nodes = refl;
+      machines = refl;
+      activations = refl;
+      origins = refl;
+      each = act-claim p (w .unrefused);
+    }
+
+-- Demand 3, all of it: every pack, every two buffer lengths
+pub demand-three : DemandThree
+demand-three =
+    record {
+      machines = λ s output report by e.
+          let z = machines-zero s output report e in
+          record { pack = z .pack; result = z .result; lowered = machines-lowered s output report (z .pack) by (z .result) };
+      activations = λ s output report by e.
+          let z = activations-zero s output report e in
+          record { pack = z .pack; result = z .result; lowered = activations-lowered s output report (z .pack) by (z .result) };
+    }

@@ -1,0 +1,121 @@
+-- Demand 3: every run of the equations that a lowering writes for a definition is a run of the plain chart, or of the chosen scopes.
+use mathlib.Core.Path.{_≡_}
+use mathlib.Core.List.{List, [], _∷_, _++_}
+use mathlib.Core.Option.{Option, none, some}
+use Prim.Native.Nat.{ℕ, suc, _<_}
+use Rattle.wire.specs.Lists.{Bytes}
+use Rattle.pack.specs.Names.{Name}
+use Rattle.pack.specs.Syntax.{Activation, Drawing, Enum, Equation, Expr, Machine, Node, Package, Port, States, ofActivation}
+use Rattle.pack.specs.Forms.{nameAt}
+use Rattle.pack.specs.Read.{read, whole}
+use Rattle.pack.specs.Outcome.{Outcome, numberOf, writes}
+use Rattle.machines.specs.MadeNames.{stateVar}
+use Rattle.machines.specs.Resolve.{asMachine, resolvedStates, went}
+use Rattle.machines.specs.Machines.{madeMachines}
+use Rattle.machines.specs.Call.{lowerMachines}
+use Rattle.activations.specs.Sought.{expressions, found}
+use Rattle.activations.specs.Types.{readable, variables}
+use Rattle.activations.specs.Holders.{held, hold}
+use Rattle.activations.specs.Lower.{actEquations}
+use Rattle.activations.specs.Activations.{madeActivations}
+use Rattle.activations.specs.Checks.{branchNames, elseName}
+use Rattle.activations.specs.Call.{lowerActivations}
+use Rattle.machines.specs.Machines.{nodeNamed}
+use Rattle.runs.specs.Run.{Run, Value, eval, every, satisfies, vEnum}
+use Rattle.runs.specs.Chart.{Guards, foundIn, selected}
+use Rattle.runs.specs.Words.{Words}
+use Rattle.runs.specs.Scopes.{Conditions, OutputsGiven}
+use Rattle.runs.specs.Premises.{ActPremises, MachinePremises}
+use Rattle.runs.specs.Standing.{Block, Stands, actStanding, activationsBefore, machineStanding, machinesBefore}
+
+-- in a cycle the regions from n on have these states
+abbrev pub StatesAre : {O : Type 0} → Run O → ℕ → ℕ → List Name → Type 0
+StatesAre R t n [] = Unit {0}
+StatesAre R t n (f ∷ fs) = (R .at (stateVar n) t ≡ some (vEnum f)) × StatesAre R t (suc n) fs
+
+-- a right side is selected, and its value in the cycle is w
+abbrev pub Picks : {O : Type 0} → Run O → ℕ → Option Expr → Option (Value O) → Type 0
+Picks R t selected w = (e : Expr) × (selected ≡ some e) × (w ≡ eval R e every t)
+
+-- each output equals the right side that the found states select
+abbrev pub OutputsAre : {O : Type 0} → Run O → ℕ → Guards → Machine → List Port → Type 0
+OutputsAre R N G m [] = Unit {0}
+OutputsAre R N G m (p ∷ ps) = ((t : ℕ) → t < N → Picks R t (selected (nameAt (foundIn G m t)) m (p .name)) (R .at (p .name) t)) × OutputsAre R N G m ps
+
+-- A run of N cycles of a machine's equations: in every cycle each region's state is the one that the plain chart finds, and each output
+-- equals the selected right side; and the demand's own sentence.
+pub record MachineRun {O : Type 0} (R : Run O) (N : ℕ) (G : Guards) (m : Machine) : Type 0 where
+  pub found : (t : ℕ) → t < N → StatesAre R t 0 (foundIn G m t)
+  pub words : Words R N G m
+  pub outputs : OutputsAre R N G m (m .outputs)
+
+-- The machine d of the package p, after the machines `pre`, in the package `got`: its equations stand there, and every run of what stands
+-- for it there is one.
+pub record MachineClaim (p got : Package) (pre : List Drawing) (d : Drawing) : Type 1 where
+  pub states : States
+  pub count : ℕ
+  pub resolved : resolvedStates (p .machines) d ≡ went states count
+  pub stands : Stands (d .owner) (asMachine d states) (machinesBefore p pre) (got .nodes) (got .origins)
+  pub runs : {O : Type 0} (R : Run O) (N : ℕ) (G : Guards) → MachinePremises R N G (asMachine d states) → satisfies R N (machineStanding (d .owner) (machinesBefore p pre) (got .nodes) (got .origins)) → MachineRun R N G (asMachine d states)
+
+-- what an activation's scopes may read: the owner's variables, the holders and the outputs
+unfoldable pub mayRead : Activation → Node → List Port → List Name
+mayRead A n holders = readable (variables n ++ holders) (A .outputs)
+
+-- The activation A, after the activations `pre`. Its owner is the node as it was then.
+pub record ActClaim (p got : Package) (pre : List Activation) (A : Activation) : Type 1 where
+  pub owner : Node
+  pub owns : nodeNamed (A .owner) (activationsBefore p pre .nodes) ≡ some owner
+  pub ports : List Port
+  pub holders : List Equation
+  pub holding : hold (p .enums) (A .name) (variables owner) (A .outputs) (found (expressions A) []) ≡ held ports holders
+  pub stands : Block ofActivation (A .name) (A .owner) (branchNames (A .branches) ++ (elseName ∷ [])) (actEquations A holders (mayRead A owner ports)) (activationsBefore p pre) (got .nodes) (got .origins)
+  pub runs : {O : Type 0} (R : Run O) (N : ℕ) (C : Conditions) → ActPremises R N C A → satisfies R N (actStanding (activationsBefore p pre) (got .nodes) (got .origins)) → OutputsGiven R N C A (mayRead A owner ports) (A .outputs)
+
+-- The pack s holds a package, and the pack b reads as the package that lowering its machines makes of it.
+pub record MachinesLowered (s b : List ℕ) : Type 1 where
+  pub held : Package
+  pub reads : read s ≡ whole held
+  pub unrefused : madeMachines held .refusals ≡ []
+  pub got : Package
+  pub back : read b ≡ whole got
+  pub more : List Name
+  pub names : got .names ≡ held .names ++ more
+  pub enums : got .enums ≡ madeMachines held .enums
+  pub nodes : got .nodes ≡ madeMachines held .nodes
+  pub machines : got .machines ≡ []
+  pub activations : got .activations ≡ held .activations
+  pub origins : got .origins ≡ madeMachines held .origins
+  pub each : (pre : List Drawing) (d : Drawing) (post : List Drawing) → held .machines ≡ pre ++ (d ∷ post) → MachineClaim held got pre d
+
+-- the same of activations
+pub record ActivationsLowered (s b : List ℕ) : Type 1 where
+  pub held : Package
+  pub reads : read s ≡ whole held
+  pub unrefused : madeActivations held .refusals ≡ []
+  pub got : Package
+  pub back : read b ≡ whole got
+  pub more : List Name
+  pub names : got .names ≡ held .names ++ more
+  pub enums : got .enums ≡ held .enums
+  pub nodes : got .nodes ≡ madeActivations held .nodes
+  pub machines : got .machines ≡ held .machines
+  pub activations : got .activations ≡ []
+  pub origins : got .origins ≡ madeActivations held .origins
+  pub each : (pre : List Activation) (A : Activation) (post : List Activation) → held .activations ≡ pre ++ (A ∷ post) → ActClaim held got pre A
+
+-- a lowering answers 0, with the pack b
+pub record MachinesWritten (s : List ℕ) (x : Outcome) : Type 1 where
+  pub pack : List ℕ
+  pub result : x ≡ writes pack
+  pub lowered : MachinesLowered s pack
+
+pub record ActivationsWritten (s : List ℕ) (x : Outcome) : Type 1 where
+  pub pack : List ℕ
+  pub result : x ≡ writes pack
+  pub lowered : ActivationsLowered s pack
+
+-- THE CLAIM, for every pack and every two buffer lengths: a definition is accepted if its lowering returns 0 on the pack that holds it
+pub record DemandThree : Type 1 where
+  pub machines : (s : List ℕ) (output report : ℕ) → Bytes s → numberOf (lowerMachines s output report) ≡ 0 → MachinesWritten s (lowerMachines s output report)
+  pub activations : (s : List ℕ) (output report : ℕ) → Bytes s → numberOf (lowerActivations s output report) ≡ 0 → ActivationsWritten s (lowerActivations s output report)

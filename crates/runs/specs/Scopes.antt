@@ -1,0 +1,61 @@
+-- The scope of an activation in a cycle, and what it gives for an output.
+use mathlib.Core.Path.{_≡_}
+use mathlib.Core.List.{List, [], _∷_}
+use mathlib.Core.Bool.{Bool, true, false, cond}
+use mathlib.Core.Option.{Option, none, some}
+use Prim.Native.Nat.{ℕ, suc, _<_}
+use lib.ListN.{length}
+use lib.Dec.{eqb}
+use Rattle.pack.specs.Names.{Name}
+use Rattle.pack.specs.Syntax.{Activation, Branch, Equation, Expr, Port}
+use Rattle.machines.specs.Lower.{isOnly}
+use Rattle.activations.specs.MadeNames.{Scope, branch, other}
+use Rattle.activations.specs.Unlast.{conditionsOf, unlast}
+use Rattle.activations.specs.Scopes.{rewritten}
+use Rattle.runs.specs.Run.{Clock, Run, eval}
+
+-- each condition's value in each cycle; a call of `last` in it is its holder
+abbrev pub Conditions : Type 0
+Conditions = Expr → ℕ → Bool
+
+-- the first of the branches from k on whose condition is true, else the else scope
+unfoldable pub choice : Conditions → ℕ → ℕ → List Expr → Scope
+choice C t k [] = other
+choice C t k (c ∷ cs) = cond (C c t) (branch k) (choice C t (suc k) cs)
+
+-- the scope of an activation in a cycle
+unfoldable pub scopeIn : Conditions → Activation → ℕ → Scope
+scopeIn C A t = choice C t 0 (conditionsOf (A .name) (A .branches))
+
+-- the equations of that scope
+unfoldable pub chosen : Conditions → Name → ℕ → List Branch → List Equation → List Equation
+chosen C a t [] others = others
+chosen C a t (b ∷ bs) others = cond (C (unlast a (b .condition)) t) (b .equations) (chosen C a t bs others)
+
+-- whether two scopes are one
+unfoldable pub eqScope : Scope → Scope → Bool
+eqScope (branch i) (branch j) = eqb i j
+eqScope (branch i) other = false
+eqScope other (branch j) = false
+eqScope other other = true
+
+-- the clock of a scope: the cycles in which it is the scope
+unfoldable pub scopeClock : Conditions → Activation → Scope → Clock
+scopeClock C A s u = eqScope (scopeIn C A u) s
+
+-- what a scope's equations give for an output: the first that has it as its single left name, its right side as 001 rewrites it
+unfoldable pub givenBy : Name → ℕ → List Name → Scope → Name → List Equation → Option Expr
+givenBy a n vars s o [] = none
+givenBy a n vars s o (e ∷ es) = cond (isOnly o (e .lhs)) (some (rewritten a n vars s e)) (givenBy a n vars s o es)
+
+-- In a cycle the output equals what the scope of the cycle gives for it, on the clock of that scope; `vars` are what its scopes may read.
+abbrev pub OutputGiven : {O : Type 0} → Run O → Conditions → Activation → List Name → Name → ℕ → Type 0
+OutputGiven R C A vars o t =
+    (e : Expr)
+    × (givenBy (A .name) (length (conditionsOf (A .name) (A .branches))) vars (scopeIn C A t) o (chosen C (A .name) t (A .branches) (A .otherwise)) ≡ some e)
+    × (R .at o t ≡ eval R e (scopeClock C A (scopeIn C A t)) t)
+
+-- each output, in every cycle before N
+abbrev pub OutputsGiven : {O : Type 0} → Run O → ℕ → Conditions → Activation → List Name → List Port → Type 0
+OutputsGiven R N C A vars [] = Unit {0}
+OutputsGiven R N C A vars (p ∷ ps) = ((t : ℕ) → t < N → OutputGiven R C A vars (p .name) t) × OutputsGiven R N C A vars ps

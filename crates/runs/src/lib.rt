@@ -1,0 +1,1 @@
+// Runs of lowered equations: definitions and theorems, no code.
