@@ -24,3 +24,5 @@ pub mod ChartStreams
 pub mod Selecting
 pub mod Zero
 pub mod Demand
+pub mod FromDrawn
+pub mod InBuffers

@@ -5,6 +5,7 @@ use mathlib.Core.Path.{_≡_, refl, sym, ap₂, subst, _∙_}
 use lib.Dec.{T, eqb, eqb-refl}
 use Rattle.pack.specs.Names.{Name, eqName, member}
 use Rattle.pack.proofs.Tables.{eqName-true}
+use Rattle.runs.specs.AsDrawn.{noneStarts}
 use Rattle.runs.specs.Premises.{startsWith}
 
 T→≡ : (b : Bool) → T b → b ≡ true
@@ -23,10 +24,6 @@ pub starts-append : (p s : Name) → startsWith p (p ++ s) ≡ true
 unfolding startsWith
 starts-append [] s = refl
 starts-append (x ∷ xs) s = ap₂ _&&_ (T→≡ (eqb x x) (eqb-refl x)) (starts-append xs s)
-
-unfoldable pub noneStarts : Name → List Name → Bool
-noneStarts p [] = true
-noneStarts p (x ∷ xs) = not (startsWith p x) && noneStarts p xs
 
 -- a test that is `true` in one place and `false` in the other
 pub true-false : {b : Bool} → b ≡ true → b ≡ false → ⊥

@@ -5,3 +5,4 @@ pub mod Scopes
 pub mod Premises
 pub mod Standing
 pub mod Claim
+pub mod AsDrawn

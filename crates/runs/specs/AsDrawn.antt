@@ -1,0 +1,43 @@
+-- The premises as the demand has them of what is drawn: enum values are those of the package and the resolved states, none made.
+use mathlib.Core.Path.{_≡_}
+use mathlib.Core.List.{List, [], _∷_, _++_}
+use mathlib.Core.Bool.{Bool, true, not, _&&_}
+use Prim.Native.Nat.{ℕ}
+use Rattle.pack.specs.Names.{Name, member}
+use Rattle.pack.specs.Syntax.{Activation, Enum, Machine, Package}
+use Rattle.machines.specs.MadeNames.{smPrefix}
+use Rattle.machines.specs.Lower.{equationsOf}
+use Rattle.machines.specs.Checks.{allNamesS}
+use Rattle.activations.specs.MadeNames.{actPrefix}
+use Rattle.activations.specs.Unlast.{conditionsOf}
+use Rattle.runs.specs.Run.{Run}
+use Rattle.runs.specs.Chart.{Guards}
+use Rattle.runs.specs.Scopes.{Conditions}
+use Rattle.runs.specs.Premises.{conditionsAre, guardsS, onEveryCycle, portsPresent, sidesS, startsWith}
+
+-- none of the names begins with a prefix
+unfoldable pub noneStarts : Name → List Name → Bool
+noneStarts p [] = true
+noneStarts p (x ∷ xs) = not (startsWith p x) && noneStarts p xs
+
+-- the values of a package's enums
+unfoldable pub enumValues : List Enum → List Name
+enumValues [] = []
+enumValues (e ∷ es) = e .variants ++ enumValues es
+
+-- the enum values of a run of the machine m: those of the package, and its resolved states
+unfoldable pub valuesIn : Package → Machine → List Name
+valuesIn p m = enumValues (p .enums) ++ allNamesS (m .states)
+
+pub record DrawnMachine {O : Type 0} (R : Run O) (N : ℕ) (G : Guards) (p : Package) (m : Machine) : Type 0 where
+  pub enums : (x : Name) → R .enums x ≡ member x (valuesIn p m)
+  pub free : noneStarts smPrefix (valuesIn p m) ≡ true
+  pub base : onEveryCycle R N (equationsOf m)
+  pub guards : guardsS R N G (m .states)
+  pub sides : sidesS R N (m .states)
+
+pub record DrawnAct {O : Type 0} (R : Run O) (N : ℕ) (C : Conditions) (p : Package) (A : Activation) : Type 0 where
+  pub enums : (x : Name) → R .enums x ≡ member x (enumValues (p .enums))
+  pub free : noneStarts actPrefix (enumValues (p .enums)) ≡ true
+  pub base : portsPresent R N (A .outputs)
+  pub conditions : conditionsAre R N C (conditionsOf (A .name) (A .branches))
