@@ -26,3 +26,11 @@ pub mod Zero
 pub mod Demand
 pub mod FromDrawn
 pub mod InBuffers
+pub mod Tested
+pub mod PremisesTested
+pub mod Computing
+pub mod Using
+pub mod RunTables
+pub mod Nested
+pub mod Branches
+pub mod Owned

@@ -1,0 +1,93 @@
+-- The starred chart of nested P, Q as a pack, without history and with it, and a run of what its lowering writes.
+use Prim.Native.Nat.{ℕ}
+use mathlib.Core.List.{List, [], _∷_}
+use mathlib.Core.Bool.{Bool, true, false}
+use mathlib.Core.Option.{none}
+use mathlib.Core.Path.{_≡_, refl}
+use Rattle.wire.specs.Decimal.{decimal, digits}
+use Rattle.pack.specs.Names.{Name}
+use Rattle.pack.specs.Syntax.{Drawing, Package, States, dCons, dNil, eConst, eVar, lBool, qCons, qNil, rCons, rNil, sCons, sNil, tBool}
+use Rattle.machines.specs.Checks.{allNamesS}
+use Rattle.machines.specs.MadeNames.{activeVar, nextVar, smPrefix, stateVar}
+use Rattle.machines.specs.Resolve.{asMachine}
+use Rattle.runs.specs.Claim.{MachineRun}
+use Rattle.runs.specs.Run.{Run, ifValue}
+use Rattle.runs.proofs.Computing.{machineBlock, machinePremises, machinesNumber, reading, satisfying, small, walking}
+use Rattle.runs.proofs.PremisesTested.{fed}
+use Rattle.runs.proofs.RunTables.{Column, cellAt, inStates, look, tableRun, truths}
+use Rattle.runs.proofs.Using.{MachineInstance, machine-instance}
+
+abbrev pub On : Name
+On = 65 ∷ []
+
+abbrev pub Off : Name
+Off = 66 ∷ []
+
+abbrev pub P : Name
+P = 80 ∷ []
+
+abbrev pub Q : Name
+Q = 81 ∷ []
+
+abbrev pub swap : Name
+swap = 115 ∷ 119 ∷ 97 ∷ 112 ∷ []
+
+-- P to Q always; On and Off change places with `swap`
+unfoldable pub nested : Bool → Drawing
+nested h =
+    record {
+      name = 77 ∷ [];
+      owner = none;
+      inputs = record { name = swap; ty = tBool } ∷ [];
+      outputs = [];
+      locals = [];
+      initial = On;
+      states =
+          dCons On [] (record { guard = eVar swap; target = Off } ∷ []) (qCons P h (dCons P [] (record { guard = eConst (lBool true); target = Q } ∷ []) qNil none (dCons Q [] [] qNil none dNil)) qNil) none
+          (dCons Off [] (record { guard = eVar swap; target = On } ∷ []) qNil none dNil);
+    }
+
+unfoldable pub held : Bool → Package
+held h = record { names = (77 ∷ []) ∷ swap ∷ On ∷ Off ∷ P ∷ Q ∷ []; enums = []; nodes = []; machines = nested h ∷ []; activations = []; origins = [] }
+
+unfoldable pub states : Bool → States
+states h =
+    sCons On [] (record { guard = eVar swap; target = Off } ∷ []) (rCons P h (sCons P [] (record { guard = eConst (lBool true); target = Q } ∷ []) rNil (sCons Q [] [] rNil sNil)) rNil)
+    (sCons Off [] (record { guard = eVar swap; target = On } ∷ []) rNil sNil)
+
+-- the inner region is active in cycles 0, 1 and 3; `last` is its state in cycle 3
+unfoldable pub table : Name → List Column
+table last =
+    record { of = swap; cells = truths (false ∷ true ∷ true ∷ false ∷ []) }
+    ∷ record { of = stateVar 0; cells = inStates (On ∷ On ∷ Off ∷ On ∷ []) }
+    ∷ record { of = nextVar 0; cells = inStates (On ∷ Off ∷ On ∷ On ∷ []) }
+    ∷ record { of = activeVar 1; cells = truths (true ∷ true ∷ false ∷ true ∷ []) }
+    ∷ record { of = stateVar 1; cells = inStates (P ∷ Q ∷ Q ∷ last ∷ []) }
+    ∷ record { of = nextVar 1; cells = inStates (Q ∷ Q ∷ Q ∷ Q ∷ []) }
+    ∷ []
+
+unfoldable pub run : Name → Run ℕ
+run last = tableRun (On ∷ P ∷ Q ∷ Off ∷ []) (table last)
+
+without : MachineInstance (held false) (nested false) (states false) 4 (run P) 4
+unfolding held nested states run table tableRun look cellAt truths inStates ifValue stateVar nextVar activeVar smPrefix decimal digits allNamesS asMachine small reading machinesNumber walking machinePremises satisfying machineBlock
+without = record { only = refl; bytes = refl; reads = refl; answers = refl; walks = refl; states = λ x. refl; premises = refl; satisfied = refl }
+
+pub without-runs : MachineRun (run P) 4 (fed (run P)) (asMachine (nested false) (states false))
+without-runs = machine-instance (held false) (nested false) (states false) 4 (run P) 4 without
+
+with-history : MachineInstance (held true) (nested true) (states true) 4 (run Q) 4
+unfolding held nested states run table tableRun look cellAt truths inStates ifValue stateVar nextVar activeVar smPrefix decimal digits allNamesS asMachine small reading machinesNumber walking machinePremises satisfying machineBlock
+with-history = record { only = refl; bytes = refl; reads = refl; answers = refl; walks = refl; states = λ x. refl; premises = refl; satisfied = refl }
+
+pub with-history-runs : MachineRun (run Q) 4 (fed (run Q)) (asMachine (nested true) (states true))
+with-history-runs = machine-instance (held true) (nested true) (states true) 4 (run Q) 4 with-history
+
+-- the run in which the inner region ends in the other state satisfies neither
+without-not : satisfying (run Q) 4 (machineBlock (held false) (nested false)) ≡ false
+unfolding held nested run table tableRun look cellAt truths inStates ifValue stateVar nextVar activeVar smPrefix decimal digits satisfying machineBlock
+without-not = refl
+
+with-not : satisfying (run P) 4 (machineBlock (held true) (nested true)) ≡ false
+unfolding held nested run table tableRun look cellAt truths inStates ifValue stateVar nextVar activeVar smPrefix decimal digits satisfying machineBlock
+with-not = refl

@@ -1,0 +1,110 @@
+-- The claim for a package that is known, and for runs that are tested: how instances use it.
+use Prim.Native.Nat.{ℕ}
+use mathlib.Core.List.{List, [], _∷_, _++_}
+use mathlib.Core.Bool.{true, false}
+use mathlib.Core.Option.{some}
+use mathlib.Core.Path.{_≡_, sym, ap, subst, _∙_}
+use Rattle.wire.specs.Lists.{Bytes}
+use Rattle.pack.specs.Limits.{maxBytes}
+use Rattle.pack.specs.Names.{Name, member}
+use Rattle.pack.specs.Outcome.{numberOf}
+use Rattle.pack.specs.Read.{read, whole}
+use Rattle.pack.specs.Syntax.{Activation, Drawing, Equation, Node, Origin, Package, Port, States}
+use Rattle.pack.specs.Write.{encode}
+use Rattle.pack.proofs.WrittenBack.{small-bytes}
+use Rattle.machines.specs.Call.{lowerMachines}
+use Rattle.machines.specs.Checks.{allNamesS}
+use Rattle.machines.specs.Machines.{madeMachines, nodeNamed}
+use Rattle.machines.specs.Resolve.{asMachine, resolvedStates, went}
+use Rattle.activations.specs.Activations.{madeActivations}
+use Rattle.activations.specs.Call.{lowerActivations}
+use Rattle.activations.specs.Holders.{held, hold}
+use Rattle.activations.specs.Sought.{expressions, found}
+use Rattle.activations.specs.Types.{variables}
+use Rattle.runs.specs.Chart.{Guards}
+use Rattle.runs.specs.Claim.{ActClaim, MachineClaim, MachineRun, mayRead}
+use Rattle.runs.specs.Premises.{ActPremises, MachinePremises}
+use Rattle.runs.specs.Run.{Run, satisfies}
+use Rattle.runs.specs.Scopes.{Conditions, OutputsGiven}
+use Rattle.runs.specs.Standing.{actStanding, activationsBefore, machineStanding, machinesBefore}
+use Rattle.runs.proofs.Computing.{actBlock, actPremises, activationsNumber, holding, machineBlock, machinePremises, machinesNumber, ownerOf, reading, satisfying, small, walking}
+use Rattle.runs.proofs.Demand.{demand-three}
+use Rattle.runs.proofs.PremisesTested.{act-tested, fed, machine-tested}
+use Rattle.runs.proofs.Tested.{satisfies-tested}
+
+same-package : (p q : Package) → whole p ≡ whole q → p ≡ q
+same-package p q e = cc
+
+same-states : (x y : States) (m n : ℕ) → went x m ≡ went y n → x ≡ y
+same-states x y m n e = cc
+
+same-node : (x y : Node) → some x ≡ some y → x ≡ y
+same-node x y e = cc
+
+same-held : (ps qs : List Port) (hs gs : List Equation) → held ps hs ≡ held qs gs → ps ≡ qs
+same-held ps qs hs gs e = cc
+
+-- the machine d of a package p whose pack is lowered
+module _ (s : List ℕ) (output report : ℕ) (by : Bytes s) (p : Package) (r : read s ≡ whole p) where
+  pub machine-used : numberOf (lowerMachines s output report) ≡ 0 → (pre : List Drawing) (d : Drawing) (post : List Drawing) → p .machines ≡ pre ++ (d ∷ post) → (ss : States) (n : ℕ) → resolvedStates (p .machines) d ≡ went ss n
+      → {O : Type 0} (R : Run O) (N : ℕ) (G : Guards) → MachinePremises R N G (asMachine d ss) → satisfies R N (machineStanding (d .owner) (machinesBefore p pre) (madeMachines p .nodes) (madeMachines p .origins)) → MachineRun R N G (asMachine d ss)
+  machine-used e pre d post at ss n w {O} R N G P sat =
+      let L = demand-three .machines s output report by e .lowered in
+      let q : L .held ≡ p = same-package (L .held) p (sym (L .reads) ∙ r) in
+      let c : MachineClaim p (L .got) pre d = subst (λ (x : Package). x .machines ≡ pre ++ (d ∷ post) → MachineClaim x (L .got) pre d) q (λ h. L .each pre d post h) at in
+      let k : c .states ≡ ss = same-states (c .states) ss (c .count) n (sym (c .resolved) ∙ w) in
+      let nodes : madeMachines p .nodes ≡ L .got .nodes = ap (λ (x : Package). madeMachines x .nodes) (sym q) ∙ sym (L .nodes) in
+      let origins : madeMachines p .origins ≡ L .got .origins = ap (λ (x : Package). madeMachines x .origins) (sym q) ∙ sym (L .origins) in
+      let here = subst (λ (x : List Origin). satisfies R N (machineStanding (d .owner) (machinesBefore p pre) (L .got .nodes) x)) origins (subst (λ (x : List Node). satisfies R N (machineStanding (d .owner) (machinesBefore p pre) x (madeMachines p .origins))) nodes sat) in
+      subst (λ (x : States). MachineRun R N G (asMachine d x)) k (c .runs R N G (subst (λ (x : States). MachinePremises R N G (asMachine d x)) (sym k) P) here)
+
+  -- the activation A, with its owner and the holders' locals
+  pub act-used : numberOf (lowerActivations s output report) ≡ 0 → (pre : List Activation) (A : Activation) (post : List Activation) → p .activations ≡ pre ++ (A ∷ post)
+      → (n : Node) → nodeNamed (A .owner) (activationsBefore p pre .nodes) ≡ some n → (ps : List Port) (hs : List Equation) → hold (p .enums) (A .name) (variables n) (A .outputs) (found (expressions A) []) ≡ held ps hs
+      → {O : Type 0} (R : Run O) (N : ℕ) (C : Conditions) → ActPremises R N C A → satisfies R N (actStanding (activationsBefore p pre) (madeActivations p .nodes) (madeActivations p .origins)) → OutputsGiven R N C A (mayRead A n ps) (A .outputs)
+  act-used e pre A post at n own ps hs holds {O} R N C P sat =
+      let L = demand-three .activations s output report by e .lowered in
+      let q : L .held ≡ p = same-package (L .held) p (sym (L .reads) ∙ r) in
+      let c : ActClaim p (L .got) pre A = subst (λ (x : Package). x .activations ≡ pre ++ (A ∷ post) → ActClaim x (L .got) pre A) q (λ h. L .each pre A post h) at in
+      let k : c .owner ≡ n = same-node (c .owner) n (sym (c .owns) ∙ own) in
+      let h = subst (λ (x : Node). hold (p .enums) (A .name) (variables x) (A .outputs) (found (expressions A) []) ≡ held (c .ports) (c .holders)) k (c .holding) in
+      let l : c .ports ≡ ps = same-held (c .ports) ps (c .holders) hs (sym h ∙ holds) in
+      let nodes : madeActivations p .nodes ≡ L .got .nodes = ap (λ (x : Package). madeActivations x .nodes) (sym q) ∙ sym (L .nodes) in
+      let origins : madeActivations p .origins ≡ L .got .origins = ap (λ (x : Package). madeActivations x .origins) (sym q) ∙ sym (L .origins) in
+      let here = subst (λ (x : List Origin). satisfies R N (actStanding (activationsBefore p pre) (L .got .nodes) x)) origins (subst (λ (x : List Node). satisfies R N (actStanding (activationsBefore p pre) x (madeActivations p .origins))) nodes sat) in
+      subst (λ (x : List Port). OutputsGiven R N C A (mayRead A n x) (A .outputs)) l (subst (λ (x : Node). OutputsGiven R N C A (mayRead A x (c .ports)) (A .outputs)) k (c .runs R N C P here))
+
+-- what is computed of a run of a package's only machine
+pub record MachineInstance (p : Package) (d : Drawing) (ss : States) (n : ℕ) (R : Run ℕ) (N : ℕ) : Type 0 where
+  pub only : p .machines ≡ d ∷ []
+  pub bytes : small p ≡ true
+  pub reads : reading p ≡ whole p
+  pub answers : machinesNumber p ≡ 0
+  pub walks : walking p d ≡ went ss n
+  pub states : (x : Name) → R .enums x ≡ member x (allNamesS ss)
+  pub premises : machinePremises R N (asMachine d ss) ≡ true
+  pub satisfied : satisfying R N (machineBlock p d) ≡ true
+
+pub machine-instance : (p : Package) (d : Drawing) (ss : States) (n : ℕ) (R : Run ℕ) (N : ℕ) → MachineInstance p d ss n R N → MachineRun R N (fed R) (asMachine d ss)
+unfolding small reading machinesNumber walking machinePremises satisfying machineBlock asMachine
+machine-instance p d ss n R N i =
+    machine-used (encode p) maxBytes maxBytes (small-bytes (encode p) (i .bytes)) p (i .reads) (i .answers) [] d [] (i .only) ss n (i .walks) R N (fed R)
+    (machine-tested R N (asMachine d ss) (i .states) (i .premises)) (satisfies-tested R N (machineStanding (d .owner) (machinesBefore p []) (madeMachines p .nodes) (madeMachines p .origins)) (i .satisfied))
+
+-- and of its only activation
+pub record ActInstance (p : Package) (A : Activation) (n : Node) (ps : List Port) (hs : List Equation) (R : Run ℕ) (N : ℕ) : Type 0 where
+  pub only : p .activations ≡ A ∷ []
+  pub bytes : small p ≡ true
+  pub reads : reading p ≡ whole p
+  pub answers : activationsNumber p ≡ 0
+  pub owner : ownerOf p A ≡ some n
+  pub holds : holding p A n ≡ held ps hs
+  pub none : (x : Name) → R .enums x ≡ false
+  pub premises : actPremises R N A ≡ true
+  pub satisfied : satisfying R N (actBlock p) ≡ true
+
+pub act-instance : (p : Package) (A : Activation) (n : Node) (ps : List Port) (hs : List Equation) (R : Run ℕ) (N : ℕ) → ActInstance p A n ps hs R N → OutputsGiven R N (fed R) A (mayRead A n ps) (A .outputs)
+unfolding small reading activationsNumber ownerOf holding actPremises satisfying actBlock
+act-instance p A n ps hs R N i =
+    act-used (encode p) maxBytes maxBytes (small-bytes (encode p) (i .bytes)) p (i .reads) (i .answers) [] A [] (i .only) n (i .owner) ps hs (i .holds) R N (fed R)
+    (act-tested R N A (i .none) (i .premises)) (satisfies-tested R N (actStanding (activationsBefore p []) (madeActivations p .nodes) (madeActivations p .origins)) (i .satisfied))
