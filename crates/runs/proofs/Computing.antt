@@ -47,11 +47,8 @@ use Rattle.activations.specs.Activations
 use Rattle.activations.specs.Call as ActCall
 use Rattle.runs.specs.Run
 use Rattle.runs.specs.Chart
-use Rattle.runs.specs.Words
-use Rattle.runs.specs.Scopes as Chosen
 use Rattle.runs.specs.Premises
 use Rattle.runs.specs.Standing
-use Rattle.runs.specs.Claim
 use Rattle.runs.specs.AsDrawn
 use Rattle.runs.proofs.Tested
 use Rattle.runs.proofs.PremisesTested
@@ -120,18 +117,18 @@ holding p A n = hold (p .enums) (A .name) (variables n) (A .outputs) (found (exp
 
 -- the tests of a run
 unfoldable pub satisfying : Run ℕ → ℕ → List Equation → Bool
-unfolding Decimal.digits Decimal.decimal Names.eqName Names.member MadeNames.smPrefix MadeNames.stateVar MadeNames.nextVar MadeNames.activeVar MadeNames.enumName MadeNames.regionPrefix Lower.sizeS Lower.transitionsOf Lower.isName Lower.orElse Lower.nextChain Lower.held Lower.topEquations Lower.justEntered Lower.stateRhs Lower.regionEquations Lower.activeIn Lower.equationsS Lower.namesOf Lower.regionLocals Lower.localsS Lower.enumsS Lower.isOnly Lower.ownValue Lower.isSome Lower.coversS Lower.defaultOf Lower.fromOption Lower.valueS Lower.outputEquations Lower.equationsOf Lower.enumsOf Lower.localsOf Checks.emptyTop Checks.allNamesS Checks.repeated Checks.badInitial Checks.badTarget Checks.badS Checks.unlessCovered Checks.unlessOther Checks.uncoveredS Checks.uncovered Checks.refusalOf ActNames.actPrefix ActNames.madeName ActNames.flagVar ActNames.noneVar ActNames.clockVar ActNames.scopeAt ActNames.tag ActNames.valueVar ActNames.sampleVar ActNames.lastInfix ActNames.lastVar LastCalls.lastName LastCalls.asVar LastCalls.lastRest LastCalls.lastShape LastCalls.callKind Unlast.unlast Unlast.conditionsOf Run.previous Run.isPresent Run.isBool Run.history Run.ifValue Run.applyTo Run.bools Run.equals Run.binaryValue Run.binary Run.notValue Run.unary Run.literal Run.preAt Run.arrowAt Run.clockOf Run.sub Run.ifOf Run.eval Chart.atFirst Chart.firstTrue Chart.choose Chart.find Chart.keep Chart.turn Chart.firstKept Chart.turnsS Chart.startS Chart.founds Chart.kepts Chart.topOf Chart.cycle Chart.keptIn Chart.foundIn Chart.selectS Chart.selected Words.within Words.wasActive Words.latest Chosen.choice Chosen.scopeIn Chosen.chosen Chosen.eqScope Chosen.scopeClock Chosen.givenBy Premises.startsWith Standing.entry Standing.equationsFrom Standing.equationsNamed Standing.slice Standing.blockOf Standing.machinesBefore Standing.activationsBefore Standing.machineStanding Standing.actStanding Claim.mayRead AsDrawn.noneStarts AsDrawn.enumValues AsDrawn.valuesIn Tested.eqValue Tested.eqCell Tested.upTo Tested.sameTest Tested.fitsTest Tested.sideTest Tested.agreeTest Tested.satisfied PremisesTested.truth PremisesTested.fed PremisesTested.isTruth PremisesTested.truthTest PremisesTested.presentTest PremisesTested.presentsTest PremisesTested.baseTest PremisesTested.guardTest PremisesTested.sideHas PremisesTested.stateTest PremisesTested.machineTest PremisesTested.portTest PremisesTested.conditionTest PremisesTested.actTest
+unfolding Names.eqName Names.member Run.previous Run.isPresent Run.isBool Run.history Run.ifValue Run.applyTo Run.bools Run.equals Run.binaryValue Run.binary Run.notValue Run.unary Run.literal Run.preAt Run.arrowAt Run.clockOf Run.sub Run.ifOf Run.eval Tested.eqValue Tested.eqCell Tested.upTo Tested.sameTest Tested.fitsTest Tested.sideTest Tested.agreeTest Tested.satisfied
 satisfying R N es = satisfied R N es
 
 unfoldable pub machinePremises : Run ℕ → ℕ → Machine → Bool
-unfolding Decimal.digits Decimal.decimal Names.eqName Names.member MadeNames.smPrefix MadeNames.stateVar MadeNames.nextVar MadeNames.activeVar MadeNames.enumName MadeNames.regionPrefix Lower.sizeS Lower.transitionsOf Lower.isName Lower.orElse Lower.nextChain Lower.held Lower.topEquations Lower.justEntered Lower.stateRhs Lower.regionEquations Lower.activeIn Lower.equationsS Lower.namesOf Lower.regionLocals Lower.localsS Lower.enumsS Lower.isOnly Lower.ownValue Lower.isSome Lower.coversS Lower.defaultOf Lower.fromOption Lower.valueS Lower.outputEquations Lower.equationsOf Lower.enumsOf Lower.localsOf Checks.emptyTop Checks.allNamesS Checks.repeated Checks.badInitial Checks.badTarget Checks.badS Checks.unlessCovered Checks.unlessOther Checks.uncoveredS Checks.uncovered Checks.refusalOf ActNames.actPrefix ActNames.madeName ActNames.flagVar ActNames.noneVar ActNames.clockVar ActNames.scopeAt ActNames.tag ActNames.valueVar ActNames.sampleVar ActNames.lastInfix ActNames.lastVar LastCalls.lastName LastCalls.asVar LastCalls.lastRest LastCalls.lastShape LastCalls.callKind Unlast.unlast Unlast.conditionsOf Run.previous Run.isPresent Run.isBool Run.history Run.ifValue Run.applyTo Run.bools Run.equals Run.binaryValue Run.binary Run.notValue Run.unary Run.literal Run.preAt Run.arrowAt Run.clockOf Run.sub Run.ifOf Run.eval Chart.atFirst Chart.firstTrue Chart.choose Chart.find Chart.keep Chart.turn Chart.firstKept Chart.turnsS Chart.startS Chart.founds Chart.kepts Chart.topOf Chart.cycle Chart.keptIn Chart.foundIn Chart.selectS Chart.selected Words.within Words.wasActive Words.latest Chosen.choice Chosen.scopeIn Chosen.chosen Chosen.eqScope Chosen.scopeClock Chosen.givenBy Premises.startsWith Standing.entry Standing.equationsFrom Standing.equationsNamed Standing.slice Standing.blockOf Standing.machinesBefore Standing.activationsBefore Standing.machineStanding Standing.actStanding Claim.mayRead AsDrawn.noneStarts AsDrawn.enumValues AsDrawn.valuesIn Tested.eqValue Tested.eqCell Tested.upTo Tested.sameTest Tested.fitsTest Tested.sideTest Tested.agreeTest Tested.satisfied PremisesTested.truth PremisesTested.fed PremisesTested.isTruth PremisesTested.truthTest PremisesTested.presentTest PremisesTested.presentsTest PremisesTested.baseTest PremisesTested.guardTest PremisesTested.sideHas PremisesTested.stateTest PremisesTested.machineTest PremisesTested.portTest PremisesTested.conditionTest PremisesTested.actTest
+unfolding Premises.startsWith AsDrawn.noneStarts Checks.allNamesS Decimal.digits Decimal.decimal Names.eqName Names.member MadeNames.smPrefix MadeNames.stateVar MadeNames.nextVar MadeNames.activeVar MadeNames.enumName MadeNames.regionPrefix Lower.sizeS Lower.transitionsOf Lower.isName Lower.orElse Lower.nextChain Lower.held Lower.topEquations Lower.justEntered Lower.stateRhs Lower.regionEquations Lower.activeIn Lower.equationsS Lower.namesOf Lower.regionLocals Lower.localsS Lower.enumsS Lower.isOnly Lower.ownValue Lower.isSome Lower.coversS Lower.defaultOf Lower.fromOption Lower.valueS Lower.outputEquations Lower.equationsOf Lower.enumsOf Lower.localsOf Run.previous Run.isPresent Run.isBool Run.history Run.ifValue Run.applyTo Run.bools Run.equals Run.binaryValue Run.binary Run.notValue Run.unary Run.literal Run.preAt Run.arrowAt Run.clockOf Run.sub Run.ifOf Run.eval Tested.eqValue Tested.eqCell Tested.upTo Tested.sameTest Tested.fitsTest Tested.sideTest Tested.agreeTest Tested.satisfied PremisesTested.truth PremisesTested.fed PremisesTested.isTruth PremisesTested.truthTest PremisesTested.presentTest PremisesTested.presentsTest PremisesTested.baseTest PremisesTested.guardTest PremisesTested.sideHas PremisesTested.stateTest PremisesTested.machineTest PremisesTested.portTest PremisesTested.conditionTest PremisesTested.actTest
 machinePremises R N m = machineTest R N m
 
 unfoldable pub actPremises : Run ℕ → ℕ → Activation → Bool
-unfolding Decimal.digits Decimal.decimal Names.eqName Names.member MadeNames.smPrefix MadeNames.stateVar MadeNames.nextVar MadeNames.activeVar MadeNames.enumName MadeNames.regionPrefix Lower.sizeS Lower.transitionsOf Lower.isName Lower.orElse Lower.nextChain Lower.held Lower.topEquations Lower.justEntered Lower.stateRhs Lower.regionEquations Lower.activeIn Lower.equationsS Lower.namesOf Lower.regionLocals Lower.localsS Lower.enumsS Lower.isOnly Lower.ownValue Lower.isSome Lower.coversS Lower.defaultOf Lower.fromOption Lower.valueS Lower.outputEquations Lower.equationsOf Lower.enumsOf Lower.localsOf Checks.emptyTop Checks.allNamesS Checks.repeated Checks.badInitial Checks.badTarget Checks.badS Checks.unlessCovered Checks.unlessOther Checks.uncoveredS Checks.uncovered Checks.refusalOf ActNames.actPrefix ActNames.madeName ActNames.flagVar ActNames.noneVar ActNames.clockVar ActNames.scopeAt ActNames.tag ActNames.valueVar ActNames.sampleVar ActNames.lastInfix ActNames.lastVar LastCalls.lastName LastCalls.asVar LastCalls.lastRest LastCalls.lastShape LastCalls.callKind Unlast.unlast Unlast.conditionsOf Run.previous Run.isPresent Run.isBool Run.history Run.ifValue Run.applyTo Run.bools Run.equals Run.binaryValue Run.binary Run.notValue Run.unary Run.literal Run.preAt Run.arrowAt Run.clockOf Run.sub Run.ifOf Run.eval Chart.atFirst Chart.firstTrue Chart.choose Chart.find Chart.keep Chart.turn Chart.firstKept Chart.turnsS Chart.startS Chart.founds Chart.kepts Chart.topOf Chart.cycle Chart.keptIn Chart.foundIn Chart.selectS Chart.selected Words.within Words.wasActive Words.latest Chosen.choice Chosen.scopeIn Chosen.chosen Chosen.eqScope Chosen.scopeClock Chosen.givenBy Premises.startsWith Standing.entry Standing.equationsFrom Standing.equationsNamed Standing.slice Standing.blockOf Standing.machinesBefore Standing.activationsBefore Standing.machineStanding Standing.actStanding Claim.mayRead AsDrawn.noneStarts AsDrawn.enumValues AsDrawn.valuesIn Tested.eqValue Tested.eqCell Tested.upTo Tested.sameTest Tested.fitsTest Tested.sideTest Tested.agreeTest Tested.satisfied PremisesTested.truth PremisesTested.fed PremisesTested.isTruth PremisesTested.truthTest PremisesTested.presentTest PremisesTested.presentsTest PremisesTested.baseTest PremisesTested.guardTest PremisesTested.sideHas PremisesTested.stateTest PremisesTested.machineTest PremisesTested.portTest PremisesTested.conditionTest PremisesTested.actTest
+unfolding Decimal.digits Decimal.decimal Names.eqName Names.member ActNames.actPrefix ActNames.madeName ActNames.flagVar ActNames.noneVar ActNames.clockVar ActNames.scopeAt ActNames.tag ActNames.valueVar ActNames.sampleVar ActNames.lastInfix ActNames.lastVar LastCalls.lastName LastCalls.asVar LastCalls.lastRest LastCalls.lastShape LastCalls.callKind Unlast.unlast Unlast.conditionsOf Run.previous Run.isPresent Run.isBool Run.history Run.ifValue Run.applyTo Run.bools Run.equals Run.binaryValue Run.binary Run.notValue Run.unary Run.literal Run.preAt Run.arrowAt Run.clockOf Run.sub Run.ifOf Run.eval Tested.eqValue Tested.eqCell Tested.upTo Tested.sameTest Tested.fitsTest Tested.sideTest Tested.agreeTest Tested.satisfied PremisesTested.truth PremisesTested.fed PremisesTested.isTruth PremisesTested.truthTest PremisesTested.presentTest PremisesTested.presentsTest PremisesTested.baseTest PremisesTested.guardTest PremisesTested.sideHas PremisesTested.stateTest PremisesTested.machineTest PremisesTested.portTest PremisesTested.conditionTest PremisesTested.actTest
 actPremises R N A = actTest R N A
 
 -- the states that the plain chart finds
 unfoldable pub finding : Guards → Machine → ℕ → List Name
-unfolding Decimal.digits Decimal.decimal Names.eqName Names.member MadeNames.smPrefix MadeNames.stateVar MadeNames.nextVar MadeNames.activeVar MadeNames.enumName MadeNames.regionPrefix Lower.sizeS Lower.transitionsOf Lower.isName Lower.orElse Lower.nextChain Lower.held Lower.topEquations Lower.justEntered Lower.stateRhs Lower.regionEquations Lower.activeIn Lower.equationsS Lower.namesOf Lower.regionLocals Lower.localsS Lower.enumsS Lower.isOnly Lower.ownValue Lower.isSome Lower.coversS Lower.defaultOf Lower.fromOption Lower.valueS Lower.outputEquations Lower.equationsOf Lower.enumsOf Lower.localsOf Checks.emptyTop Checks.allNamesS Checks.repeated Checks.badInitial Checks.badTarget Checks.badS Checks.unlessCovered Checks.unlessOther Checks.uncoveredS Checks.uncovered Checks.refusalOf ActNames.actPrefix ActNames.madeName ActNames.flagVar ActNames.noneVar ActNames.clockVar ActNames.scopeAt ActNames.tag ActNames.valueVar ActNames.sampleVar ActNames.lastInfix ActNames.lastVar LastCalls.lastName LastCalls.asVar LastCalls.lastRest LastCalls.lastShape LastCalls.callKind Unlast.unlast Unlast.conditionsOf Run.previous Run.isPresent Run.isBool Run.history Run.ifValue Run.applyTo Run.bools Run.equals Run.binaryValue Run.binary Run.notValue Run.unary Run.literal Run.preAt Run.arrowAt Run.clockOf Run.sub Run.ifOf Run.eval Chart.atFirst Chart.firstTrue Chart.choose Chart.find Chart.keep Chart.turn Chart.firstKept Chart.turnsS Chart.startS Chart.founds Chart.kepts Chart.topOf Chart.cycle Chart.keptIn Chart.foundIn Chart.selectS Chart.selected Words.within Words.wasActive Words.latest Chosen.choice Chosen.scopeIn Chosen.chosen Chosen.eqScope Chosen.scopeClock Chosen.givenBy Premises.startsWith Standing.entry Standing.equationsFrom Standing.equationsNamed Standing.slice Standing.blockOf Standing.machinesBefore Standing.activationsBefore Standing.machineStanding Standing.actStanding Claim.mayRead AsDrawn.noneStarts AsDrawn.enumValues AsDrawn.valuesIn Tested.eqValue Tested.eqCell Tested.upTo Tested.sameTest Tested.fitsTest Tested.sideTest Tested.agreeTest Tested.satisfied PremisesTested.truth PremisesTested.fed PremisesTested.isTruth PremisesTested.truthTest PremisesTested.presentTest PremisesTested.presentsTest PremisesTested.baseTest PremisesTested.guardTest PremisesTested.sideHas PremisesTested.stateTest PremisesTested.machineTest PremisesTested.portTest PremisesTested.conditionTest PremisesTested.actTest
+unfolding Lower.sizeS Names.eqName Names.member Run.previous Run.isPresent Run.isBool Run.history Run.ifValue Run.applyTo Run.bools Run.equals Run.binaryValue Run.binary Run.notValue Run.unary Run.literal Run.preAt Run.arrowAt Run.clockOf Run.sub Run.ifOf Run.eval Chart.atFirst Chart.firstTrue Chart.choose Chart.anew Chart.find Chart.keep Chart.turn Chart.firstKept Chart.turnsS Chart.startS Chart.founds Chart.kepts Chart.topOf Chart.cycle Chart.keptIn Chart.foundIn Chart.selectS Chart.selected
 finding G m t = foundIn G m t

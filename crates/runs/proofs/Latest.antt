@@ -6,7 +6,7 @@ use mathlib.Core.Option.{some}
 use mathlib.Core.Path.{_≡_, refl}
 use Rattle.pack.specs.Names.{Name}
 use Rattle.pack.specs.Syntax.{States}
-use Rattle.runs.specs.Chart.{Guards, choose, find, keep}
+use Rattle.runs.specs.Chart.{Guards, anew, choose, find, keep}
 use Rattle.runs.specs.Run.{previous}
 use Rattle.runs.specs.Words.{latest, wasActive}
 use Rattle.runs.proofs.Streams.{foundAt, keptAt}
@@ -32,5 +32,5 @@ module _ (G : Guards) (i : Name) (h : Bool) (ss : States) (A : ℕ → Bool) whe
       go false r = r
 
   pub found-latest : (t : ℕ) → foundAt G i h ss A t ≡ cond (not h && (A t && not (wasActive A t))) i (latest (previous A t) i chosenAt)
-  unfolding foundAt find
+  unfolding foundAt find anew
   found-latest t = rw (was-is t, state-latest t)

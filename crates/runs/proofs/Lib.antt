@@ -34,3 +34,4 @@ pub mod RunTables
 pub mod Nested
 pub mod Branches
 pub mod Owned
+pub mod Charts

@@ -10,7 +10,7 @@ use Rattle.pack.specs.Syntax.{Equation, Expr, Regions, States, Transition, eIf,
 use Rattle.pack.proofs.Tables.{eqName-refl}
 use Rattle.machines.specs.Lower.{held, isName, justEntered, namesOf, nextChain, orElse, stateRhs, transitionsOf}
 use Rattle.machines.specs.MadeNames.{activeVar, nextVar, stateVar}
-use Rattle.runs.specs.Chart.{Guards, Kept, choose, find, firstTrue, keep}
+use Rattle.runs.specs.Chart.{Guards, Kept, anew, choose, find, firstTrue, keep}
 use Rattle.runs.specs.Premises.{guardsS, guardsT}
 use Rattle.runs.specs.Run.{Clock, Run, Value, arrowAt, binary, binaryValue, bools, equals, eval, every, ifOf, literal, notValue, preAt, previous, unary, vBool, vEnum}
 use Rattle.runs.proofs.Accepting.{allTargets, validR, validS}
@@ -54,8 +54,8 @@ module _ (ns : List Name) where
       cond-case (λ n. member n ns ≡ true) (eqName f s) (firstTrue g ts f) (choose g rest f) (λ e. firstTrue-member g ts f (p .0) m) (λ e. r)
 
   find-member : (i : Name) (h a : Bool) (k : Kept) → member i ns ≡ true → member (k .state) ns ≡ true → member (find i h a k) ns ≡ true
-  unfolding find
-  find-member i h a k m n = cond-case (λ x. member x ns ≡ true) (not h && (a && not (k .was))) i (k .state) (λ e. m) (λ e. n)
+  unfolding find anew
+  find-member i h a k m n = cond-case (λ x. member x ns ≡ true) (anew h a k) i (k .state) (λ e. m) (λ e. n)
 
   kept-member : (G : Guards) (i : Name) (h : Bool) (ss : States) (A : ℕ → Bool) → member i ns ≡ true → validS ns ss ≡ true → (t : ℕ) → member ((keptAt G i h ss A t) .state) ns ≡ true
   unfolding keptAt keep
@@ -179,7 +179,7 @@ module _ {O : Type 0} (R : Run O) where
 
 -- an inactive region keeps what it finds
 frozen : (i : Name) (h a : Bool) (k : Kept) (X : Name → Name) → cond a (X (find i h a k)) (find i h a k) ≡ cond a (X (find i h a k)) (k .state)
-unfolding find
+unfolding find anew
 frozen i h true k X = refl
 frozen i true false k X = refl
 frozen i false false k X = refl
@@ -205,17 +205,17 @@ module _ {O : Type 0} (R : Run O) (N : ℕ) (G : Guards) (n : ℕ) (i : Name) (s
   top-next hn t lt e = hn t lt ∙ chain-at false every t lt e
 
   pub top-state : equal R N (stateVar n) (held n i) → equal R N (nextVar n) (nextChain (stateVar n) ss) → (t : ℕ) → t < N → StateIs false every t
-  unfolding keptAt keep foundAt find held eval previous preAt arrowAt
+  unfolding keptAt keep foundAt find anew held eval previous preAt arrowAt
   top-state hs hn zero lt = hs zero lt ∙ (rw (ks i mi))
   top-state hs hn (suc t) lt = hs (suc t) lt ∙ (rw (made .1) (top-next hn t (omega arith) (top-state hs hn t (omega arith))))
 
   zero-is : (h : Bool) (A : ℕ → Bool) → ((t : ℕ) → t < N → R .at (activeVar n) t ≡ some (vBool (A t))) → equal R N (stateVar n) (stateRhs n i h) → 0 < N → StateIs h A 0
-  unfolding keptAt foundAt find held eval previous preAt arrowAt stateRhs justEntered binary binaryValue bools literal
+  unfolding keptAt foundAt find anew held eval previous preAt arrowAt stateRhs justEntered binary binaryValue bools literal
   zero-is true A ha hs lt = hs zero lt ∙ (rw (ks i mi))
   zero-is false A ha hs lt = hs zero lt ∙ (rw (ks i mi, made .2, ha zero lt) (if-enum R (A zero && true) i i))
 
   suc-is : (h : Bool) (A : ℕ → Bool) → ((t : ℕ) → t < N → R .at (activeVar n) t ≡ some (vBool (A t))) → equal R N (stateVar n) (stateRhs n i h) → (t : ℕ) → suc t < N → NextIs h A t → StateIs h A (suc t)
-  unfolding keptAt keep foundAt find held eval previous preAt arrowAt stateRhs justEntered binary binaryValue bools literal unary notValue
+  unfolding keptAt keep foundAt find anew held eval previous preAt arrowAt stateRhs justEntered binary binaryValue bools literal unary notValue
   suc-is true A ha hs t lt e = hs (suc t) lt ∙ (rw (made .1) e)
   suc-is false A ha hs t lt e =
       hs (suc t) lt ∙ (rw (ks i mi, made .2, made .1, ha (suc t) lt, ha t (omega arith), e) (if-enum R (A (suc t) && not (A t)) i ((keptAt G i false ss A (suc t)) .state)))

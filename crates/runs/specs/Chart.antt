@@ -31,9 +31,13 @@ unfoldable pub choose : (Expr → Bool) → States → Name → Name
 choose g sNil f = f
 choose g (sCons s es ts rs rest) f = cond (eqName f s) (firstTrue g ts f) (choose g rest f)
 
--- found: the initial state where the region has no history, is active and wasn't a cycle ago; else the kept state
+-- a region begins anew where it has no history, is active and wasn't a cycle ago
+unfoldable pub anew : Bool → Bool → Kept → Bool
+anew history active k = not history && (active && not (k .was))
+
+-- found: the initial state where the region begins anew, else the kept state
 unfoldable pub find : Name → Bool → Bool → Kept → Name
-find initial history active k = cond (not history && (active && not (k .was))) initial (k .state)
+find initial history active k = cond (anew history active k) initial (k .state)
 
 -- an active region keeps what it chooses from the state found; an inactive one keeps what it had
 unfoldable pub keep : States → (Expr → Bool) → Bool → Name → Kept → Kept
