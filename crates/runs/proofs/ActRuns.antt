@@ -23,10 +23,9 @@ use Rattle.runs.specs.Premises.{ActPremises, portsPresent, present, star
 use Rattle.runs.specs.Run.{Clock, Run, agrees, clockOf, eval, sameClock, satisfies}
 use Rattle.runs.specs.Scopes.{Conditions, OutputGiven, OutputsGiven, choice, chosen, eqScope, givenBy, scopeClock, scopeIn}
 use Rattle.runs.proofs.Accepting.{actAccepted, allAssign, assigns, nonempty, outputsAssigned}
+use Rattle.runs.proofs.Booleans.{&&-true, or-split, ≡→T}
 use Rattle.runs.proofs.Choosing.{from-start, scope-same}
 use Rattle.runs.proofs.ClocksAlike.{eval-alike}
-use Rattle.runs.proofs.Prefixes.{&&-true, ≡→T}
-use Rattle.runs.proofs.RegionRuns.{or-split}
 
 pub satisfies-split : {O : Type 0} (R : Run O) (N : ℕ) (k l : List Equation) → satisfies R N (k ++ l) → satisfies R N k × satisfies R N l
 satisfies-split R N [] l h = (tt, h)

@@ -5,7 +5,7 @@ use mathlib.Core.Option.{Option, none, some}
 use mathlib.Core.Path.{_≡_, refl, sym, ap, subst, _∙_}
 use Rattle.pack.specs.Report.{Refusal}
 use Rattle.pack.specs.Syntax.{Activation, Enum, Equation, Node, Package, Port, ofActivation}
-use Rattle.machines.specs.Machines.{Made, nodeNamed, originOf, refusing, start}
+use Rattle.machines.specs.Machines.{Made, nodeNamed, originOf, start}
 use Rattle.activations.specs.Activations.{activateEach, into, madeActivations, owned, withoutActivations}
 use Rattle.activations.specs.Checks.{branchNames, checks, elseName}
 use Rattle.activations.specs.EmptyLeft.{leftlessIn}
@@ -14,6 +14,7 @@ use Rattle.activations.specs.Lower.{Lowered, actEquations, actLocals, lowered, 
 use Rattle.activations.specs.Refusals.{emptyLeft, unknownOwner}
 use Rattle.activations.specs.Sought.{expressions, found}
 use Rattle.activations.specs.Types.{sampleType, valueType, variables}
+use Rattle.activations.proofs.Joined.{activations-enums}
 use Rattle.runs.specs.Claim.{mayRead}
 use Rattle.runs.specs.Standing.{Block, activationsBefore}
 use Rattle.runs.proofs.Growing.{Grows, grown-extend, grows-further, grows-refusing, grows-same, refusing-not, unrefused}
@@ -79,20 +80,9 @@ each-append [] As k = refl
 each-append (A ∷ pre) As k = each-append pre As (owned A (nodeNamed (A .owner) (k .nodes)) k)
 
 -- the enums stay those of the package
-into-enums : (A : Activation) (n : Node) (l : Lowered) (k : Made) → (into A n l k) .enums ≡ k .enums
-unfolding into refusing
-into-enums A n (refuse r) k = refl
-into-enums A n (make ls es) k = refl
-
-owned-enums : (A : Activation) (n : Option Node) (k : Made) → (owned A n k) .enums ≡ k .enums
-unfolding owned refusing
-owned-enums A none k = refl
-owned-enums A (some n) k = into-enums A n (lowered (k .enums) A n) k
-
-each-enums : (As : List Activation) (k : Made) → (activateEach As k) .enums ≡ k .enums
-unfolding activateEach
-each-enums [] k = refl
-each-enums (A ∷ As) k = each-enums As (owned A (nodeNamed (A .owner) (k .nodes)) k) ∙ owned-enums A (nodeNamed (A .owner) (k .nodes)) k
+same-enums : (p : Package) (pre : List Activation) → activateEach pre (start p) .enums ≡ p .enums
+unfolding madeActivations start
+same-enums p pre = activations-enums (record { names = p .names; enums = p .enums; nodes = p .nodes; machines = p .machines; activations = pre; origins = p .origins })
 
 -- the activation `A`, which follows `pre`: its owner as it was then, and where its equations stand in the result
 pub record ActWritten (p : Package) (pre : List Activation) (A : Activation) : Type 0 where
@@ -121,8 +111,8 @@ owner-of A k h = go (nodeNamed (A .owner) (k .nodes)) refl h
     go none e q = absurd (refusing-not (unknownOwner (A .name) (A .owner)) k q)
     go (some n) e q = record { node = n; here = e }
 
-same-enums : (es fs : List Enum) (A : Activation) (n : Node) → es ≡ fs → (s : Lowering es A n) → hold fs (A .name) (variables n) (A .outputs) (found (expressions A) []) ≡ held (s .ports) (s .holders)
-same-enums es fs A n e s = ap (λ (x : List Enum). hold x (A .name) (variables n) (A .outputs) (found (expressions A) [])) (sym e) ∙ s .holding
+held-as : (es fs : List Enum) (A : Activation) (n : Node) → es ≡ fs → (s : Lowering es A n) → hold fs (A .name) (variables n) (A .outputs) (found (expressions A) []) ≡ held (s .ports) (s .holders)
+held-as es fs A n e s = ap (λ (x : List Enum). hold x (A .name) (variables n) (A .outputs) (found (expressions A) [])) (sym e) ∙ s .holding
 
 module _ (p : Package) (pre : List Activation) (A : Activation) where
   written-at : (k end : Made) → k ≡ activationsBefore p pre → k .enums ≡ p .enums → end ≡ madeActivations p → (n : Node) → nodeNamed (A .owner) (k .nodes) ≡ some n → (into A n (lowered (k .enums) A n) k) .refusals ≡ [] → Grows (into A n (lowered (k .enums) A n) k) end → ActWritten p pre A
@@ -132,7 +122,7 @@ module _ (p : Package) (pre : List Activation) (A : Activation) where
       record {
         owner = n;
         owns = subst (λ (x : Made). nodeNamed (A .owner) (x .nodes) ≡ some n) ek o;
-        pass = record { unrefused = s .unrefused; ports = s .ports; holders = s .holders; holding = same-enums (k .enums) (p .enums) A n en s; lefts = s .lefts };
+        pass = record { unrefused = s .unrefused; ports = s .ports; holders = s .holders; holding = held-as (k .enums) (p .enums) A n en s; lefts = s .lefts };
         place =
             subst (λ (x : Made). Block ofActivation (A .name) (A .owner) (branchNames (A .branches) ++ (elseName ∷ [])) (actEquations A (s .holders) (mayRead A n (s .ports))) x ((madeActivations p) .nodes) ((madeActivations p) .origins)) ek
             (subst (λ (x : Made). Block ofActivation (A .name) (A .owner) (branchNames (A .branches) ++ (elseName ∷ [])) (actEquations A (s .holders) (mayRead A n (s .ports))) k (x .nodes) (x .origins)) ee
@@ -152,4 +142,4 @@ act-written p none-refused pre A post e =
     let k : Made = activateEach pre (start p) in
     let k₁ : Made = owned A (nodeNamed (A .owner) (k .nodes)) k in
     let whole : activateEach (p .activations) (start p) ≡ activateEach post k₁ = ap (λ (x : List Activation). activateEach x (start p)) e ∙ each-append pre (A ∷ post) (start p) in
-    owned-at p pre A k (activateEach (p .activations) (start p)) refl (each-enums pre (start p)) refl (subst (λ (x : Made). Grows k₁ x) (sym whole) (grows-each post k₁)) none-refused
+    owned-at p pre A k (activateEach (p .activations) (start p)) refl (same-enums p pre) refl (subst (λ (x : Made). Grows k₁ x) (sym whole) (grows-each post k₁)) none-refused

@@ -5,7 +5,8 @@ use mathlib.Core.List.{List, [], _∷_}
 use mathlib.Core.Bool.{Bool, true, false, cond, not, _&&_, Bool·beq}
 use mathlib.Core.Option.{Option, none, some}
 use mathlib.Core.Path.{_≡_, refl, sym, ap, subst, _∙_}
-use lib.Dec.{T, eqb, eqb-refl, eqb→eq}
+use borrow.Author.Tests.{eq-eqb, eqb-false, eqb-true, ne-eqb, not-true}
+use lib.Dec.{eqb}
 use lib.ListN.{length}
 use Rattle.pack.specs.Names.{Name}
 use Rattle.pack.specs.Syntax.{Expr, eUnary, eVar, oNot}
@@ -18,31 +19,18 @@ use Rattle.activations.specs.Merges.{mergeFrom}
 use Rattle.runs.specs.Premises.{conditionsAre, present, startsWith}
 use Rattle.runs.specs.Run.{Clock, Run, Value, agrees, binary, binaryValue, bools, clockOf, eval, every, fits, ifValue, isBool, isPresent, notValue, sameClock, satisfies, sub, unary, vBool}
 use Rattle.runs.specs.Scopes.{Conditions, choice, eqScope}
+use Rattle.runs.proofs.Booleans.{&&-true, true-false}
 use Rattle.runs.proofs.ClocksAlike.{on-base}
-use Rattle.runs.proofs.Prefixes.{&&-true, starts-append, true-false, ≡→T}
+use Rattle.runs.proofs.Prefixes.{starts-append}
 
 -- a later branch is another scope
-eqb-less : (m n : ℕ) → n < m → eqb m n ≡ false
-eqb-less m n l = go (eqb m n) refl
-  where
-    go : (b : Bool) → eqb m n ≡ b → eqb m n ≡ false
-    go true e = let q : m ≡ n = eqb→eq m n (≡→T (eqb m n) e) in absurd (omega arith)
-    go false e = e
-
-eqb-more : (m n : ℕ) → m < n → eqb m n ≡ false
-eqb-more m n l = go (eqb m n) refl
-  where
-    go : (b : Bool) → eqb m n ≡ b → eqb m n ≡ false
-    go true e = let q : m ≡ n = eqb→eq m n (≡→T (eqb m n) e) in absurd (omega arith)
-    go false e = e
-
 later : (C : Conditions) (u k j : ℕ) (cs : List Expr) → j < k → eqScope (choice C u k cs) (branch j) ≡ false
 unfolding choice eqScope
 later C u k j [] l = refl
 later C u k j (c ∷ cs) l = go (C c u) (later C u (suc k) j cs (omega arith))
   where
     go : (b : Bool) → eqScope (choice C u (suc k) cs) (branch j) ≡ false → eqScope (cond b (branch k) (choice C u (suc k) cs)) (branch j) ≡ false
-    go true r = eqb-less k j l
+    go true r = ne-eqb k j (λ e. omega arith)
     go false r = r
 
 later′ : (C : Conditions) (u k j : ℕ) (cs : List Expr) → j < k → eqScope (branch j) (choice C u k cs) ≡ false
@@ -51,23 +39,12 @@ later′ C u k j [] l = refl
 later′ C u k j (c ∷ cs) l = go (C c u) (later′ C u (suc k) j cs (omega arith))
   where
     go : (b : Bool) → eqScope (branch j) (choice C u (suc k) cs) ≡ false → eqScope (branch j) (cond b (branch k) (choice C u (suc k) cs)) ≡ false
-    go true r = eqb-more j k l
+    go true r = ne-eqb j k (λ e. omega arith)
     go false r = r
-
-eqb-same : (k : ℕ) → eqb k k ≡ true
-eqb-same k = go (eqb k k) (eqb-refl k)
-  where
-    go : (b : Bool) → T b → b ≡ true
-    go true t = refl
-    go false t = absurd t
-
-eqScope-refl : (k : ℕ) → eqScope (branch k) (branch k) ≡ true
-unfolding eqScope
-eqScope-refl k = eqb-same k
 
 pub scope-same : (s : Scope) → eqScope s s ≡ true
 unfolding eqScope
-scope-same (branch k) = eqb-same k
+scope-same (branch k) = eq-eqb k k refl
 scope-same other = refl
 
 -- Booleans and cells
@@ -189,7 +166,7 @@ module _ {O : Type 0} (R : Run O) (N : ℕ) (a : Name) (free : (x : Name) → st
     step n k c cs Q clk fails p h f below t lt q = go (C c t) refl
       where
         here : (u : ℕ) → u < N → (b : Bool) → C c u ≡ b → Q u && C c u ≡ Q u && eqScope (cond (C c u) (branch k) (choice C u (suc k) cs)) (branch k)
-        here u l true e = rw (e, eqScope-refl k)
+        here u l true e = rw (e, scope-same (branch k))
         here u l false e = rw (e, later C u (suc k) k cs (omega arith))
 
         there : (u : ℕ) → u < N → (b : Bool) → C c u ≡ b
@@ -254,17 +231,9 @@ module _ {O : Type 0} (R : Run O) (N : ℕ) (a : Name) (free : (x : Name) → st
         both : (Q t ≡ true) × (not (C c t) ≡ true)
         both = &&-true (Q t) (not (C c t)) q
 
-        not-not : (b : Bool) → not b ≡ true → b ≡ false
-        not-not true e = sym e
-        not-not false e = refl
-
         go : (b : Bool) → eqb j k ≡ b → R .at (clockVar a j) t ≡ some (vBool false)
-        go true e =
-            rw (eqb→eq j k (≡→T (eqb j k) e)) (value t lt (both .0) ∙ ap (λ x. some (vBool x)) (not-not (C c t) (both .1)))
-        go false e = fails j (omega (arith, differ)) t lt (both .0)
-          where
-            differ : j ≡ k → ⊥
-            differ p = true-false {b = eqb j k} (subst (λ x. eqb j x ≡ true) p (eqb-same j)) e
+        go true e = rw (eqb-true j k e) (value t lt (both .0) ∙ ap (λ x. some (vBool x)) (not-true (C c t) (both .1)))
+        go false e = fails j (omega (arith, eqb-false j k e)) t lt (both .0)
 
     pub level : (cs : List Expr) (n k : ℕ) (c : Expr) (prior : Option Expr) (Q : ℕ → Bool) (clk : Clock)
         → present R N (clockVar a 0)
@@ -277,7 +246,7 @@ module _ {O : Type 0} (R : Run O) (N : ℕ) (a : Name) (free : (x : Name) → st
         → ((j : ℕ) → j < k → (t : ℕ) → t < N → Q t ≡ true → R .at (clockVar a j) t ≡ some (vBool false))
         → fits R N (mergeFrom a o k (c ∷ cs)) clk → sameClock N clk Q → suc k + length cs ≡ n
         → Claim n k (c ∷ cs) Q
-    unfolding mergeFrom flagEquations guardEquations eqn length
+    unfolding mergeFrom flagEquations guardEquations eqn
     level [] n k c prior Q clk b0 cd fl gd pr pf same fails ft s en =
         let clock = clock-is k c [] Q clk ft s in
         let value = value-is k c [] prior Q cd fl pr pf same in
@@ -298,7 +267,7 @@ module _ {O : Type 0} (R : Run O) (N : ℕ) (a : Name) (free : (x : Name) → st
     -- all branches, from an output that is present in every cycle
     pub from-start : (cs : List Expr) → (cs ≡ [] → ⊥) → present R N o → conditionsAre R N C cs → satisfies R N (flagEquations a none 0 cs) → satisfies R N (guardEquations a 1 (tailOf cs))
         → agrees R N (o ∷ []) (mergeFrom a o 0 cs) → Claim (length cs) 0 cs (λ t. true)
-    unfolding mergeFrom clockVar tailOf length
+    unfolding mergeFrom clockVar tailOf
     from-start [] ne po cd fl gd mg = absurd (ne refl)
     from-start (c ∷ cs) ne po cd fl gd mg =
         let b0 : present R N (clockVar a 0) = λ t lt. mg .0 .0 t lt ∙ po t lt in

@@ -1,4 +1,5 @@
 pub mod Accepting
+pub mod Booleans
 pub mod Prefixes
 pub mod ClocksAlike
 pub mod Streams

@@ -15,9 +15,10 @@ use Rattle.runs.specs.Premises.{MachinePremises, onEveryCycle, presents,
 use Rattle.runs.specs.Run.{Run, agrees, satisfies, vEnum}
 use Rattle.runs.specs.Words.{always, within}
 use Rattle.runs.proofs.Accepting.{accepted, coversAll, distinct, validS}
+use Rattle.runs.proofs.Booleans.{&&-true}
 use Rattle.runs.proofs.ClocksAlike.{on-base}
 use Rattle.runs.proofs.OutputRuns.{valueS-picks}
-use Rattle.runs.proofs.Prefixes.{&&-true, starts-append}
+use Rattle.runs.proofs.Prefixes.{starts-append}
 use Rattle.runs.proofs.RegionRuns.{found-member, isName-eval, known, top-state}
 use Rattle.runs.proofs.Streams.{chart, chartS, picked, topFound}
 use Rattle.runs.proofs.TreeRuns.{holds, holds-split, holdsAt, known-own, madeFree, numbered, tells, treeS}

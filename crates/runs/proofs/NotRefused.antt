@@ -13,7 +13,7 @@ use Rattle.machines.specs.Refusals.{duplicateState, unassigned, unknownInitial,
 use Rattle.activations.specs.Checks.{branchNames, branchless, checks, elseName, inBranches, inScopes, misuse, outputless, unlessAssigned}
 use Rattle.activations.specs.Refusals.{duplicateBranch, noBranches, outputUnassigned}
 use Rattle.runs.proofs.Accepting.{accepted, actAccepted, allAssign, allTargets, assigns, coversAll, distinct, nonempty, outputsAssigned, validR, validS}
-use Rattle.runs.proofs.Prefixes.{true-false}
+use Rattle.runs.proofs.Booleans.{and-both, true-false}
 
 abbrev IsNone : {A : Type 0} → Option A → Type 0
 IsNone none = Unit {0}
@@ -31,9 +31,6 @@ as-none : {A : Type 0} (f : A → Refusal) (a : Option A) → asRefusal f a ≡ 
 unfolding asRefusal
 as-none f none e = refl
 as-none f (some x) e = absurd (some-none (f x) e)
-
-and-both : (a b : Bool) → a ≡ true → b ≡ true → a && b ≡ true
-and-both a b p q = rw (p, q)
 
 -- no name stands twice
 not-again : (seen ns : List Name) → repeated seen ns ≡ none → (x : Name) → member x seen ≡ true → member x ns ≡ false

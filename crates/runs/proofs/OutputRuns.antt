@@ -17,8 +17,8 @@ use Rattle.runs.specs.Premises.{HasValue, sidesE, sidesR, sidesS}
 use Rattle.runs.specs.Run.{Run, Value, eval, every, vEnum}
 use Rattle.runs.specs.Words.{within}
 use Rattle.runs.proofs.Accepting.{validR, validS}
-use Rattle.runs.proofs.Prefixes.{&&-true, ≡→T}
-use Rattle.runs.proofs.RegionRuns.{found-member, isName-eval, known, or-split, orElse-eval, orElse-some}
+use Rattle.runs.proofs.Booleans.{&&-true, or-split, ≡→T}
+use Rattle.runs.proofs.RegionRuns.{found-member, isName-eval, known, orElse-eval, orElse-some}
 use Rattle.runs.proofs.Streams.{chartR, chartS, foundAt, pickR, pickS}
 use Rattle.runs.proofs.TreeRuns.{known-name, known-others, known-regions, known-rest, known-states, lengthR, lengthS, madeFree, numbered, validR-parts, validS-parts}
 

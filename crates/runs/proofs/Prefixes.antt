@@ -1,38 +1,20 @@
--- Laws of names, and names that begin with a prefix.
+-- Names that begin with a prefix.
 use mathlib.Core.List.{List, [], _∷_, _++_}
 use mathlib.Core.Bool.{Bool, true, false, not, _&&_, _||_}
-use mathlib.Core.Path.{_≡_, refl, sym, ap₂, subst, _∙_}
-use lib.Dec.{T, eqb, eqb-refl}
+use mathlib.Core.Path.{_≡_, refl, ap₂}
+use borrow.Author.Tests.{eq-eqb, not-true}
 use Rattle.pack.specs.Names.{Name, eqName, member}
 use Rattle.pack.proofs.Tables.{eqName-true}
 use Rattle.runs.specs.AsDrawn.{noneStarts}
 use Rattle.runs.specs.Premises.{startsWith}
+use Rattle.runs.proofs.Booleans.{&&-true, true-false}
 
-T→≡ : (b : Bool) → T b → b ≡ true
-T→≡ true h = refl
-T→≡ false h = absurd h
-
-pub ≡→T : (b : Bool) → b ≡ true → T b
-≡→T b e = subst T (sym e) tt
-
-pub &&-true : (a b : Bool) → a && b ≡ true → (a ≡ true) × (b ≡ true)
-&&-true true b e = (refl, e)
-&&-true false b e = absurd (subst T (sym e) tt)
-
--- what begins with a prefix is no member of a list of names that do not
 pub starts-append : (p s : Name) → startsWith p (p ++ s) ≡ true
 unfolding startsWith
 starts-append [] s = refl
-starts-append (x ∷ xs) s = ap₂ _&&_ (T→≡ (eqb x x) (eqb-refl x)) (starts-append xs s)
+starts-append (x ∷ xs) s = ap₂ _&&_ (eq-eqb x x refl) (starts-append xs s)
 
--- a test that is `true` in one place and `false` in the other
-pub true-false : {b : Bool} → b ≡ true → b ≡ false → ⊥
-true-false p q = subst T (sym p ∙ q) tt
-
-not-true : (b : Bool) → not b ≡ true → b ≡ false
-not-true true e = sym e
-not-true false e = refl
-
+-- what begins with a prefix is no member of a list of names that do not
 pub not-member : (p n : Name) (l : List Name) → startsWith p n ≡ true → noneStarts p l ≡ true → member n l ≡ false
 unfolding member noneStarts
 not-member p n [] s h = refl

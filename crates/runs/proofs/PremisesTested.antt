@@ -13,8 +13,9 @@ use Rattle.activations.specs.Unlast.{conditionsOf}
 use Rattle.runs.specs.AsDrawn.{noneStarts}
 use Rattle.runs.specs.Premises.{ActPremises, HasValue, MachinePremises, conditionsAre, guardsR, guardsS, guardsT, onEveryCycle, portsPresent, presents, sidesE, sidesR, sidesS}
 use Rattle.runs.specs.Run.{Run, Value, clockOf, eval, every, isPresent, vBool, vEnum, vOther}
-use Rattle.runs.proofs.Prefixes.{&&-true, not-member, ≡→T}
-use Rattle.runs.proofs.Tested.{three, up-to, upTo}
+use Rattle.runs.proofs.Booleans.{&&-true, three, ≡→T}
+use Rattle.runs.proofs.Prefixes.{not-member}
+use Rattle.runs.proofs.Tested.{up-to, upTo}
 
 -- truth values that the chart is fed: an expression's in the run
 unfoldable pub truth : Option (Value ℕ) → Bool

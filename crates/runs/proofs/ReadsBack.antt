@@ -3,13 +3,13 @@ use Prim.Native.Nat.{ℕ, _+_, _≤_, _<_}
 use native.Mathlib.Omega.{arith}
 use mathlib.Core.List.{List, [], _∷_, _++_}
 use mathlib.Core.Bool.{Bool, true, false, cond}
-use mathlib.Core.Path.{_≡_, refl, ap, _∙_}
+use mathlib.Core.Path.{_≡_, refl, sym, ap, subst, _∙_}
 use borrow.Author.Tests.{ltb-false}
 use lib.Dec.{ltb}
 use lib.ListN.{length, length-append}
 use Rattle.wire.specs.Bytes.{two}
 use Rattle.wire.specs.Lists.{All, Bytes}
-use Rattle.pack.specs.Legal.{Allowed, Each, FormedPackage, Legal, LegalName, completed}
+use Rattle.pack.specs.Legal.{Allowed, Each, FormedPackage, Fresh, Legal, LegalName, completed}
 use Rattle.pack.specs.Limits.{maxBytes}
 use Rattle.pack.specs.Names.{Name}
 use Rattle.pack.specs.Outcome.{answers, onPackage, reported, reports, sized, writes, written}
@@ -167,8 +167,31 @@ pub record Written (s b : List ℕ) (refusals : Package → List Refusal) (made 
   pub held : Package
   pub reads : read s ≡ whole held
   pub unrefused : refusals held ≡ []
-  pub bytes : encode (made held) ≡ b
   pub back : read b ≡ whole (completed (made held))
+
+-- a lowering, by what it refuses and makes of a package: all names are allowed, and numbers fit where what is written is not too long
+module _
+    (refusals : Package → List Refusal) (made : Package → Package)
+    (names : (p : Package) → made p .names ≡ p .names)
+    (fair : (p : Package) → Legal p → Fair (packageItems (made p)))
+    (formed : (p : Package) → Legal p → length (encode (made p)) ≤ maxBytes → FormedPackage (made p)) where
+  read-back : (s : List ℕ) (output report : ℕ) (b : List ℕ) → Bytes s → onPackage s (read s) (λ p. finished output report (refusals p) (made p)) ≡ writes b → Written s b refusals made
+  unfolding onPackage
+  read-back s output report b by e = go (read s) refl e
+    where
+      go : (r : Reading) → read s ≡ r → onPackage s r (λ p. finished output report (refusals p) (made p)) ≡ writes b → Written s b refusals made
+      go tooLong q h = let z : _≡_ {A = ℕ} 0 1 = cc in absurd (omega arith)
+      go endsEarly q h = let z : _≡_ {A = ℕ} 0 1 = cc in absurd (omega arith)
+      go (illegalAt o) q h = let z : _≡_ {A = ℕ} 0 1 = cc in absurd (omega arith)
+      go (deepAt o) q h = let z : _≡_ {A = ℕ} 0 1 = cc in absurd (omega arith)
+      go (bytesAfter o) q h = let z : _≡_ {A = ℕ} 0 1 = cc in absurd (omega arith)
+      go (whole p) q h =
+          let o = read-legal s by p q in
+          let f = finished-writes output report (refusals p) (made p) b h in
+          let w = written-fits output (made p) b (f .1) in
+          let fresh : Fresh [] (made p .names) = subst (λ (x : List Name). Fresh [] x) (sym (names p)) (o .fresh) in
+          let legal : All LegalName (made p .names) = subst (λ (x : List Name). All LegalName x) (sym (names p)) (o .names) in
+          record { held = p; reads = q; unrefused = f .0; back = written-reads output (made p) b fresh legal (fair p o) (formed p o (w .0)) (f .1) }
 
 abbrev pub lessMachines : Package → Package
 lessMachines p = withoutMachines p (madeMachines p)
@@ -177,33 +200,9 @@ abbrev pub lessActivations : Package → Package
 lessActivations p = withoutActivations p (madeActivations p)
 
 pub machines-read-back : (s : List ℕ) (output report : ℕ) (b : List ℕ) → Bytes s → lowerMachines s output report ≡ writes b → Written s b (λ p. madeMachines p .refusals) lessMachines
-unfolding lowerMachines onPackage machinesOf withoutMachines
-machines-read-back s output report b by e = go (read s) refl e
-  where
-    go : (r : Reading) → read s ≡ r → onPackage s r (machinesOf output report) ≡ writes b → Written s b (λ p. madeMachines p .refusals) lessMachines
-    go tooLong q h = let z : _≡_ {A = ℕ} 0 1 = cc in absurd (omega arith)
-    go endsEarly q h = let z : _≡_ {A = ℕ} 0 1 = cc in absurd (omega arith)
-    go (illegalAt o) q h = let z : _≡_ {A = ℕ} 0 1 = cc in absurd (omega arith)
-    go (deepAt o) q h = let z : _≡_ {A = ℕ} 0 1 = cc in absurd (omega arith)
-    go (bytesAfter o) q h = let z : _≡_ {A = ℕ} 0 1 = cc in absurd (omega arith)
-    go (whole p) q h =
-        let o = read-legal s by p q in
-        let f = finished-writes output report (madeMachines p .refusals) (withoutMachines p (madeMachines p)) b h in
-        let w = written-fits output (withoutMachines p (madeMachines p)) b (f .1) in
-        record { held = p; reads = q; unrefused = f .0; bytes = w .1; back = written-reads output (withoutMachines p (madeMachines p)) b (o .fresh) (o .names) (machines-fair p o) (machines-formed p o (w .0)) (f .1) }
+unfolding lowerMachines machinesOf withoutMachines
+machines-read-back s output report b by e = read-back (λ p. madeMachines p .refusals) lessMachines (λ p. refl) machines-fair machines-formed s output report b by e
 
 pub activations-read-back : (s : List ℕ) (output report : ℕ) (b : List ℕ) → Bytes s → lowerActivations s output report ≡ writes b → Written s b (λ p. madeActivations p .refusals) lessActivations
-unfolding lowerActivations onPackage activationsOf withoutActivations
-activations-read-back s output report b by e = go (read s) refl e
-  where
-    go : (r : Reading) → read s ≡ r → onPackage s r (activationsOf output report) ≡ writes b → Written s b (λ p. madeActivations p .refusals) lessActivations
-    go tooLong q h = let z : _≡_ {A = ℕ} 0 1 = cc in absurd (omega arith)
-    go endsEarly q h = let z : _≡_ {A = ℕ} 0 1 = cc in absurd (omega arith)
-    go (illegalAt o) q h = let z : _≡_ {A = ℕ} 0 1 = cc in absurd (omega arith)
-    go (deepAt o) q h = let z : _≡_ {A = ℕ} 0 1 = cc in absurd (omega arith)
-    go (bytesAfter o) q h = let z : _≡_ {A = ℕ} 0 1 = cc in absurd (omega arith)
-    go (whole p) q h =
-        let o = read-legal s by p q in
-        let f = finished-writes output report (madeActivations p .refusals) (withoutActivations p (madeActivations p)) b h in
-        let w = written-fits output (withoutActivations p (madeActivations p)) b (f .1) in
-        record { held = p; reads = q; unrefused = f .0; bytes = w .1; back = written-reads output (withoutActivations p (madeActivations p)) b (o .fresh) (o .names) (acts-fair p o) (acts-formed p o (w .0)) (f .1) }
+unfolding lowerActivations activationsOf withoutActivations
+activations-read-back s output report b by e = read-back (λ p. madeActivations p .refusals) lessActivations (λ p. refl) acts-fair acts-formed s output report b by e

@@ -14,25 +14,9 @@ use Rattle.runs.specs.Chart.{Guards, Kept, anew, choose, find, firstTrue
 use Rattle.runs.specs.Premises.{guardsS, guardsT}
 use Rattle.runs.specs.Run.{Clock, Run, Value, arrowAt, binary, binaryValue, bools, equals, eval, every, ifOf, literal, notValue, preAt, previous, unary, vBool, vEnum}
 use Rattle.runs.proofs.Accepting.{allTargets, validR, validS}
+use Rattle.runs.proofs.Booleans.{&&-true, cond-case, or-right, ≡→T}
 use Rattle.runs.proofs.ClocksAlike.{equal, if-some}
-use Rattle.runs.proofs.Prefixes.{&&-true, ≡→T}
 use Rattle.runs.proofs.Streams.{foundAt, keptAt}
-
--- Booleans
-
-pub &&-intro : (a b : Bool) → a ≡ true → b ≡ true → a && b ≡ true
-&&-intro a b p q = rw (p, q)
-
-pub or-right : (a b : Bool) → b ≡ true → a || b ≡ true
-or-right true b q = refl
-or-right false b q = q
-
-pub or-split : (a b : Bool) → a || b ≡ true → a ≡ false → b ≡ true
-or-split a b h e = rw e at h
-
-pub cond-case : {A : Type 0} (P : A → Type 0) (b : Bool) (x y : A) → (b ≡ true → P x) → (b ≡ false → P y) → P (cond b x y)
-cond-case P true x y f g = f refl
-cond-case P false x y f g = g refl
 
 -- The chart stays within the states of the region.
 module _ (ns : List Name) where

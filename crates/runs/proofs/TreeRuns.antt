@@ -17,15 +17,12 @@ use Rattle.runs.specs.Premises.{guardsR, guardsS}
 use Rattle.runs.specs.Run.{Run, binary, binaryValue, bools, eval, every, vBool, vEnum}
 use Rattle.runs.specs.Words.{within}
 use Rattle.runs.proofs.Accepting.{allTargets, validR, validS}
+use Rattle.runs.proofs.Booleans.{&&-true, or-left, or-right, or-split, ≡→T}
 use Rattle.runs.proofs.ClocksAlike.{equal}
-use Rattle.runs.proofs.Prefixes.{&&-true, ≡→T}
-use Rattle.runs.proofs.RegionRuns.{isName-eval, known, or-right, or-split, state-is}
+use Rattle.runs.proofs.RegionRuns.{isName-eval, known, state-is}
 use Rattle.runs.proofs.Streams.{chartR, chartS, foundAt}
 
 -- lists of names
-pub or-left : (a b : Bool) → a ≡ true → a || b ≡ true
-or-left a b p = rw p
-
 pub member-left : (x : Name) (k l : List Name) → member x k ≡ true → member x (k ++ l) ≡ true
 unfolding member
 member-left x [] l m = absurd (≡→T false m)
