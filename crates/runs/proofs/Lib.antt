@@ -18,7 +18,14 @@ pub mod Letters
 pub mod MachineRuns
 pub mod Proper
 pub mod ProperMade
+pub mod ProperDrawn
+pub mod ProperLasts
+pub mod ProperRewritten
+pub mod ProperHolders
+pub mod ProperScopes
 pub mod ProperActs
+pub mod ProperResolved
+pub mod ProperEquations
 pub mod ProperMachines
 pub mod ReadsBack
 pub mod ChartStreams

@@ -25,8 +25,9 @@ use Rattle.machines.specs.Call.{finished, lowerMachines, machinesOf}
 use Rattle.machines.specs.Machines.{madeMachines, start, withoutMachines}
 use Rattle.activations.specs.Activations.{madeActivations, withoutActivations}
 use Rattle.activations.specs.Call.{activationsOf, lowerActivations}
-use Rattle.runs.proofs.Proper.{Fair, activations-proper, drawings-proper, enums-fair, enums-proper, fairs, nodes-fair, nodes-formed, nodes-proper, origins-fair, origins-proper}
+use Rattle.runs.proofs.Proper.{Fair, enums-fair, enums-proper, fairs, nodes-fair, nodes-formed, nodes-proper, origins-fair, origins-proper}
 use Rattle.runs.proofs.ProperActs.{activate-each-proper}
+use Rattle.runs.proofs.ProperDrawn.{activations-proper, drawings-proper}
 use Rattle.runs.proofs.ProperMachines.{lower-each-proper}
 use Rattle.runs.proofs.ProperMade.{ProperMade, total}
 
