@@ -43,3 +43,4 @@ pub mod Nested
 pub mod Branches
 pub mod Owned
 pub mod Charts
+pub mod WholeNode

@@ -10,10 +10,13 @@ use Rattle.pack.specs.Syntax.{Drawing, Package, States, dCons, dNil, eConst, eV
 use Rattle.machines.specs.Checks.{allNamesS}
 use Rattle.machines.specs.MadeNames.{activeVar, nextVar, smPrefix, stateVar}
 use Rattle.machines.specs.Resolve.{asMachine}
+use Rattle.runs.specs.AsDrawn.{DrawnMachine, enumValues, noneStarts, valuesIn}
 use Rattle.runs.specs.Claim.{MachineRun}
+use Rattle.runs.specs.Premises.{MachinePremises, startsWith}
 use Rattle.runs.specs.Run.{Run, ifValue}
 use Rattle.runs.proofs.Computing.{machineBlock, machinePremises, machinesNumber, reading, satisfying, small, walking}
-use Rattle.runs.proofs.PremisesTested.{fed}
+use Rattle.runs.proofs.FromDrawn.{machine-drawn}
+use Rattle.runs.proofs.PremisesTested.{fed, machine-tested}
 use Rattle.runs.proofs.RunTables.{Column, cellAt, inStates, look, tableRun, truths}
 use Rattle.runs.proofs.Using.{MachineInstance, machine-instance}
 
@@ -75,6 +78,16 @@ without = record { only = refl; bytes = refl; reads = refl; answers = refl; walk
 
 pub without-runs : MachineRun (run P) 4 (fed (run P)) (asMachine (nested false) (states false))
 without-runs = machine-instance (held false) (nested false) (states false) 4 (run P) 4 without
+
+-- the same by the premises as they are drawn
+drawn : DrawnMachine (run P) 4 (fed (run P)) (held false) (asMachine (nested false) (states false))
+unfolding held nested states run tableRun allNamesS asMachine valuesIn enumValues noneStarts startsWith smPrefix machinePremises
+drawn =
+    let q : MachinePremises (run P) 4 (fed (run P)) (asMachine (nested false) (states false)) = machine-tested (run P) 4 (asMachine (nested false) (states false)) (λ x. refl) (without .premises) in
+    record { enums = λ x. refl; free = refl; base = q .base; guards = q .guards; sides = q .sides }
+
+pub drawn-premises : MachinePremises (run P) 4 (fed (run P)) (asMachine (nested false) (states false))
+drawn-premises = machine-drawn (run P) 4 (fed (run P)) (held false) (asMachine (nested false) (states false)) drawn
 
 with-history : MachineInstance (held true) (nested true) (states true) 4 (run Q) 4
 unfolding held nested states run table tableRun look cellAt truths inStates ifValue stateVar nextVar activeVar smPrefix decimal digits allNamesS asMachine small reading machinesNumber walking machinePremises satisfying machineBlock

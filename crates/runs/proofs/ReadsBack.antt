@@ -143,18 +143,19 @@ acts-formed p o h =
     let k = madeActivations p in let g = acts-proper p o in
     (nodes-formed (k .nodes) (g .nodes), o .formed .1, tt, g .formed (few (withoutActivations p k) h))
 
--- what is written is not too long, and nothing was refused
-pub written-fits : (room : ℕ) (p : Package) (b : List ℕ) → written room p ≡ writes b → (length (encode p) ≤ maxBytes) × (encode p ≡ b)
+-- what is written is not too long
+written-fits : (room : ℕ) (p : Package) (b : List ℕ) → written room p ≡ writes b → length (encode p) ≤ maxBytes
 unfolding written sized
 written-fits room p b e = go (shorts (packageItems p)) (ltb maxBytes (length (encode p))) (ltb room (length (encode p))) refl e
   where
-    go : (s t u : Bool) → ltb maxBytes (length (encode p)) ≡ t → cond s (cond t (answers 8 0) (cond u (answers 9 (length (encode p))) (writes (encode p)))) (answers 8 0) ≡ writes b → (length (encode p) ≤ maxBytes) × (encode p ≡ b)
+    go : (s t u : Bool) → ltb maxBytes (length (encode p)) ≡ t → cond s (cond t (answers 8 0) (cond u (answers 9 (length (encode p))) (writes (encode p)))) (answers 8 0) ≡ writes b → length (encode p) ≤ maxBytes
     go true true u h i = let z : _≡_ {A = ℕ} 0 1 = cc in absurd (omega arith)
     go true false true h i = let z : _≡_ {A = ℕ} 0 1 = cc in absurd (omega arith)
-    go true false false h i = let same : encode p ≡ b = cc in (ltb-false maxBytes (length (encode p)) h, same)
+    go true false false h i = ltb-false maxBytes (length (encode p)) h
     go false t u h i = let z : _≡_ {A = ℕ} 0 1 = cc in absurd (omega arith)
 
-pub finished-writes : (output report : ℕ) (rs : List Refusal) (p : Package) (b : List ℕ) → finished output report rs p ≡ writes b → (rs ≡ []) × (written output p ≡ writes b)
+-- and nothing was refused
+finished-writes : (output report : ℕ) (rs : List Refusal) (p : Package) (b : List ℕ) → finished output report rs p ≡ writes b → (rs ≡ []) × (written output p ≡ writes b)
 unfolding finished reported
 finished-writes output report [] p b e = (refl, e)
 finished-writes output report (r ∷ rs) p b e = go (ltb report (length (reportBytes (r ∷ rs)))) e
@@ -192,7 +193,7 @@ module _
           let w = written-fits output (made p) b (f .1) in
           let fresh : Fresh [] (made p .names) = subst (λ (x : List Name). Fresh [] x) (sym (names p)) (o .fresh) in
           let legal : All LegalName (made p .names) = subst (λ (x : List Name). All LegalName x) (sym (names p)) (o .names) in
-          record { held = p; reads = q; unrefused = f .0; back = written-reads output (made p) b fresh legal (fair p o) (formed p o (w .0)) (f .1) }
+          record { held = p; reads = q; unrefused = f .0; back = written-reads output (made p) b fresh legal (fair p o) (formed p o w) (f .1) }
 
 abbrev pub lessMachines : Package → Package
 lessMachines p = withoutMachines p (madeMachines p)

@@ -3,17 +3,19 @@ use Prim.Native.Nat.{ℕ}
 use mathlib.Core.List.{List, [], _∷_, _++_}
 use mathlib.Core.Bool.{true, false}
 use mathlib.Core.Option.{some}
-use mathlib.Core.Path.{_≡_, sym, ap, subst, _∙_}
+use mathlib.Core.Path.{_≡_, refl, sym, ap, subst, _∙_}
+use lib.ListN.{length, take}
 use Rattle.wire.specs.Lists.{Bytes}
 use Rattle.pack.specs.Limits.{maxBytes}
 use Rattle.pack.specs.Names.{Name, member}
-use Rattle.pack.specs.Outcome.{numberOf}
+use Rattle.pack.specs.Outcome.{Outcome, numberOf, outputOf, reportOf, valueOf}
 use Rattle.pack.specs.Read.{read, whole}
 use Rattle.pack.specs.Syntax.{Activation, Drawing, Equation, Node, Origin, Package, Port, States}
 use Rattle.pack.specs.Write.{encode}
 use Rattle.pack.proofs.WrittenBack.{small-bytes}
 use Rattle.machines.specs.Call.{lowerMachines}
 use Rattle.machines.specs.Checks.{allNamesS}
+use Rattle.machines.specs.Filled.{Answers}
 use Rattle.machines.specs.Machines.{madeMachines, nodeNamed}
 use Rattle.machines.specs.Resolve.{asMachine, resolvedStates, went}
 use Rattle.activations.specs.Activations.{madeActivations}
@@ -22,13 +24,14 @@ use Rattle.activations.specs.Holders.{held, hold}
 use Rattle.activations.specs.Sought.{expressions, found}
 use Rattle.activations.specs.Types.{variables}
 use Rattle.runs.specs.Chart.{Guards}
-use Rattle.runs.specs.Claim.{ActClaim, MachineClaim, MachineRun, mayRead}
+use Rattle.runs.specs.Claim.{ActClaim, ActivationsLowered, MachineClaim, MachineRun, MachinesLowered, mayRead}
 use Rattle.runs.specs.Premises.{ActPremises, MachinePremises}
 use Rattle.runs.specs.Run.{Run, satisfies}
 use Rattle.runs.specs.Scopes.{Conditions, OutputsGiven}
 use Rattle.runs.specs.Standing.{actStanding, activationsBefore, machineStanding, machinesBefore}
 use Rattle.runs.proofs.Computing.{actBlock, actPremises, activationsNumber, holding, machineBlock, machinePremises, machinesNumber, ownerOf, reading, satisfying, small, walking}
 use Rattle.runs.proofs.Demand.{demand-three}
+use Rattle.runs.proofs.InBuffers.{activation-bytes-run, machine-bytes-run}
 use Rattle.runs.proofs.PremisesTested.{act-tested, fed, machine-tested}
 use Rattle.runs.proofs.Tested.{satisfies-tested}
 
@@ -108,3 +111,24 @@ unfolding small reading activationsNumber ownerOf holding actPremises satisfying
 act-instance p A n ps hs R N i =
     act-used (encode p) maxBytes maxBytes (small-bytes (encode p) (i .bytes)) p (i .reads) (i .answers) [] A [] (i .only) n (i .owner) ps hs (i .holds) R N (fed R)
     (act-tested R N A (i .none) (i .premises)) (satisfies-tested R N (actStanding (activationsBefore p []) (madeActivations p .nodes) (madeActivations p .origins)) (i .satisfied))
+
+-- the same pack in a caller's buffers: what a call leaves there
+abbrev Left : Outcome → List ℕ → List ℕ
+Left x output = take (valueOf x) (outputOf x output)
+
+answers-of : (x : Outcome) (output report : List ℕ) → Answers x (numberOf x) (valueOf x) output (outputOf x output) report (reportOf x report)
+answers-of x output report = record { gives = record { number-is = refl; value-is = refl; output-is = refl }; report-is = refl }
+
+pub machine-in-buffers : (p : Package) (d : Drawing) (ss : States) (n : ℕ) (R : Run ℕ) (N : ℕ) → MachineInstance p d ss n R N → (output report : List ℕ) → length output ≡ maxBytes → length report ≡ maxBytes
+    → MachinesLowered (encode p) (Left (lowerMachines (encode p) (length output) (length report)) output)
+unfolding small machinesNumber
+machine-in-buffers p d ss n R N i output report o r =
+    let x = lowerMachines (encode p) (length output) (length report) in
+    machine-bytes-run (encode p) output (outputOf x output) report (reportOf x report) (numberOf x) (valueOf x) (small-bytes (encode p) (i .bytes)) (answers-of x output report) (rw (o, r) (i .answers))
+
+pub act-in-buffers : (p : Package) (A : Activation) (n : Node) (ps : List Port) (hs : List Equation) (R : Run ℕ) (N : ℕ) → ActInstance p A n ps hs R N → (output report : List ℕ) → length output ≡ maxBytes → length report ≡ maxBytes
+    → ActivationsLowered (encode p) (Left (lowerActivations (encode p) (length output) (length report)) output)
+unfolding small activationsNumber
+act-in-buffers p A n ps hs R N i output report o r =
+    let x = lowerActivations (encode p) (length output) (length report) in
+    activation-bytes-run (encode p) output (outputOf x output) report (reportOf x report) (numberOf x) (valueOf x) (small-bytes (encode p) (i .bytes)) (answers-of x output report) (rw (o, r) (i .answers))

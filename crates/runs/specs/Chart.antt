@@ -1,12 +1,13 @@
 -- The plain chart: an interpreter of a resolved machine, which is fed each guard's value in each cycle.
-use mathlib.Core.List.{List, [], _∷_, _++_}
-use mathlib.Core.Bool.{Bool, true, false, not, cond, _&&_}
-use mathlib.Core.Option.{Option, none}
 use Prim.Native.Nat.{ℕ, zero, suc, _+_}
+use mathlib.Core.List.{List, [], _∷_, _++_}
+use mathlib.Core.Bool.{Bool, true, false, cond, not, _&&_}
+use mathlib.Core.Option.{Option, none}
 use lib.ListN.{drop}
 use Rattle.pack.specs.Names.{Name, eqName}
 use Rattle.pack.specs.Syntax.{Expr, Machine, Regions, States, Transition, rCons, rNil, sCons, sNil}
 use Rattle.machines.specs.Lower.{coversS, ownValue, sizeR, sizeS}
+use Rattle.runs.specs.Run.{history}
 
 -- each guard's value in each cycle
 abbrev pub Guards : Type 0

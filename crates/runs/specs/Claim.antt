@@ -1,32 +1,31 @@
 -- Demand 3: every run of the equations that a lowering writes for a definition is a run of the plain chart, or of the chosen scopes.
-use mathlib.Core.Path.{_≡_}
-use mathlib.Core.List.{List, [], _∷_, _++_}
-use mathlib.Core.Option.{Option, none, some}
 use Prim.Native.Nat.{ℕ, suc, _<_}
+use mathlib.Core.List.{List, [], _∷_, _++_}
+use mathlib.Core.Option.{Option, some}
+use mathlib.Core.Path.{_≡_}
 use Rattle.wire.specs.Lists.{Bytes}
-use Rattle.pack.specs.Names.{Name}
-use Rattle.pack.specs.Syntax.{Activation, Drawing, Enum, Equation, Expr, Machine, Node, Package, Port, States, ofActivation}
 use Rattle.pack.specs.Forms.{nameAt}
-use Rattle.pack.specs.Read.{read, whole}
+use Rattle.pack.specs.Names.{Name}
 use Rattle.pack.specs.Outcome.{Outcome, numberOf, writes}
+use Rattle.pack.specs.Read.{read, whole}
+use Rattle.pack.specs.Syntax.{Activation, Drawing, Equation, Expr, Machine, Node, Package, Port, States, ofActivation}
+use Rattle.machines.specs.Call.{lowerMachines}
+use Rattle.machines.specs.Machines.{madeMachines, nodeNamed}
 use Rattle.machines.specs.MadeNames.{stateVar}
 use Rattle.machines.specs.Resolve.{asMachine, resolvedStates, went}
-use Rattle.machines.specs.Machines.{madeMachines}
-use Rattle.machines.specs.Call.{lowerMachines}
-use Rattle.activations.specs.Sought.{expressions, found}
-use Rattle.activations.specs.Types.{readable, variables}
+use Rattle.activations.specs.Activations.{madeActivations}
+use Rattle.activations.specs.Call.{lowerActivations}
+use Rattle.activations.specs.Checks.{branchNames, elseName}
 use Rattle.activations.specs.Holders.{held, hold}
 use Rattle.activations.specs.Lower.{actEquations}
-use Rattle.activations.specs.Activations.{madeActivations}
-use Rattle.activations.specs.Checks.{branchNames, elseName}
-use Rattle.activations.specs.Call.{lowerActivations}
-use Rattle.machines.specs.Machines.{nodeNamed}
-use Rattle.runs.specs.Run.{Run, Value, eval, every, satisfies, vEnum}
+use Rattle.activations.specs.Sought.{expressions, found}
+use Rattle.activations.specs.Types.{readable, variables}
 use Rattle.runs.specs.Chart.{Guards, foundIn, selected}
-use Rattle.runs.specs.Words.{Words}
-use Rattle.runs.specs.Scopes.{Conditions, OutputsGiven}
 use Rattle.runs.specs.Premises.{ActPremises, MachinePremises}
+use Rattle.runs.specs.Run.{Run, Value, eval, every, satisfies, vEnum}
+use Rattle.runs.specs.Scopes.{Conditions, OutputsGiven}
 use Rattle.runs.specs.Standing.{Block, Stands, actStanding, activationsBefore, machineStanding, machinesBefore}
+use Rattle.runs.specs.Words.{Words}
 
 -- in a cycle the regions from n on have these states
 abbrev pub StatesAre : {O : Type 0} → Run O → ℕ → ℕ → List Name → Type 0

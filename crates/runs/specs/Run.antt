@@ -1,11 +1,11 @@
--- Runs of equations on clocks.
-use mathlib.Core.Path.{_≡_}
-use mathlib.Core.List.{List, [], _∷_, _++_}
-use mathlib.Core.Bool.{Bool, true, false, not, cond, _&&_, _||_, xor, Bool·beq}
-use mathlib.Core.Option.{Option, none, some}
+-- Runs of equations on clocks: `->`, `pre`, `when` and `if` as Halbwachs and others (1991) have them, `merge` as Colaço, Pagano and Pouzet (2005).
 use Prim.Native.Nat.{ℕ, zero, suc, _<_}
+use mathlib.Core.List.{List, [], _∷_, _++_}
+use mathlib.Core.Bool.{Bool, true, false, cond, not, _&&_, _||_, xor, Bool·beq}
+use mathlib.Core.Option.{Option, none, some}
+use mathlib.Core.Path.{_≡_}
 use Rattle.pack.specs.Names.{Name, eqName}
-use Rattle.pack.specs.Syntax.{Ty, Lit, lBool, lInt, lFloat, lChar, UnOp, oNot, oNeg, BinOp, oAnd, oOr, oXor, oImplies, oEq, oNeq, oLt, oLe, oGt, oGe, oAdd, oSub, oMul, oDiv, oMod, oBitAnd, oBitOr, oBitXor, oShl, oShr, IterKind, Expr, eConst, eVar, eUnary, eBinary, eIf, ePre, eArrow, eCall, eField, eIndex, eTuple, eArray, eStruct, eCast, eWhen, eMerge, eIterate, Exprs, xNil, xCons, Equation}
+use Rattle.pack.specs.Syntax.{BinOp, Equation, Expr, Exprs, IterKind, Lit, Ty, UnOp, eArray, eArrow, eBinary, eCall, eCast, eConst, eField, eIf, eIndex, eIterate, eMerge, ePre, eStruct, eTuple, eUnary, eVar, eWhen, lBool, lChar, lFloat, lInt, oAdd, oAnd, oBitAnd, oBitOr, oBitXor, oDiv, oEq, oGe, oGt, oImplies, oLe, oLt, oMod, oMul, oNeg, oNeq, oNot, oOr, oShl, oShr, oSub, oXor, xCons, xNil}
 
 -- a truth value, the enum value of a name, or anything else
 pub data Value (O : Type 0) : Type 0 where
@@ -23,9 +23,9 @@ pub data Op : Type 0 where
   pStruct : Name → List Name → Op
   pCast : Ty → Op
 
--- A run: what the open operations, calls and iterates mean, which names are enum values, and for each variable and cycle a value or
--- absence. `select` is `if`: the usual one where all three operands have a value, and left open elsewhere, so that it may be strict or not.
--- A call gets, for each operand, its values in the cycles so far in which it is present.
+-- A run: for each variable and cycle a value or absence (`at`), which names are enum values, and what the papers leave open. An open
+-- operation is a partial function of its operands' values in that cycle; a call or an iterate one of their values so far, in the cycles
+-- of its clock. `if` is the usual one where all three operands have a value, and open elsewhere: it may be strict or not.
 pub record Run (O : Type 0) : Type 0 where
   pub op : Op → List (Value O) → Option (Value O)
   pub node : Name → List (List (Option (Value O))) → Option (Value O)
@@ -35,33 +35,38 @@ pub record Run (O : Type 0) : Type 0 where
   pub enums : Name → Bool
   pub at : Name → ℕ → Option (Value O)
 
+-- the cycles in which a variable or an expression is present
 abbrev pub Clock : Type 0
 Clock = ℕ → Bool
 
+-- the clock of every cycle
 abbrev pub every : Clock
 every t = true
 
--- the latest cycle before `t` in which the clock ticks
+-- the latest cycle before t in which the clock ticks
 unfoldable pub previous : Clock → ℕ → Option ℕ
 previous c zero = none
 previous c (suc t) = cond (c t) (some t) (previous c t)
 
 module _ {O : Type 0} where
+  -- a value, and not absence
   unfoldable pub isPresent : Option (Value O) → Bool
   isPresent none = false
   isPresent (some v) = true
 
+  -- the truth value b
   unfoldable pub isBool : Bool → Option (Value O) → Bool
   isBool b none = false
   isBool b (some (vBool c)) = Bool·beq b c
   isBool b (some (vEnum n)) = false
   isBool b (some (vOther x)) = false
 
-  -- the values of a stream in the cycles up to and with `t` in which the clock ticks
+  -- the values so far: those of a stream in the cycles up to and with t in which the clock ticks
   unfoldable pub history : Clock → (ℕ → Option (Value O)) → ℕ → List (Option (Value O))
   history c s zero = cond (c zero) (s zero ∷ []) []
   history c s (suc t) = history c s t ++ cond (c (suc t)) (s (suc t) ∷ []) []
 
+  -- one of two, by a truth value
   unfoldable pub ifValue : Option (Value O) → Option (Value O) → Option (Value O) → Option (Value O)
   ifValue none a b = none
   ifValue (some (vBool true)) a b = a
@@ -69,11 +74,13 @@ module _ {O : Type 0} where
   ifValue (some (vEnum n)) a b = none
   ifValue (some (vOther x)) a b = none
 
+  -- an operation of values: none where an operand has none
   unfoldable pub applyTo : (List (Value O) → Option (Value O)) → List (Option (Value O)) → Option (Value O)
   applyTo f [] = f []
   applyTo f (none ∷ l) = none
   applyTo f (some v ∷ l) = applyTo (λ vs. f (v ∷ vs)) l
 
+  -- the usual Boolean operators
   unfoldable pub bools : (Bool → Bool → Bool) → Value O → Value O → Option (Value O)
   bools f (vBool a) (vBool b) = some (vBool (f a b))
   bools f (vBool a) (vEnum n) = none
@@ -81,7 +88,7 @@ module _ {O : Type 0} where
   bools f (vEnum m) v = none
   bools f (vOther y) v = none
 
-  -- (in)equality: of enum values the usual one, else open
+  -- equality and inequality: of enum values the usual ones, else open
   unfoldable pub equals : (Bool → Bool) → Option (Value O) → Value O → Value O → Option (Value O)
   equals f other (vEnum m) (vEnum n) = some (vBool (f (eqName m n)))
   equals f other (vEnum m) (vBool b) = other
@@ -89,6 +96,7 @@ module _ {O : Type 0} where
   equals f other (vBool a) v = other
   equals f other (vOther y) v = other
 
+  -- operators of two operands, in the order of the source
   unfoldable pub binaryValue : (Op → List (Value O) → Option (Value O)) → BinOp → Value O → Value O → Option (Value O)
   binaryValue op oAnd a b = bools _&&_ a b
   binaryValue op oOr a b = bools _||_ a b
@@ -111,11 +119,13 @@ module _ {O : Type 0} where
   binaryValue op oShl a b = op (pBinary oShl) (a ∷ b ∷ [])
   binaryValue op oShr a b = op (pBinary oShr) (a ∷ b ∷ [])
 
+  -- of two operands that may have no value
   unfoldable pub binary : (Op → List (Value O) → Option (Value O)) → BinOp → Option (Value O) → Option (Value O) → Option (Value O)
   binary op o none b = none
   binary op o (some a) none = none
   binary op o (some a) (some b) = binaryValue op o a b
 
+  -- operators of one operand
   unfoldable pub notValue : Value O → Option (Value O)
   notValue (vBool b) = some (vBool (not b))
   notValue (vEnum n) = none
@@ -126,33 +136,37 @@ module _ {O : Type 0} where
   unary op oNot (some a) = notValue a
   unary op oNeg (some a) = op (pUnary oNeg) (a ∷ [])
 
+  -- a literal: numbers and characters are open
   unfoldable pub literal : (Op → List (Value O) → Option (Value O)) → Lit → Option (Value O)
   literal op (lBool b) = some (vBool b)
   literal op (lInt n) = op (pLit (lInt n)) []
   literal op (lFloat n) = op (pLit (lFloat n)) []
   literal op (lChar n) = op (pLit (lChar n)) []
 
-  -- a stream at the previous tick; the first stream at the first tick, then the second
+  -- `pre`: a stream at the previous tick, none at the first
   unfoldable pub preAt : Option ℕ → (ℕ → Option (Value O)) → Option (Value O)
   preAt none s = none
   preAt (some u) s = s u
 
+  -- `->`: the first stream at the first tick, then the second
   unfoldable pub arrowAt : Option ℕ → Option (Value O) → Option (Value O) → Option (Value O)
   arrowAt none a b = a
   arrowAt (some u) a b = b
 
-  -- the cycles in which a variable is present; those in which it is present and has the truth value `b`
+  -- the clock of a variable
   unfoldable pub clockOf : Run O → Name → Clock
   clockOf R x t = isPresent (R .at x t)
 
+  -- the clock on which a variable has the truth value b
   unfoldable pub sub : Run O → Name → Bool → Clock
   sub R x b t = isBool b (R .at x t)
 
+  -- `if`
   unfoldable pub ifOf : Run O → Option (Value O) → Option (Value O) → Option (Value O) → Option (Value O)
   ifOf R a b d = R .select a b d
 
--- What an expression gives in a cycle in which the clock that it stands on ticks: a value, or none where it has none.
--- Constants are on every clock. Off the clock nothing is said.
+-- The value of an expression in a cycle in which the clock that it stands on ticks, or none where it has none. Constants are on every
+-- clock. Off the clock nothing is said.
 unfoldable mutual
   pub eval : {O : Type 0} → Run O → Expr → Clock → ℕ → Option (Value O)
   eval R (eConst l) c t = literal (R .op) l
@@ -181,10 +195,12 @@ unfoldable mutual
   histories R xNil c t = []
   histories R (xCons a xs) c t = history c (λ u. eval R a c u) t ∷ histories R xs c t
 
--- An expression fits a clock in the cycles before `N`: it is present in just the cycles in which the clock ticks.
+-- two clocks agree in the cycles before N
 abbrev pub sameClock : ℕ → Clock → Clock → Type 0
 sameClock N c d = (t : ℕ) → t < N → c t ≡ d t
 
+-- An expression fits a clock: its parts are present in just the cycles in which their clock ticks. In the papers only such expressions
+-- have a meaning; without it the value of an absent operand would be anything.
 abbrev mutual
   pub fits : {O : Type 0} → Run O → ℕ → Expr → Clock → Type 0
   fits R N (eConst l) c = Unit {0}
@@ -209,13 +225,14 @@ abbrev mutual
   allFit R N xNil c = Unit {0}
   allFit R N (xCons a xs) c = fits R N a c × allFit R N xs c
 
--- The two sides of an equation agree in the cycles before `N`: they are present in the same ones, and there have one value.
--- (The lowerings write one left name only.)
+-- The two sides of an equation agree in the cycles before N: they are present in the same ones, and there have one value. Nothing is
+-- asked of several left names: the lowerings write one.
 abbrev pub agrees : {O : Type 0} → Run O → ℕ → List Name → Expr → Type 0
 agrees R N [] e = Unit {0}
 agrees R N (x ∷ []) e = fits R N e (clockOf R x) × ((t : ℕ) → t < N → R .at x t ≡ cond (clockOf R x t) (eval R e (clockOf R x) t) none)
 agrees R N (x ∷ y ∷ l) e = Unit {0}
 
+-- a run of N cycles satisfies equations
 abbrev pub satisfies : {O : Type 0} → Run O → ℕ → List Equation → Type 0
 satisfies R N [] = Unit {0}
 satisfies R N (e ∷ es) = agrees R N (e .lhs) (e .rhs) × satisfies R N es
