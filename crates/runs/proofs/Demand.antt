@@ -73,9 +73,9 @@ act-stands R N kind name owner branches es k nodes origins s sat =
     subst (λ (xs : List Equation). satisfies R N xs) (ap (λ (r : Option Origin). blockOf r nodes) (s .recorded) ∙ s .stands) sat
 
 -- one machine of a package
-machine-claim : (p : Package) → madeMachines p .refusals ≡ [] → (pre : List Drawing) (d : Drawing) (post : List Drawing) → p .machines ≡ pre ++ (d ∷ post) → MachineClaim p (completed (lessMachines p)) pre d
+machine-claim : (O : Type 0) (p : Package) → madeMachines p .refusals ≡ [] → (pre : List Drawing) (d : Drawing) (post : List Drawing) → p .machines ≡ pre ++ (d ∷ post) → MachineClaim O p (completed (lessMachines p)) pre d
 unfolding completed withNames withoutMachines
-machine-claim p unrefused pre d post e =
+machine-claim O p unrefused pre d post e =
     let w : MachineWritten p pre d = machine-written p unrefused pre d post e in
     let m = asMachine d (w .pass .states) in
     record {
@@ -83,13 +83,13 @@ machine-claim p unrefused pre d post e =
       count = w .pass .count;
       resolved = w .pass .walk;
       stands = w .place;
-      runs = λ {O} R N G P sat. machine-run R N G m (w .pass .unrefused) P (machine-stands R N (d .owner) m (machinesBefore p pre) (madeMachines p .nodes) (madeMachines p .origins) (w .place) sat);
+      runs = λ R N G P sat. machine-run R N G m (w .pass .unrefused) P (machine-stands R N (d .owner) m (machinesBefore p pre) (madeMachines p .nodes) (madeMachines p .origins) (w .place) sat);
     }
 
 -- one activation of a package
-act-claim : (p : Package) → madeActivations p .refusals ≡ [] → (pre : List Activation) (A : Activation) (post : List Activation) → p .activations ≡ pre ++ (A ∷ post) → ActClaim p (completed (lessActivations p)) pre A
+act-claim : (O : Type 0) (p : Package) → madeActivations p .refusals ≡ [] → (pre : List Activation) (A : Activation) (post : List Activation) → p .activations ≡ pre ++ (A ∷ post) → ActClaim O p (completed (lessActivations p)) pre A
 unfolding completed withNames withoutActivations
-act-claim p unrefused pre A post e =
+act-claim O p unrefused pre A post e =
     let w : ActWritten p pre A = act-written p unrefused pre A post e in
     let vars = mayRead A (w .owner) (w .pass .ports) in
     record {
@@ -99,15 +99,15 @@ act-claim p unrefused pre A post e =
       holders = w .pass .holders;
       holding = w .pass .holding;
       stands = w .place;
-      runs = λ {O} R N C P sat.
+      runs = λ R N C P sat.
           act-run R N C A (w .pass .holders) vars (not-refused-act A (w .pass .unrefused)) P
           (act-stands R N ofActivation (A .name) (A .owner) (branchNames (A .branches) ++ (elseName ∷ [])) (actEquations A (w .pass .holders) vars) (activationsBefore p pre) (madeActivations p .nodes) (madeActivations p .origins) (w .place) sat);
     }
 
 -- a pack of machines that is lowered to b
-pub machines-lowered : (s : List ℕ) (output report : ℕ) (b : List ℕ) → Bytes s → lowerMachines s output report ≡ writes b → MachinesLowered s b
+pub machines-lowered : (O : Type 0) (s : List ℕ) (output report : ℕ) (b : List ℕ) → Bytes s → lowerMachines s output report ≡ writes b → MachinesLowered O s b
 unfolding completed withNames withoutMachines
-machines-lowered s output report b by e =
+machines-lowered O s output report b by e =
     let w = machines-read-back s output report b by e in
     let p = w .held in
     record {
@@ -123,13 +123,13 @@ machines-lowered s output report b by e =
       machines = refl;
       activations = refl;
       origins = refl;
-      each = machine-claim p (w .unrefused);
+      each = machine-claim O p (w .unrefused);
     }
 
 -- a pack of activations that is lowered to b
-pub activations-lowered : (s : List ℕ) (output report : ℕ) (b : List ℕ) → Bytes s → lowerActivations s output report ≡ writes b → ActivationsLowered s b
+pub activations-lowered : (O : Type 0) (s : List ℕ) (output report : ℕ) (b : List ℕ) → Bytes s → lowerActivations s output report ≡ writes b → ActivationsLowered O s b
 unfolding completed withNames withoutActivations
-activations-lowered s output report b by e =
+activations-lowered O s output report b by e =
     let w = activations-read-back s output report b by e in
     let p = w .held in
     record {
@@ -145,17 +145,17 @@ activations-lowered s output report b by e =
       machines = refl;
       activations = refl;
       origins = refl;
-      each = act-claim p (w .unrefused);
+      each = act-claim O p (w .unrefused);
     }
 
 -- Demand 3, all of it: every pack, every two buffer lengths
 pub demand-three : DemandThree
 demand-three =
     record {
-      machines = λ s output report by e.
+      machines = λ O s output report by e.
           let z = machines-zero s output report e in
-          record { pack = z .pack; result = z .result; lowered = machines-lowered s output report (z .pack) by (z .result) };
-      activations = λ s output report by e.
+          record { pack = z .pack; result = z .result; lowered = machines-lowered O s output report (z .pack) by (z .result) };
+      activations = λ O s output report by e.
           let z = activations-zero s output report e in
-          record { pack = z .pack; result = z .result; lowered = activations-lowered s output report (z .pack) by (z .result) };
+          record { pack = z .pack; result = z .result; lowered = activations-lowered O s output report (z .pack) by (z .result) };
     }

@@ -22,15 +22,15 @@ written-bytes x number value output output' b g e =
     ap₂ (λ (n : ℕ) (l : List ℕ). take n l) v o ∙ take-at b (drop (length b) output) (length b) refl
 
 -- `lower_state_machines` returned 0: the bytes that it wrote are a pack whose every run is a run of the plain chart
-pub machine-bytes-run : (s output output' report report' : List ℕ) (number value : ℕ) → Bytes s → Answers (lowerMachines s (length output) (length report)) number value output output' report report' → number ≡ 0
-    → MachinesLowered s (take value output')
-machine-bytes-run s output output' report report' number value by a e =
+pub machine-bytes-run : (O : Type 0) (s output output' report report' : List ℕ) (number value : ℕ) → Bytes s → Answers (lowerMachines s (length output) (length report)) number value output output' report report' → number ≡ 0
+    → MachinesLowered O s (take value output')
+machine-bytes-run O s output output' report report' number value by a e =
     let z = machines-zero s (length output) (length report) (sym (a .gives .number-is) ∙ e) in
-    subst (λ (b : List ℕ). MachinesLowered s b) (sym (written-bytes (lowerMachines s (length output) (length report)) number value output output' (z .pack) (a .gives) (z .result))) (machines-lowered s (length output) (length report) (z .pack) by (z .result))
+    subst (λ (b : List ℕ). MachinesLowered O s b) (sym (written-bytes (lowerMachines s (length output) (length report)) number value output output' (z .pack) (a .gives) (z .result))) (machines-lowered O s (length output) (length report) (z .pack) by (z .result))
 
 -- `lower_activations` likewise
-pub activation-bytes-run : (s output output' report report' : List ℕ) (number value : ℕ) → Bytes s → Answers (lowerActivations s (length output) (length report)) number value output output' report report' → number ≡ 0
-    → ActivationsLowered s (take value output')
-activation-bytes-run s output output' report report' number value by a e =
+pub activation-bytes-run : (O : Type 0) (s output output' report report' : List ℕ) (number value : ℕ) → Bytes s → Answers (lowerActivations s (length output) (length report)) number value output output' report report' → number ≡ 0
+    → ActivationsLowered O s (take value output')
+activation-bytes-run O s output output' report report' number value by a e =
     let z = activations-zero s (length output) (length report) (sym (a .gives .number-is) ∙ e) in
-    subst (λ (b : List ℕ). ActivationsLowered s b) (sym (written-bytes (lowerActivations s (length output) (length report)) number value output output' (z .pack) (a .gives) (z .result))) (activations-lowered s (length output) (length report) (z .pack) by (z .result))
+    subst (λ (b : List ℕ). ActivationsLowered O s b) (sym (written-bytes (lowerActivations s (length output) (length report)) number value output output' (z .pack) (a .gives) (z .result))) (activations-lowered O s (length output) (length report) (z .pack) by (z .result))

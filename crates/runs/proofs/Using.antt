@@ -52,9 +52,9 @@ module _ (s : List ℕ) (output report : ℕ) (by : Bytes s) (p : Package) (r : 
   pub machine-used : numberOf (lowerMachines s output report) ≡ 0 → (pre : List Drawing) (d : Drawing) (post : List Drawing) → p .machines ≡ pre ++ (d ∷ post) → (ss : States) (n : ℕ) → resolvedStates (p .machines) d ≡ went ss n
       → {O : Type 0} (R : Run O) (N : ℕ) (G : Guards) → MachinePremises R N G (asMachine d ss) → satisfies R N (machineStanding (d .owner) (machinesBefore p pre) (madeMachines p .nodes) (madeMachines p .origins)) → MachineRun R N G (asMachine d ss)
   machine-used e pre d post at ss n w {O} R N G P sat =
-      let L = demand-three .machines s output report by e .lowered in
+      let L = demand-three .machines O s output report by e .lowered in
       let q : L .held ≡ p = same-package (L .held) p (sym (L .reads) ∙ r) in
-      let c : MachineClaim p (L .got) pre d = subst (λ (x : Package). x .machines ≡ pre ++ (d ∷ post) → MachineClaim x (L .got) pre d) q (λ h. L .each pre d post h) at in
+      let c : MachineClaim O p (L .got) pre d = subst (λ (x : Package). x .machines ≡ pre ++ (d ∷ post) → MachineClaim O x (L .got) pre d) q (λ h. L .each pre d post h) at in
       let k : c .states ≡ ss = same-states (c .states) ss (c .count) n (sym (c .resolved) ∙ w) in
       let nodes : madeMachines p .nodes ≡ L .got .nodes = ap (λ (x : Package). madeMachines x .nodes) (sym q) ∙ sym (L .nodes) in
       let origins : madeMachines p .origins ≡ L .got .origins = ap (λ (x : Package). madeMachines x .origins) (sym q) ∙ sym (L .origins) in
@@ -66,9 +66,9 @@ module _ (s : List ℕ) (output report : ℕ) (by : Bytes s) (p : Package) (r : 
       → (n : Node) → nodeNamed (A .owner) (activationsBefore p pre .nodes) ≡ some n → (ps : List Port) (hs : List Equation) → hold (p .enums) (A .name) (variables n) (A .outputs) (found (expressions A) []) ≡ held ps hs
       → {O : Type 0} (R : Run O) (N : ℕ) (C : Conditions) → ActPremises R N C A → satisfies R N (actStanding (activationsBefore p pre) (madeActivations p .nodes) (madeActivations p .origins)) → OutputsGiven R N C A (mayRead A n ps) (A .outputs)
   act-used e pre A post at n own ps hs holds {O} R N C P sat =
-      let L = demand-three .activations s output report by e .lowered in
+      let L = demand-three .activations O s output report by e .lowered in
       let q : L .held ≡ p = same-package (L .held) p (sym (L .reads) ∙ r) in
-      let c : ActClaim p (L .got) pre A = subst (λ (x : Package). x .activations ≡ pre ++ (A ∷ post) → ActClaim x (L .got) pre A) q (λ h. L .each pre A post h) at in
+      let c : ActClaim O p (L .got) pre A = subst (λ (x : Package). x .activations ≡ pre ++ (A ∷ post) → ActClaim O x (L .got) pre A) q (λ h. L .each pre A post h) at in
       let k : c .owner ≡ n = same-node (c .owner) n (sym (c .owns) ∙ own) in
       let h = subst (λ (x : Node). hold (p .enums) (A .name) (variables x) (A .outputs) (found (expressions A) []) ≡ held (c .ports) (c .holders)) k (c .holding) in
       let l : c .ports ≡ ps = same-held (c .ports) ps (c .holders) hs (sym h ∙ holds) in
@@ -120,15 +120,15 @@ answers-of : (x : Outcome) (output report : List ℕ) → Answers x (numberOf x)
 answers-of x output report = record { gives = record { number-is = refl; value-is = refl; output-is = refl }; report-is = refl }
 
 pub machine-in-buffers : (p : Package) (d : Drawing) (ss : States) (n : ℕ) (R : Run ℕ) (N : ℕ) → MachineInstance p d ss n R N → (output report : List ℕ) → length output ≡ maxBytes → length report ≡ maxBytes
-    → MachinesLowered (encode p) (Left (lowerMachines (encode p) (length output) (length report)) output)
+    → MachinesLowered ℕ (encode p) (Left (lowerMachines (encode p) (length output) (length report)) output)
 unfolding small machinesNumber
 machine-in-buffers p d ss n R N i output report o r =
     let x = lowerMachines (encode p) (length output) (length report) in
-    machine-bytes-run (encode p) output (outputOf x output) report (reportOf x report) (numberOf x) (valueOf x) (small-bytes (encode p) (i .bytes)) (answers-of x output report) (rw (o, r) (i .answers))
+    machine-bytes-run ℕ (encode p) output (outputOf x output) report (reportOf x report) (numberOf x) (valueOf x) (small-bytes (encode p) (i .bytes)) (answers-of x output report) (rw (o, r) (i .answers))
 
 pub act-in-buffers : (p : Package) (A : Activation) (n : Node) (ps : List Port) (hs : List Equation) (R : Run ℕ) (N : ℕ) → ActInstance p A n ps hs R N → (output report : List ℕ) → length output ≡ maxBytes → length report ≡ maxBytes
-    → ActivationsLowered (encode p) (Left (lowerActivations (encode p) (length output) (length report)) output)
+    → ActivationsLowered ℕ (encode p) (Left (lowerActivations (encode p) (length output) (length report)) output)
 unfolding small activationsNumber
 act-in-buffers p A n ps hs R N i output report o r =
     let x = lowerActivations (encode p) (length output) (length report) in
-    activation-bytes-run (encode p) output (outputOf x output) report (reportOf x report) (numberOf x) (valueOf x) (small-bytes (encode p) (i .bytes)) (answers-of x output report) (rw (o, r) (i .answers))
+    activation-bytes-run ℕ (encode p) output (outputOf x output) report (reportOf x report) (numberOf x) (valueOf x) (small-bytes (encode p) (i .bytes)) (answers-of x output report) (rw (o, r) (i .answers))

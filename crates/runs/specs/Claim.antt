@@ -49,30 +49,30 @@ pub record MachineRun {O : Type 0} (R : Run O) (N : ℕ) (G : Guards) (m : Machi
   pub outputs : OutputsAre R N G m (m .outputs)
 
 -- The machine d of the package p, after the machines `pre`, in the package `got`: its equations stand there, and every run of what stands
--- for it there is one.
-pub record MachineClaim (p got : Package) (pre : List Drawing) (d : Drawing) : Type 1 where
+-- for it there is one. O are the values of the run that are neither truth values nor enum values: the claim is for each O.
+pub record MachineClaim (O : Type 0) (p got : Package) (pre : List Drawing) (d : Drawing) : Type 0 where
   pub states : States
   pub count : ℕ
   pub resolved : resolvedStates (p .machines) d ≡ went states count
   pub stands : Stands (d .owner) (asMachine d states) (machinesBefore p pre) (got .nodes) (got .origins)
-  pub runs : {O : Type 0} (R : Run O) (N : ℕ) (G : Guards) → MachinePremises R N G (asMachine d states) → satisfies R N (machineStanding (d .owner) (machinesBefore p pre) (got .nodes) (got .origins)) → MachineRun R N G (asMachine d states)
+  pub runs : (R : Run O) (N : ℕ) (G : Guards) → MachinePremises R N G (asMachine d states) → satisfies R N (machineStanding (d .owner) (machinesBefore p pre) (got .nodes) (got .origins)) → MachineRun R N G (asMachine d states)
 
 -- what an activation's scopes may read: the owner's variables, the holders and the outputs
 unfoldable pub mayRead : Activation → Node → List Port → List Name
 mayRead A n holders = readable (variables n ++ holders) (A .outputs)
 
 -- The activation A, after the activations `pre`. Its owner is the node as it was then.
-pub record ActClaim (p got : Package) (pre : List Activation) (A : Activation) : Type 1 where
+pub record ActClaim (O : Type 0) (p got : Package) (pre : List Activation) (A : Activation) : Type 0 where
   pub owner : Node
   pub owns : nodeNamed (A .owner) (activationsBefore p pre .nodes) ≡ some owner
   pub ports : List Port
   pub holders : List Equation
   pub holding : hold (p .enums) (A .name) (variables owner) (A .outputs) (found (expressions A) []) ≡ held ports holders
   pub stands : Block ofActivation (A .name) (A .owner) (branchNames (A .branches) ++ (elseName ∷ [])) (actEquations A holders (mayRead A owner ports)) (activationsBefore p pre) (got .nodes) (got .origins)
-  pub runs : {O : Type 0} (R : Run O) (N : ℕ) (C : Conditions) → ActPremises R N C A → satisfies R N (actStanding (activationsBefore p pre) (got .nodes) (got .origins)) → OutputsGiven R N C A (mayRead A owner ports) (A .outputs)
+  pub runs : (R : Run O) (N : ℕ) (C : Conditions) → ActPremises R N C A → satisfies R N (actStanding (activationsBefore p pre) (got .nodes) (got .origins)) → OutputsGiven R N C A (mayRead A owner ports) (A .outputs)
 
 -- The pack s holds a package, and the pack b reads as the package that lowering its machines makes of it.
-pub record MachinesLowered (s b : List ℕ) : Type 1 where
+pub record MachinesLowered (O : Type 0) (s b : List ℕ) : Type 0 where
   pub held : Package
   pub reads : read s ≡ whole held
   pub unrefused : madeMachines held .refusals ≡ []
@@ -85,10 +85,10 @@ pub record MachinesLowered (s b : List ℕ) : Type 1 where
   pub machines : got .machines ≡ []
   pub activations : got .activations ≡ held .activations
   pub origins : got .origins ≡ madeMachines held .origins
-  pub each : (pre : List Drawing) (d : Drawing) (post : List Drawing) → held .machines ≡ pre ++ (d ∷ post) → MachineClaim held got pre d
+  pub each : (pre : List Drawing) (d : Drawing) (post : List Drawing) → held .machines ≡ pre ++ (d ∷ post) → MachineClaim O held got pre d
 
 -- the same of activations
-pub record ActivationsLowered (s b : List ℕ) : Type 1 where
+pub record ActivationsLowered (O : Type 0) (s b : List ℕ) : Type 0 where
   pub held : Package
   pub reads : read s ≡ whole held
   pub unrefused : madeActivations held .refusals ≡ []
@@ -101,20 +101,20 @@ pub record ActivationsLowered (s b : List ℕ) : Type 1 where
   pub machines : got .machines ≡ held .machines
   pub activations : got .activations ≡ []
   pub origins : got .origins ≡ madeActivations held .origins
-  pub each : (pre : List Activation) (A : Activation) (post : List Activation) → held .activations ≡ pre ++ (A ∷ post) → ActClaim held got pre A
+  pub each : (pre : List Activation) (A : Activation) (post : List Activation) → held .activations ≡ pre ++ (A ∷ post) → ActClaim O held got pre A
 
 -- a lowering answers 0, with the pack b
-pub record MachinesWritten (s : List ℕ) (x : Outcome) : Type 1 where
+pub record MachinesWritten (O : Type 0) (s : List ℕ) (x : Outcome) : Type 0 where
   pub pack : List ℕ
   pub result : x ≡ writes pack
-  pub lowered : MachinesLowered s pack
+  pub lowered : MachinesLowered O s pack
 
-pub record ActivationsWritten (s : List ℕ) (x : Outcome) : Type 1 where
+pub record ActivationsWritten (O : Type 0) (s : List ℕ) (x : Outcome) : Type 0 where
   pub pack : List ℕ
   pub result : x ≡ writes pack
-  pub lowered : ActivationsLowered s pack
+  pub lowered : ActivationsLowered O s pack
 
 -- THE CLAIM, for every pack and every two buffer lengths: a definition is accepted if its lowering returns 0 on the pack that holds it
 pub record DemandThree : Type 1 where
-  pub machines : (s : List ℕ) (output report : ℕ) → Bytes s → numberOf (lowerMachines s output report) ≡ 0 → MachinesWritten s (lowerMachines s output report)
-  pub activations : (s : List ℕ) (output report : ℕ) → Bytes s → numberOf (lowerActivations s output report) ≡ 0 → ActivationsWritten s (lowerActivations s output report)
+  pub machines : (O : Type 0) (s : List ℕ) (output report : ℕ) → Bytes s → numberOf (lowerMachines s output report) ≡ 0 → MachinesWritten O s (lowerMachines s output report)
+  pub activations : (O : Type 0) (s : List ℕ) (output report : ℕ) → Bytes s → numberOf (lowerActivations s output report) ≡ 0 → ActivationsWritten O s (lowerActivations s output report)

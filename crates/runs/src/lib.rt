@@ -1,1 +1,2 @@
-// Runs of lowered equations: definitions and theorems, no code.
+// Runs of what the lowerings write: definitions and theorems, and the calls with contracts that speak of runs.
+pub mod calls; // what a caller may rely on
