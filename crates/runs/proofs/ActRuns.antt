@@ -1,4 +1,4 @@
--- Demand 3 for activations.
+-- Demand 3 for activations: every output is what the scope of the cycle gives for it.
 use Prim.Native.Nat.{ℕ, suc, _<_}
 use native.Mathlib.Omega.{arith}
 use mathlib.Core.List.{List, [], _∷_, _++_}

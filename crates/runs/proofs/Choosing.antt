@@ -1,4 +1,4 @@
--- In every run of an activation's equations an output is what the first branch with a true condition gives, else the else scope.
+-- Flags, guards and merges: an output equals the value that the first branch with a true condition has for it, else the else scope's.
 use Prim.Native.Nat.{ℕ, zero, suc, _+_, _<_}
 use native.Mathlib.Omega.{arith}
 use mathlib.Core.List.{List, [], _∷_}
@@ -47,7 +47,7 @@ unfolding eqScope
 scope-same (branch k) = eq-eqb k k refl
 scope-same other = refl
 
--- Booleans and cells
+-- what a clock variable holds
 beq-true : (b : Bool) → Bool·beq true b ≡ b
 beq-true true = refl
 beq-true false = refl

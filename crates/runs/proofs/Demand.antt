@@ -1,4 +1,4 @@
--- Demand 3.
+-- Demand 3, proved: from the equations of a machine and of an activation to what the lowerings write.
 use Prim.Native.Nat.{ℕ, suc, _<_}
 use mathlib.Core.List.{List, [], _∷_, _++_}
 use mathlib.Core.Option.{Option, none, some}

@@ -15,10 +15,10 @@ use Rattle.machines.specs.Machines.{Made, extend, extendIn, nodeNamed, refusing
 use Rattle.runs.specs.Standing.{entry, slice}
 use Rattle.runs.proofs.NotRefused.{some-none}
 
-pub place-end : {A : Type 0} (l : List A) (x : A) (r : List A) → entry (length l) (l ++ (x ∷ r)) ≡ some x
+pub entry-end : {A : Type 0} (l : List A) (x : A) (r : List A) → entry (length l) (l ++ (x ∷ r)) ≡ some x
 unfolding entry
-place-end [] x r = refl
-place-end (y ∷ l) x r = place-end l x r
+entry-end [] x r = refl
+entry-end (y ∷ l) x r = entry-end l x r
 
 pub slice-block : (p e q : List Equation) → slice (length p) (length p + length e) ((p ++ e) ++ q) ≡ e
 unfolding slice
@@ -44,7 +44,7 @@ by-extend : (ls : List Port) (es : List Equation) (x : Node) → Extended x (ext
 unfolding extend
 by-extend ls es x = record { name = refl; later = es; equations = refl }
 
--- each node in its entry, and perhaps more nodes
+-- each node in its place, and perhaps more nodes
 abbrev pub grown : List Node → List Node → Type 0
 grown [] l = Unit {0}
 grown (x ∷ xs) [] = ⊥
@@ -114,13 +114,13 @@ node-extended o ls es (y ∷ l) x e = go (eqName (y .name) o) refl e (λ (q : no
     go true p q r = let s : y ≡ x = cc in rw (kept true p) (ap (λ (w : Node). some (extend ls es w)) s)
     go false p q r = rw p (r q)
 
--- a node at a entry
-pub place-grown : (k : List Node) (x : Node) (l : List Node) → grown (k ++ (x ∷ [])) l → (y : Node) × (entry (length k) l ≡ some y) × Extended x y
+-- a node at a place
+pub entry-grown : (k : List Node) (x : Node) (l : List Node) → grown (k ++ (x ∷ [])) l → (y : Node) × (entry (length k) l ≡ some y) × Extended x y
 unfolding entry
-place-grown [] x [] g = absurd g
-place-grown [] x (y ∷ l) g = (y, refl, g .0)
-place-grown (z ∷ k) x [] g = absurd g
-place-grown (z ∷ k) x (y ∷ l) g = place-grown k x l (g .1)
+entry-grown [] x [] g = absurd g
+entry-grown [] x (y ∷ l) g = (y, refl, g .0)
+entry-grown (z ∷ k) x [] g = absurd g
+entry-grown (z ∷ k) x (y ∷ l) g = entry-grown k x l (g .1)
 
 -- all that has been made
 pub record Grows (k l : Made) : Type 0 where

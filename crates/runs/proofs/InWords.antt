@@ -1,4 +1,4 @@
--- The demand's own words, for all regions of a machine.
+-- What the chart finds is what the demand's own sentence says, for all regions of a machine.
 use Prim.Native.Nat.{ℕ, suc, _+_, _<_}
 use native.Mathlib.Omega.{arith}
 use mathlib.Core.List.{_∷_}

@@ -1,5 +1,4 @@
--- The demand's own words: the state found is the one chosen in the latest earlier active cycle, or the initial state if there is none, or if
--- the region keeps no history, is active now and was not a cycle ago.
+-- The demand's own sentence for one region: what is found goes by the latest earlier active cycle.
 use Prim.Native.Nat.{ℕ, zero, suc}
 use mathlib.Core.Bool.{Bool, true, false, cond, not, _&&_}
 use mathlib.Core.Option.{some}

@@ -14,7 +14,7 @@ use Rattle.machines.specs.Machines.{Judged, Made, accept, checked, extend, exte
 use Rattle.machines.specs.Refusals.{unknownOwner}
 use Rattle.machines.specs.Resolve.{Walk, asMachine, resolvedStates, stop, went}
 use Rattle.runs.specs.Standing.{Block, OwnNode, Stands, entry, equationsFrom, equationsNamed, machinesBefore, slice}
-use Rattle.runs.proofs.Growing.{Grows, grown-append, grown-extend, grows-further, grows-refusing, grows-same, node-extended, node-grown, node-name, place-end, place-grown, refusing-not, slice-block, unrefused}
+use Rattle.runs.proofs.Growing.{Grows, grown-append, grown-extend, grows-further, grows-refusing, grows-same, node-extended, node-grown, node-name, entry-end, entry-grown, refusing-not, slice-block, unrefused}
 
 -- a block that has just been added stands in everything that is made afterwards
 pub block : (kind : OriginKind) (name owner : Name) (branches : List Name) (ls : List Port) (es : List Equation) (k k₁ l : Made) (n : Node) → nodeNamed owner (k .nodes) ≡ some n
@@ -30,7 +30,7 @@ block kind name owner branches ls es k k₁ l n e p q g =
       recorded =
           ap (λ (os : List Origin). entry (length (k .origins)) os)
           (g .origins .1 ∙ (ap (λ (os : List Origin). os ++ g .origins .0) q ∙ append-assoc (k .origins) (r ∷ []) (g .origins .0)))
-          ∙ place-end (k .origins) r (g .origins .0);
+          ∙ entry-end (k .origins) r (g .origins .0);
       names-node = is;
       of-kind = refl;
       of-name = refl;
@@ -101,7 +101,7 @@ passed all d k e = go (resolvedStates all d) refl e
 own-node : (m : Machine) (k l : Made) → Grows (standalone m k) l → OwnNode m k (l .nodes)
 unfolding standalone nodeFrom
 own-node m k l g =
-    let p = place-grown (k .nodes) (nodeFrom m) (l .nodes) (g .nodes) in
+    let p = entry-grown (k .nodes) (nodeFrom m) (l .nodes) (g .nodes) in
     record {
       node = p .0;
       stays = p .1;

@@ -1,4 +1,4 @@
--- A definition that is not refused passes the tests of `Accept`.
+-- A definition that is not refused passes the tests of `Accepting`.
 use mathlib.Core.List.{List, [], _∷_}
 use mathlib.Core.Bool.{Bool, true, false, cond, not, _&&_, _||_}
 use mathlib.Core.Option.{Option, none, some}

@@ -1,4 +1,4 @@
--- Each output equals the right side that the chart selects.
+-- Each output equals the right side that the states pick.
 use Prim.Native.Nat.{ℕ, suc, _+_, _<_}
 use native.Mathlib.Omega.{arith}
 use mathlib.Core.List.{List, [], _∷_, _++_}

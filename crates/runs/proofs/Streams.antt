@@ -1,4 +1,4 @@
--- The plain chart: for each region, the state that is found in each cycle.
+-- The plain chart region by region, as streams: what is kept before each cycle, and found in it.
 use Prim.Native.Nat.{ℕ, zero, suc}
 use mathlib.Core.List.{List, [], _∷_, _++_}
 use mathlib.Core.Bool.{Bool, false, cond}
@@ -9,7 +9,7 @@ use Rattle.machines.specs.Lower.{coversS, ownValue}
 use Rattle.runs.specs.Chart.{Guards, Kept, find, keep}
 use Rattle.runs.specs.Words.{always, within}
 
--- a region with this initial state, history and states, active in the cycles `A`
+-- a region with this initial state, history and states, active in the cycles A
 unfoldable pub keptAt : Guards → Name → Bool → States → (ℕ → Bool) → ℕ → Kept
 keptAt G i h ss A zero = record { state = i; was = false }
 keptAt G i h ss A (suc t) =

@@ -1,4 +1,4 @@
--- All regions of a machine, and its outputs.
+-- All regions of a machine: their state variables are the states found.
 use Prim.Native.Nat.{ℕ, suc, _+_, _<_}
 use native.Mathlib.Omega.{arith}
 use mathlib.Core.List.{List, [], _∷_, _++_}
