@@ -29,6 +29,7 @@ enumValues (e ∷ es) = e .variants ++ enumValues es
 unfoldable pub valuesIn : Package → Machine → List Name
 valuesIn p m = enumValues (p .enums) ++ allNamesS (m .states)
 
+-- of a run of the machine m of the package p; what else is asked is as in Premises
 pub record DrawnMachine {O : Type 0} (R : Run O) (N : ℕ) (G : Guards) (p : Package) (m : Machine) : Type 0 where
   pub enums : (x : Name) → R .enums x ≡ member x (valuesIn p m)
   pub free : noneStarts smPrefix (valuesIn p m) ≡ true
@@ -36,6 +37,7 @@ pub record DrawnMachine {O : Type 0} (R : Run O) (N : ℕ) (G : Guards) (p : Pac
   pub guards : guardsS R N G (m .states)
   pub sides : sidesS R N (m .states)
 
+-- of a run of the activation A of the package p
 pub record DrawnAct {O : Type 0} (R : Run O) (N : ℕ) (C : Conditions) (p : Package) (A : Activation) : Type 0 where
   pub enums : (x : Name) → R .enums x ≡ member x (enumValues (p .enums))
   pub free : noneStarts actPrefix (enumValues (p .enums)) ≡ true

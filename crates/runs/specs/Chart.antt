@@ -49,6 +49,7 @@ pub record Turn : Type 0 where
   pub found : Name
   pub kept : Kept
 
+-- of a region with this initial state, history and states, by what is kept for it
 unfoldable pub turn : (Expr → Bool) → Bool → Name → Bool → States → Kept → Turn
 turn g active i h ss k = record { found = find i h active k; kept = keep ss g active (find i h active k) k }
 
@@ -80,10 +81,12 @@ unfoldable mutual
   startR rNil = []
   startR (rCons i h ss rest) = atFirst i ∷ (startS ss ++ startR rest)
 
+-- the states found
 unfoldable pub founds : List Turn → List Name
 founds [] = []
 founds (x ∷ xs) = x .found ∷ founds xs
 
+-- what is kept then
 unfoldable pub kepts : List Turn → List Kept
 kepts [] = []
 kepts (x ∷ xs) = x .kept ∷ kepts xs

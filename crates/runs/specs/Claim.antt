@@ -103,12 +103,13 @@ pub record ActivationsLowered (O : Type 0) (s b : List ℕ) : Type 0 where
   pub origins : got .origins ≡ madeActivations held .origins
   pub each : (pre : List Activation) (A : Activation) (post : List Activation) → held .activations ≡ pre ++ (A ∷ post) → ActClaim O held got pre A
 
--- a lowering answers 0, with the pack b
+-- the outcome x writes a pack, which is that of the machines lowered
 pub record MachinesWritten (O : Type 0) (s : List ℕ) (x : Outcome) : Type 0 where
   pub pack : List ℕ
   pub result : x ≡ writes pack
   pub lowered : MachinesLowered O s pack
 
+-- the same of activations
 pub record ActivationsWritten (O : Type 0) (s : List ℕ) (x : Outcome) : Type 0 where
   pub pack : List ℕ
   pub result : x ≡ writes pack

@@ -27,11 +27,12 @@ startsWith (x ∷ xs) (y ∷ ys) = eqb x y && startsWith xs ys
 abbrev pub present : {O : Type 0} → Run O → ℕ → Name → Type 0
 present R N x = (t : ℕ) → t < N → clockOf R x t ≡ true
 
--- so are all left names of an equation, of equations
+-- so are all left names of an equation
 abbrev pub presents : {O : Type 0} → Run O → ℕ → List Name → Type 0
 presents R N [] = Unit {0}
 presents R N (x ∷ xs) = present R N x × presents R N xs
 
+-- so is what equations define
 abbrev pub onEveryCycle : {O : Type 0} → Run O → ℕ → List Equation → Type 0
 onEveryCycle R N [] = Unit {0}
 onEveryCycle R N (e ∷ es) = presents R N (e .lhs) × onEveryCycle R N es
@@ -46,6 +47,7 @@ abbrev pub guardsT : {O : Type 0} → Run O → ℕ → Guards → List Transiti
 guardsT R N G [] = Unit {0}
 guardsT R N G (x ∷ ts) = ((t : ℕ) → t < N → eval R (x .guard) every t ≡ some (vBool (G (x .guard) t))) × guardsT R N G ts
 
+-- those of all states and regions
 abbrev mutual
   pub guardsS : {O : Type 0} → Run O → ℕ → Guards → States → Type 0
   guardsS R N G sNil = Unit {0}
@@ -69,6 +71,7 @@ abbrev pub sidesE : {O : Type 0} → Run O → ℕ → List Equation → Type 0
 sidesE R N [] = Unit {0}
 sidesE R N (e ∷ es) = ((t : ℕ) → t < N → HasValue R t (e .rhs)) × sidesE R N es
 
+-- those of all states and regions
 abbrev mutual
   pub sidesS : {O : Type 0} → Run O → ℕ → States → Type 0
   sidesS R N sNil = Unit {0}

@@ -38,6 +38,7 @@ blockOf (some r) ns = slice (r .first) (r .after) (equationsNamed (r .node) ns)
 unfoldable pub machinesBefore : Package → List Drawing → Made
 machinesBefore p pre = lowerEach (p .machines) pre (start p)
 
+-- the same of activations
 unfoldable pub activationsBefore : Package → List Activation → Made
 activationsBefore p pre = activateEach pre (start p)
 
