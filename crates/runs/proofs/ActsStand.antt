@@ -74,6 +74,11 @@ grows-each (A ∷ As) k =
     grows-further k (owned A (nodeNamed (A .owner) (k .nodes)) k) (activateEach As (owned A (nodeNamed (A .owner) (k .nodes)) k))
     (grows-owned A (nodeNamed (A .owner) (k .nodes)) k) (grows-each As (owned A (nodeNamed (A .owner) (k .nodes)) k))
 
+-- all activations of a package only add to it
+pub acts-grow : (p : Package) → Grows (start p) (madeActivations p)
+unfolding madeActivations
+acts-grow p = grows-each (p .activations) (start p)
+
 each-append : (pre As : List Activation) (k : Made) → activateEach (pre ++ As) k ≡ activateEach As (activateEach pre k)
 unfolding activateEach
 each-append [] As k = refl

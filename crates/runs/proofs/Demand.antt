@@ -22,13 +22,13 @@ use Rattle.runs.specs.Chart.{Guards}
 use Rattle.runs.specs.Claim.{ActClaim, ActivationsLowered, DemandThree, MachineClaim, MachineRun, MachinesLowered, OutputsAre, Picks, StatesAre, mayRead}
 use Rattle.runs.specs.Premises.{MachinePremises}
 use Rattle.runs.specs.Run.{Run, satisfies}
-use Rattle.runs.specs.Standing.{Block, Stands, actStanding, activationsBefore, blockOf, equationsFrom, machineStanding, machinesBefore}
+use Rattle.runs.specs.Standing.{Block, Stands, actStanding, activationsBefore, equationsFrom, machineStanding, machinesBefore}
 use Rattle.runs.proofs.ActRuns.{act-run, satisfies-split}
 use Rattle.runs.proofs.ActsStand.{ActWritten, act-written}
 use Rattle.runs.proofs.ChartStreams.{atEach, found-is}
 use Rattle.runs.proofs.InWords.{in-words}
 use Rattle.runs.proofs.MachineRuns.{RunIsChart, outputsPicked, run-is-chart}
-use Rattle.runs.proofs.MachinesStand.{MachineWritten, machine-written}
+use Rattle.runs.proofs.MachinesStand.{MachineWritten, block-stands, machine-written}
 use Rattle.runs.proofs.NotRefused.{not-refused, not-refused-act}
 use Rattle.runs.proofs.ReadsBack.{activations-read-back, lessActivations, lessMachines, machines-read-back}
 use Rattle.runs.proofs.Selecting.{picked-is}
@@ -60,17 +60,17 @@ machine-run R N G m ok P sat =
 -- what stands for a machine begins with its equations
 machine-stands : {O : Type 0} (R : Run O) (N : ℕ) (o : Option Name) (m : Machine) (k : Made) (nodes : List Node) (origins : List Origin) → Stands o m k nodes origins
     → satisfies R N (machineStanding o k nodes origins) → satisfies R N (equationsOf m)
-unfolding machineStanding blockOf equationsFrom
+unfolding machineStanding equationsFrom
 machine-stands R N none m k nodes origins s sat =
     satisfies-split R N (equationsOf m) (s .later) (subst (λ (es : List Equation). satisfies R N es) (ap equationsFrom (s .stays) ∙ s .stands) sat) .0
 machine-stands R N (some o) m k nodes origins s sat =
-    subst (λ (es : List Equation). satisfies R N es) (ap (λ (r : Option Origin). blockOf r nodes) (s .recorded) ∙ s .stands) sat
+    subst (λ (es : List Equation). satisfies R N es) (block-stands s) sat
 
 act-stands : {O : Type 0} (R : Run O) (N : ℕ) (kind : OriginKind) (name owner : Name) (branches : List Name) (es : List Equation) (k : Made) (nodes : List Node) (origins : List Origin) → Block kind name owner branches es k nodes origins
     → satisfies R N (actStanding k nodes origins) → satisfies R N es
-unfolding actStanding blockOf
+unfolding actStanding
 act-stands R N kind name owner branches es k nodes origins s sat =
-    subst (λ (xs : List Equation). satisfies R N xs) (ap (λ (r : Option Origin). blockOf r nodes) (s .recorded) ∙ s .stands) sat
+    subst (λ (xs : List Equation). satisfies R N xs) (block-stands s) sat
 
 -- one machine of a package
 machine-claim : (O : Type 0) (p : Package) → madeMachines p .refusals ≡ [] → (pre : List Drawing) (d : Drawing) (post : List Drawing) → p .machines ≡ pre ++ (d ∷ post) → MachineClaim O p (completed (lessMachines p)) pre d

@@ -34,6 +34,7 @@ pub mod ReadsBack
 pub mod Zero
 pub mod Demand
 pub mod FromDrawn
+pub mod BothLowered
 pub mod InBuffers
 pub mod Tested
 pub mod PremisesTested

@@ -1,9 +1,10 @@
 -- Where the equations of a package's machines stand in the result.
 use Prim.Native.Nat.{ℕ, _+_}
+use native.Mathlib.Omega.{arith}
 use mathlib.Core.List.{List, [], _∷_, _++_, append-assoc, append-nil}
 use mathlib.Core.Option.{Option, none, some}
 use mathlib.Core.Path.{_≡_, refl, sym, ap, subst, _∙_}
-use lib.ListN.{length}
+use lib.ListN.{length, length-append}
 use Rattle.pack.specs.Names.{Name}
 use Rattle.pack.specs.Read.{name}
 use Rattle.pack.specs.Report.{Refusal}
@@ -13,13 +14,13 @@ use Rattle.machines.specs.Lower.{equationsOf, localsOf}
 use Rattle.machines.specs.Machines.{Judged, Made, accept, checked, extend, extendIn, judge, lowerEach, madeMachines, merged, nodeFrom, nodeNamed, originOf, placed, refuse, resolved, standalone, start}
 use Rattle.machines.specs.Refusals.{unknownOwner}
 use Rattle.machines.specs.Resolve.{Walk, asMachine, resolvedStates, stop, went}
-use Rattle.runs.specs.Standing.{Block, OwnNode, Stands, entry, equationsFrom, equationsNamed, machinesBefore, slice}
-use Rattle.runs.proofs.Growing.{Grows, grown-append, grown-extend, grows-further, grows-refusing, grows-same, node-extended, node-grown, node-name, entry-end, entry-grown, refusing-not, slice-block, unrefused}
+use Rattle.runs.specs.Standing.{Block, OwnNode, Stands, blockOf, entry, equationsFrom, equationsNamed, machinesBefore, slice}
+use Rattle.runs.proofs.Growing.{Grows, entry-end, entry-grown, grown-append, grown-extend, grows-further, grows-refusing, grows-same, node-extended, node-grown, node-name, refusing-not, slice-block, unrefused}
 
 -- a block that has just been added stands in everything that is made afterwards
 pub block : (kind : OriginKind) (name owner : Name) (branches : List Name) (ls : List Port) (es : List Equation) (k k₁ l : Made) (n : Node) → nodeNamed owner (k .nodes) ≡ some n
     → k₁ .nodes ≡ extendIn owner ls es (k .nodes) → k₁ .origins ≡ k .origins ++ (originOf kind name branches es n ∷ []) → Grows k₁ l → Block kind name owner branches es k (l .nodes) (l .origins)
-unfolding originOf equationsNamed equationsFrom extend
+unfolding originOf extend
 block kind name owner branches ls es k k₁ l n e p q g =
     let r = originOf kind name branches es n in
     let is = node-name owner (k .nodes) n e in
@@ -35,12 +36,22 @@ block kind name owner branches ls es k k₁ l n e p q g =
       of-kind = refl;
       of-name = refl;
       of-branches = refl;
-      stands =
-          ap (λ (o : Name). slice (length (n .equations)) (length (n .equations) + length es) (equationsFrom (nodeNamed o (l .nodes)))) is
-          ∙ (ap (λ (x : Option Node). slice (length (n .equations)) (length (n .equations) + length es) (equationsFrom x)) (f .here)
-          ∙ (ap (λ (x : List Equation). slice (length (n .equations)) (length (n .equations) + length es) x) (f .more .equations)
-          ∙ slice-block (n .equations) es (f .more .later)));
+      node = f .node;
+      named = f .here;
+      within =
+          let l = ap (λ (x : List Equation). length x) (f .more .equations) in
+          omega (arith, l, length-append (n .equations ++ es) (f .more .later), length-append (n .equations) es);
+      stands = ap (λ (x : List Equation). slice (length (n .equations)) (length (n .equations) + length es) x) (f .more .equations) ∙ slice-block (n .equations) es (f .more .later);
     }
+
+-- the block that an origin names
+pub block-stands : {kind : OriginKind} {name owner : Name} {branches : List Name} {es : List Equation} {k : Made} {nodes : List Node} {origins : List Origin} → Block kind name owner branches es k nodes origins
+    → blockOf (entry (length (k .origins)) origins) nodes ≡ es
+unfolding blockOf equationsNamed equationsFrom
+block-stands {k = k} {nodes = nodes} {origins = origins} s =
+    ap (λ (r : Option Origin). blockOf r nodes) (s .recorded)
+    ∙ (ap (λ (o : Name). slice (s .origin .first) (s .origin .after) (equationsNamed o nodes)) (s .names-node)
+    ∙ (ap (λ (x : Option Node). slice (s .origin .first) (s .origin .after) (equationsFrom x)) (s .named) ∙ s .stands))
 
 -- each step adds
 grows-standalone : (m : Machine) (k : Made) → Grows k (standalone m k)

@@ -208,3 +208,7 @@ machines-read-back s output report b by e = read-back (λ p. madeMachines p .ref
 pub activations-read-back : (s : List ℕ) (output report : ℕ) (b : List ℕ) → Bytes s → lowerActivations s output report ≡ writes b → Written s b (λ p. madeActivations p .refusals) lessActivations
 unfolding lowerActivations activationsOf withoutActivations
 activations-read-back s output report b by e = read-back (λ p. madeActivations p .refusals) lessActivations (λ p. refl) acts-fair acts-formed s output report b by e
+
+-- a pack reads as one package
+pub whole-same : (p q : Package) → whole p ≡ whole q → p ≡ q
+whole-same p q e = cc

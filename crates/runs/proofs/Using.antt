@@ -33,10 +33,8 @@ use Rattle.runs.proofs.Computing.{actBlock, actPremises, activationsNum
 use Rattle.runs.proofs.Demand.{demand-three}
 use Rattle.runs.proofs.InBuffers.{activation-bytes-run, machine-bytes-run}
 use Rattle.runs.proofs.PremisesTested.{act-tested, fed, machine-tested}
+use Rattle.runs.proofs.ReadsBack.{whole-same}
 use Rattle.runs.proofs.Tested.{satisfies-tested}
-
-same-package : (p q : Package) → whole p ≡ whole q → p ≡ q
-same-package p q e = cc
 
 same-states : (x y : States) (m n : ℕ) → went x m ≡ went y n → x ≡ y
 same-states x y m n e = cc
@@ -53,7 +51,7 @@ module _ (s : List ℕ) (output report : ℕ) (by : Bytes s) (p : Package) (r : 
       → {O : Type 0} (R : Run O) (N : ℕ) (G : Guards) → MachinePremises R N G (asMachine d ss) → satisfies R N (machineStanding (d .owner) (machinesBefore p pre) (madeMachines p .nodes) (madeMachines p .origins)) → MachineRun R N G (asMachine d ss)
   machine-used e pre d post at ss n w {O} R N G P sat =
       let L = demand-three .machines O s output report by e .lowered in
-      let q : L .held ≡ p = same-package (L .held) p (sym (L .reads) ∙ r) in
+      let q : L .held ≡ p = whole-same (L .held) p (sym (L .reads) ∙ r) in
       let c : MachineClaim O p (L .got) pre d = subst (λ (x : Package). x .machines ≡ pre ++ (d ∷ post) → MachineClaim O x (L .got) pre d) q (λ h. L .each pre d post h) at in
       let k : c .states ≡ ss = same-states (c .states) ss (c .count) n (sym (c .resolved) ∙ w) in
       let nodes : madeMachines p .nodes ≡ L .got .nodes = ap (λ (x : Package). madeMachines x .nodes) (sym q) ∙ sym (L .nodes) in
@@ -67,7 +65,7 @@ module _ (s : List ℕ) (output report : ℕ) (by : Bytes s) (p : Package) (r : 
       → {O : Type 0} (R : Run O) (N : ℕ) (C : Conditions) → ActPremises R N C A → satisfies R N (actStanding (activationsBefore p pre) (madeActivations p .nodes) (madeActivations p .origins)) → OutputsGiven R N C A (mayRead A n ps) (A .outputs)
   act-used e pre A post at n own ps hs holds {O} R N C P sat =
       let L = demand-three .activations O s output report by e .lowered in
-      let q : L .held ≡ p = same-package (L .held) p (sym (L .reads) ∙ r) in
+      let q : L .held ≡ p = whole-same (L .held) p (sym (L .reads) ∙ r) in
       let c : ActClaim O p (L .got) pre A = subst (λ (x : Package). x .activations ≡ pre ++ (A ∷ post) → ActClaim O x (L .got) pre A) q (λ h. L .each pre A post h) at in
       let k : c .owner ≡ n = same-node (c .owner) n (sym (c .owns) ∙ own) in
       let h = subst (λ (x : Node). hold (p .enums) (A .name) (variables x) (A .outputs) (found (expressions A) []) ≡ held (c .ports) (c .holders)) k (c .holding) in

@@ -103,6 +103,15 @@ pub record ActivationsLowered (O : Type 0) (s b : List ℕ) : Type 0 where
   pub origins : got .origins ≡ madeActivations held .origins
   pub each : (pre : List Activation) (A : Activation) (post : List Activation) → held .activations ≡ pre ++ (A ∷ post) → ActClaim O held got pre A
 
+-- The pack s holds a package whose machines were lowered, and the pack c is what lowering the activations after that wrote: the machines'
+-- equations still stand there, with the same runs.
+pub record MachinesKept (O : Type 0) (s c : List ℕ) : Type 0 where
+  pub held : Package
+  pub reads : read s ≡ whole held
+  pub got : Package
+  pub back : read c ≡ whole got
+  pub each : (pre : List Drawing) (d : Drawing) (post : List Drawing) → held .machines ≡ pre ++ (d ∷ post) → MachineClaim O held got pre d
+
 -- the outcome x writes a pack, which is that of the machines lowered
 pub record MachinesWritten (O : Type 0) (s : List ℕ) (x : Outcome) : Type 0 where
   pub pack : List ℕ

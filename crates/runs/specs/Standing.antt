@@ -2,7 +2,7 @@
 use mathlib.Core.Path.{_≡_}
 use mathlib.Core.List.{List, [], _∷_, _++_}
 use mathlib.Core.Option.{Option, none, some}
-use Prim.Native.Nat.{ℕ, zero, suc, _-_}
+use Prim.Native.Nat.{ℕ, zero, suc, _-_, _≤_}
 use lib.ListN.{drop, length, take}
 use Rattle.pack.specs.Names.{Name}
 use Rattle.pack.specs.Syntax.{Activation, Drawing, Equation, Machine, Node, Origin, OriginKind, Package, ofMachine}
@@ -51,7 +51,7 @@ machineStanding (some o) k nodes origins = blockOf (entry (length (k .origins)) 
 unfoldable pub actStanding : Made → List Node → List Origin → List Equation
 actStanding k nodes origins = blockOf (entry (length (k .origins)) origins) nodes
 
--- a block of equations `es` of the owner, by an origin of that kind and name
+-- a block of equations `es` of the owner, the first node of its name, by an origin of that kind and name
 pub record Block (kind : OriginKind) (name owner : Name) (branches : List Name) (es : List Equation) (k : Made) (nodes : List Node) (origins : List Origin) : Type 0 where
   pub origin : Origin
   pub recorded : entry (length (k .origins)) origins ≡ some origin
@@ -59,7 +59,10 @@ pub record Block (kind : OriginKind) (name owner : Name) (branches : List Name) 
   pub of-kind : origin .kind ≡ kind
   pub of-name : origin .name ≡ name
   pub of-branches : origin .branches ≡ branches
-  pub stands : slice (origin .first) (origin .after) (equationsNamed (origin .node) nodes) ≡ es
+  pub node : Node
+  pub named : nodeNamed owner nodes ≡ some node
+  pub within : origin .after ≤ length (node .equations)
+  pub stands : slice (origin .first) (origin .after) (node .equations) ≡ es
 
 -- a node of the machine's own; after its equations come those of machines and activations that it owns
 pub record OwnNode (m : Machine) (k : Made) (nodes : List Node) : Type 0 where
