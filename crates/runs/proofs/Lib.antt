@@ -44,4 +44,5 @@ pub mod Using
 pub mod Nested
 pub mod Owned
 pub mod Branches
+pub mod Both
 pub mod Charts

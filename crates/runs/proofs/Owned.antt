@@ -19,13 +19,13 @@ use Rattle.runs.proofs.PremisesTested.{fed}
 use Rattle.runs.proofs.RunTables.{cellAt, inStates, look, tableRun, truths}
 use Rattle.runs.proofs.Using.{MachineInstance, machine-instance}
 
-abbrev F : Name
+abbrev pub F : Name
 F = 70 ∷ []
 
 abbrev u : Name
 u = 117 ∷ []
 
-abbrev o : Name
+abbrev pub o : Name
 o = 111 ∷ []
 
 abbrev sets : Expr → List Equation
