@@ -55,7 +55,8 @@ use Rattle.runs.proofs.PremisesTested
 use Rattle.pack.proofs.WrittenBack
 use Rattle.pack.specs.Limits.{maxBytes}
 use Rattle.pack.specs.Names.{Name}
-use Rattle.pack.specs.Syntax.{Activation, Drawing, Equation, Machine, Node, Package, States}
+use Rattle.pack.specs.Forms.{nameAt}
+use Rattle.pack.specs.Syntax.{Activation, Drawing, Equation, Expr, Machine, Node, Package, States}
 use Rattle.pack.specs.Read.{Reading, read}
 use Rattle.pack.specs.Write.{encode}
 use Rattle.pack.specs.Outcome.{Outcome, answers, numberOf, reports, writes}
@@ -69,7 +70,7 @@ use Rattle.activations.specs.Holders.{Holding, hold}
 use Rattle.activations.specs.Activations.{madeActivations}
 use Rattle.activations.specs.Call.{lowerActivations}
 use Rattle.runs.specs.Run.{Run}
-use Rattle.runs.specs.Chart.{Guards, foundIn}
+use Rattle.runs.specs.Chart.{Guards, foundIn, selected}
 use Rattle.runs.specs.Standing.{actStanding, activationsBefore, machineStanding, machinesBefore}
 use Rattle.runs.proofs.Tested.{satisfied}
 use Rattle.runs.proofs.PremisesTested.{actTest, machineTest}
@@ -147,3 +148,8 @@ actPremises R N A = actTest R N A
 unfoldable pub finding : Guards → Machine → ℕ → List Name
 unfolding Lower.sizeS Names.eqName Names.member Run.previous Run.isPresent Run.isBool Run.history Run.ifValue Run.applyTo Run.bools Run.equals Run.binaryValue Run.binary Run.notValue Run.unary Run.literal Run.preAt Run.arrowAt Run.clockOf Run.sub Run.ifOf Run.eval Chart.atFirst Chart.firstTrue Chart.choose Chart.anew Chart.find Chart.keep Chart.turn Chart.firstKept Chart.turnsS Chart.startS Chart.founds Chart.kepts Chart.topOf Chart.cycle Chart.keptIn Chart.foundIn Chart.selectS Chart.selected
 finding G m t = foundIn G m t
+
+-- the right side that it selects for an output
+unfoldable pub selecting : Guards → Machine → Name → ℕ → Option Expr
+unfolding Forms.nameAt Lower.sizeS Lower.isOnly Lower.ownValue Lower.isSome Lower.coversS Names.eqName Names.member Run.previous Run.isPresent Run.isBool Run.history Run.ifValue Run.applyTo Run.bools Run.equals Run.binaryValue Run.binary Run.notValue Run.unary Run.literal Run.preAt Run.arrowAt Run.clockOf Run.sub Run.ifOf Run.eval Chart.atFirst Chart.firstTrue Chart.choose Chart.anew Chart.find Chart.keep Chart.turn Chart.firstKept Chart.turnsS Chart.startS Chart.founds Chart.kepts Chart.topOf Chart.cycle Chart.keptIn Chart.foundIn Chart.selectS Chart.selected
+selecting G m o t = selected (nameAt (foundIn G m t)) m o

@@ -1,21 +1,21 @@
 -- A machine with an owner and an output, as a pack, and a run of what its lowering writes: the output is given by the inner region where
 -- it is active, and by the state Off.
 use Prim.Native.Nat.{ℕ}
-use mathlib.Core.List.{List, [], _∷_}
+use mathlib.Core.List.{List, [], _∷_, _++_}
 use mathlib.Core.Bool.{true, false}
 use mathlib.Core.Option.{none, some}
-use mathlib.Core.Path.{refl}
+use mathlib.Core.Path.{_≡_, refl}
 use Rattle.wire.specs.Decimal.{decimal, digits}
 use Rattle.pack.specs.Names.{Name}
-use Rattle.pack.specs.Syntax.{Drawing, Equation, Expr, Node, Package, States, Transition, dCons, dNil, eConst, eVar, kOperator, lBool, qCons, qNil, rCons, rNil, sCons, sNil, tBool}
+use Rattle.pack.specs.Syntax.{Drawing, Equation, Expr, Machine, Node, Package, States, Transition, dCons, dNil, eConst, eVar, kOperator, lBool, qCons, qNil, rCons, rNil, sCons, sNil, tBool}
 use Rattle.machines.specs.Checks.{allNamesS}
 use Rattle.machines.specs.MadeNames.{activeVar, nextVar, smPrefix, stateVar}
 use Rattle.machines.specs.Resolve.{asMachine}
 use Rattle.runs.specs.Claim.{MachineRun}
-use Rattle.runs.specs.Run.{Run, ifValue}
-use Rattle.runs.proofs.Computing.{machineBlock, machinePremises, machinesNumber, reading, satisfying, small, walking}
+use Rattle.runs.specs.Run.{Run, eval, ifValue}
+use Rattle.runs.proofs.Computing.{finding, machineBlock, machinePremises, machinesNumber, reading, satisfying, selecting, small, walking}
 use Rattle.runs.proofs.Nested.{Off, On, P, Q, swap, table}
-use Rattle.runs.proofs.PremisesTested.{fed}
+use Rattle.runs.proofs.PremisesTested.{fed, truth}
 use Rattle.runs.proofs.RunTables.{cellAt, inStates, look, tableRun, truths}
 use Rattle.runs.proofs.Using.{MachineInstance, machine-instance}
 
@@ -37,6 +37,10 @@ to g n = record { guard = g; target = n } ∷ []
 abbrev yes : Expr
 yes = eConst (lBool true)
 
+abbrev no : Expr
+no = eConst (lBool false)
+
+-- On has an equation of its own, which the region covers, and two guards of which both may be true
 unfoldable pub owned : Drawing
 owned =
     record {
@@ -47,8 +51,8 @@ owned =
       locals = [];
       initial = On;
       states =
-          dCons On [] (to (eVar swap) Off) (qCons P false (dCons P (sets yes) (to yes Q) qNil none (dCons Q (sets (eVar swap)) [] qNil none dNil)) qNil) none
-          (dCons Off (sets (eConst (lBool false))) (to (eVar swap) On) qNil none dNil);
+          dCons On (sets no) (to (eVar swap) Off ++ to yes On) (qCons P false (dCons P (sets yes) (to yes Q) qNil none (dCons Q (sets (eVar swap)) [] qNil none dNil)) qNil) none
+          (dCons Off (sets no) (to (eVar swap) On) qNil none dNil);
     }
 
 -- the owner has an equation of its own, and the machine's come after it
@@ -68,8 +72,8 @@ held = record { names = F ∷ swap ∷ o ∷ u ∷ (77 ∷ []) ∷ On ∷ Off �
 
 unfoldable pub states : States
 states =
-    sCons On [] (to (eVar swap) Off) (rCons P false (sCons P (sets yes) (to yes Q) rNil (sCons Q (sets (eVar swap)) [] rNil sNil)) rNil)
-    (sCons Off (sets (eConst (lBool false))) (to (eVar swap) On) rNil sNil)
+    sCons On (sets no) (to (eVar swap) Off ++ to yes On) (rCons P false (sCons P (sets yes) (to yes Q) rNil (sCons Q (sets (eVar swap)) [] rNil sNil)) rNil)
+    (sCons Off (sets no) (to (eVar swap) On) rNil sNil)
 
 unfoldable pub run : Run ℕ
 unfolding table
@@ -81,3 +85,20 @@ owned-instance = record { only = refl; bytes = refl; reads = refl; answers = ref
 
 pub owned-runs : MachineRun run 4 (fed run) (asMachine owned states)
 owned-runs = machine-instance held owned states 4 run 4 owned-instance
+
+-- what the plain chart finds and selects in cycles 0 to 3: the first true guard, and the region before the state's own equation
+unfoldable pub machine : Machine
+unfolding asMachine
+machine = asMachine owned states
+
+chart-finds :
+    finding (fed run) machine 0 ∷ finding (fed run) machine 1 ∷ finding (fed run) machine 2 ∷ finding (fed run) machine 3 ∷ []
+    ≡ (On ∷ P ∷ []) ∷ (On ∷ Q ∷ []) ∷ (Off ∷ Q ∷ []) ∷ (On ∷ P ∷ []) ∷ []
+unfolding machine owned states run table tableRun look cellAt truths inStates ifValue stateVar nextVar activeVar smPrefix decimal digits fed truth eval finding
+chart-finds = refl
+
+chart-selects :
+    selecting (fed run) machine o 0 ∷ selecting (fed run) machine o 1 ∷ selecting (fed run) machine o 2 ∷ selecting (fed run) machine o 3 ∷ []
+    ≡ some yes ∷ some (eVar swap) ∷ some no ∷ some yes ∷ []
+unfolding machine owned states run table tableRun look cellAt truths inStates ifValue stateVar nextVar activeVar smPrefix decimal digits fed truth eval selecting
+chart-selects = refl
