@@ -24,12 +24,16 @@ pub fn expected(pack: &[u8]) -> Option<Outcome> {
 }
 
 fn outcome(p: &Package) -> Outcome {
-    let most: usize = p.activations.iter().map(most_tokens).sum();
-    if most > MODEST || p.activations.iter().any(has_empty_left) {
-        one_by_one(p)
-    } else {
-        at_once(p)
+    match tokens(p) {
+        Some(most) if most <= MODEST => at_once(p),
+        _ => one_by_one(p),
     }
+}
+
+/// No fewer tokens than the reference's own call writes; nothing where it has no answer, as an equation has no left names.
+pub fn tokens(p: &Package) -> Option<usize> {
+    let whole = !p.activations.iter().any(has_empty_left);
+    whole.then(|| p.activations.iter().map(most_tokens).sum())
 }
 
 fn scopes_of(a: &Activation) -> impl Iterator<Item = &Vec<Equation>> {

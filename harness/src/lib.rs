@@ -5,6 +5,7 @@ pub mod activations;
 pub mod alarm;
 pub mod answer;
 pub mod calls;
+pub mod charts;
 pub mod compare;
 pub mod convert;
 pub mod damage;

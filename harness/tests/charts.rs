@@ -1,6 +1,7 @@
 //! The lowerings against answers worked out by hand.
 
 use harness::answer::Outcome;
+use harness::charts::{self, Activated, M};
 use harness::encode::encode_any;
 use harness::gen::Builder;
 use harness::package::*;
@@ -53,11 +54,6 @@ fn right_side(p: &Package, node: usize, name: &str) -> String {
     p.toks(e.rhs).iter().map(text).collect::<Vec<_>>().join(" ")
 }
 
-const M: [u8; 40] = [
-    2, 0, 1, b'M', 1, b'S', 0, 0, 0, 0, 1, 0, 0, 0, 255, 255, 0, 0, 0, 0, 0, 0, 1, 0, 1, 0, 1, 0, 0, 0, 0, 0, 0, 0,
-    255, 255, 0, 0, 0, 0,
-];
-
 #[test]
 fn nothing_to_lower() {
     assert_eq!(lower_machines(&[0; 12]), Outcome::Lowered(vec![0; 12]));
@@ -106,12 +102,7 @@ fn the_table() {
 
 #[test]
 fn no_states_comes_before_the_owner() {
-    let mut b = Builder::new();
-    let (m, s, o) = (b.name("M"), b.name("S"), b.name("Gone"));
-    let mut machine = special::machine(m, s, vec![]);
-    machine.owner = Some(o);
-    b.p.machines.push(machine);
-    assert_eq!(lower_machines(&pack(b.done())), report(1, &["M"]));
+    assert_eq!(lower_machines(&pack(charts::stateless())), report(1, &["M"]));
 }
 
 #[test]
@@ -134,20 +125,12 @@ fn owners() {
 
 #[test]
 fn duplicates_come_before_the_initial() {
-    let mut b = Builder::new();
-    let (m, a, gone) = (b.name("M"), b.name("A"), b.name("Gone"));
-    b.p.machines.push(special::machine(m, gone, vec![special::state(a), special::state(a)]));
-    assert_eq!(lower_machines(&pack(b.done())), report(5, &["M", "A"]));
+    assert_eq!(lower_machines(&pack(charts::twins())), report(5, &["M", "A"]));
 }
 
 #[test]
 fn refinements() {
-    let mut b = Builder::new();
-    let (m, s) = (b.name("M"), b.name("S"));
-    let mut state = special::state(s);
-    state.refines = Some(m);
-    b.p.machines.push(special::machine(m, s, vec![state]));
-    assert_eq!(lower_machines(&pack(b.done())), report(7, &["M", "M"]));
+    assert_eq!(lower_machines(&pack(charts::cycle())), report(7, &["M", "M"]));
 
     // An unknown machine; a sub-machine without states; a name made twice by qualifying.
     assert_eq!(lower_machines(&pack(special::tangled(3))), report(6, &["M", "A", "T"]));
@@ -161,15 +144,7 @@ fn refinements() {
 
 #[test]
 fn region_ids_are_in_preorder() {
-    let mut b = Builder::new();
-    let [m, a, p, q, r] = ["M", "A", "P", "Q", "R"].map(|n| b.name(n));
-    let region = |initial, states| Region { initial, history: false, states };
-    let mut outer = special::state(p);
-    outer.regions.push(region(q, vec![special::state(q)]));
-    let mut top = special::state(a);
-    top.regions = vec![region(p, vec![outer]), region(r, vec![special::state(r)])];
-    b.p.machines.push(special::machine(m, a, vec![top]));
-    let got = made(lower_machines(&pack(b.done())));
+    let got = made(lower_machines(&pack(charts::regions())));
     let enums: Vec<&str> = got.enums.iter().map(|e| got.names.text(e.name)).collect();
     assert_eq!(enums, ["M_StateEnum", "M_r1_StateEnum", "M_r2_StateEnum", "M_r3_StateEnum"]);
     let variants: Vec<&str> = got.enums.iter().map(|e| got.names.text(e.variants[0])).collect();
@@ -185,15 +160,7 @@ fn region_ids_are_in_preorder() {
 #[test]
 fn history_decides_the_state_equation() {
     for history in [false, true] {
-        let mut b = Builder::new();
-        let [m, a, p, q] = ["M", "A", "P", "Q"].map(|n| b.name(n));
-        let always = b.p.expr([Tok::Const(Lit::Bool(true))]);
-        let mut first = special::state(p);
-        first.transitions.push(Transition { guard: always, target: q });
-        let mut top = special::state(a);
-        top.regions = vec![Region { initial: p, history, states: vec![first, special::state(q)] }];
-        b.p.machines.push(special::machine(m, a, vec![top]));
-        let got = made(lower_machines(&pack(b.done())));
+        let got = made(lower_machines(&pack(charts::nested(history))));
         let resume = "Arrow P Pre __sm_r1_next";
         let enter = "If Binary(0) __sm_r1_active Arrow Bool(true) Unary(0) Pre __sm_r1_active P";
         let want = if history { resume.to_string() } else { format!("{enter} {resume}") };
@@ -206,29 +173,12 @@ fn history_decides_the_state_equation() {
 
 #[test]
 fn covering() {
-    let mut b = Builder::new();
-    let [m, s, o, q, p] = ["M", "S", "o", "q", "P"].map(|n| b.name(n));
-    let one = b.p.expr([Tok::Const(Lit::Int(1))]);
-    let two = b.p.expr([Tok::Const(Lit::Int(2))]);
-    let mut state = special::state(s);
-    state.equations.push(Equation { lhs: vec![o, q], rhs: one });
-    let mut machine = special::machine(m, s, vec![state]);
-    machine.outputs.push(Port { name: o, ty: Type::plain(4) });
+    let value = |p| right_side(&made(lower_machines(&pack(p))), 0, "o");
     // Two left names cover neither.
-    let mut p1 = b.done();
-    p1.machines.push(machine.clone());
-    assert_eq!(lower_machines(&pack(p1.clone())), report(4, &["M", "o", "S"]));
-    // A covering region comes before the state's own equation.
-    let mut inner = special::state(p);
-    inner.equations.push(Equation { lhs: vec![o], rhs: two });
-    machine.states[0].equations.push(Equation { lhs: vec![o], rhs: one });
-    machine.states[0].regions.push(Region { initial: p, history: false, states: vec![inner] });
-    p1.machines = vec![machine.clone()];
-    assert_eq!(right_side(&made(lower_machines(&pack(p1.clone()))), 0, "o"), "Int(2)");
-    // One that does not cover leaves it to the state.
-    machine.states[0].regions[0].states[0].equations.clear();
-    p1.machines = vec![machine];
-    assert_eq!(right_side(&made(lower_machines(&pack(p1))), 0, "o"), "Int(1)");
+    assert_eq!(lower_machines(&pack(charts::covered(true, false, false))), report(4, &["M", "o", "S"]));
+    // A covering region comes before the state's own equation, which is taken where there is none.
+    assert_eq!(value(charts::covered(true, true, true)), "Int(2)");
+    assert_eq!(value(charts::covered(true, true, false)), "Int(1)");
 }
 
 #[test]
@@ -335,51 +285,13 @@ fn results_too_long_to_write_are_not_written() {
 
 // --- activations ---
 
-/// Activation A of N (inputs v: int64, w: int64, c: bool; output o: int64), one branch B.
-struct Chart {
-    b: Builder,
-    a: Activation,
-}
-
-impl Chart {
-    fn new() -> Chart {
-        let mut b = Builder::new();
-        let [a, n, o, v, w, c, br] = ["A", "N", "o", "v", "w", "c", "B"].map(|x| b.name(x));
-        let mut owner = special::node(n);
-        owner.inputs = [(v, 4), (w, 4), (c, 0)].map(|(name, t)| Port { name, ty: Type::plain(t) }).to_vec();
-        owner.outputs.push(Port { name: o, ty: Type::plain(4) });
-        b.p.nodes.push(owner);
-        let condition = b.p.expr([Tok::Var(c)]);
-        let zero = b.p.expr([Tok::Const(Lit::Int(0))]);
-        let branches = vec![Branch { name: br, condition, equations: vec![Equation { lhs: vec![o], rhs: zero }] }];
-        let otherwise = vec![Equation { lhs: vec![o], rhs: zero }];
-        let outputs = vec![Port { name: o, ty: Type::plain(4) }];
-        Chart { a: Activation { name: a, owner: n, outputs, branches, otherwise }, b }
-    }
-
-    fn expr(&mut self, toks: Vec<Tok>) -> Expr {
-        self.b.p.expr(toks)
-    }
-
-    fn call(&mut self, rest: &[Tok]) -> Vec<Tok> {
-        let last = self.b.name("last");
-        let args = if rest.len() > 1 { 2 } else { rest.len() as u16 };
-        [&[Tok::Call(last, args)], rest].concat()
-    }
-
-    fn var(&mut self, name: &str) -> Tok {
-        Tok::Var(self.b.name(name))
-    }
-
-    fn lower(mut self) -> Outcome {
-        self.b.p.activations.push(self.a);
-        lower_activations(&pack(self.b.done()))
-    }
+fn lowered(chart: Activated) -> Outcome {
+    lower_activations(&pack(chart.done()))
 }
 
 #[test]
 fn an_activation_in_full() {
-    let got = made(Chart::new().lower());
+    let got = made(lowered(Activated::new()));
     assert!(got.activations.is_empty());
     assert_eq!(left_names(&got, 0), ["__act_A_b1", "__act_A_x1_o", "__act_A_xe_o", "o"]);
     assert_eq!(right_side(&got, 0, "__act_A_b1"), "c");
@@ -394,19 +306,8 @@ fn an_activation_in_full() {
 #[test]
 fn the_first_initial_stays() {
     for (first, second, want) in [(None, Some(2), 2), (Some(1), Some(2), 1), (None, None, 0), (Some(3), None, 3)] {
-        let mut chart = Chart::new();
-        let v = chart.var("v");
-        let mut last = |init: Option<i64>| {
-            let mut args = vec![v.clone()];
-            args.extend(init.map(|i| Tok::Const(Lit::Int(i))));
-            let toks = chart.call(&args);
-            chart.expr(toks)
-        };
-        let (first, second) = (last(first), last(second));
         // Conditions are searched before scopes.
-        chart.a.branches[0].equations[0].rhs = second;
-        chart.a.branches[0].condition = first;
-        let got = made(chart.lower());
+        let got = made(lower_activations(&pack(charts::initials(first, second))));
         assert_eq!(right_side(&got, 0, "__act_A_last_v"), format!("Arrow Int({want}) Pre v"));
         assert_eq!(left_names(&got, 0).iter().filter(|n| **n == "__act_A_last_v").count(), 1);
         assert_eq!(right_side(&got, 0, "__act_A_b1"), "__act_A_last_v");
@@ -416,41 +317,36 @@ fn the_first_initial_stays() {
 
 #[test]
 fn a_replaced_call_is_not_entered() {
-    let mut chart = Chart::new();
-    let (v, w) = (chart.var("v"), chart.var("w"));
-    let inner = chart.call(&[w]);
-    let toks = chart.call(&[vec![v], inner].concat());
-    chart.a.otherwise[0].rhs = chart.expr(toks);
-    let got = made(chart.lower());
+    let got = made(lower_activations(&pack(charts::inner_last())));
     assert_eq!(right_side(&got, 0, "__act_A_last_v"), "Arrow last/1 w Pre v");
     assert!(!got.names.iter().any(|n| n == b"__act_A_last_w"));
 }
 
 #[test]
 fn refused_calls_of_last() {
-    let mut chart = Chart::new();
+    let mut chart = Activated::new();
     let toks = chart.call(&[]);
     chart.a.otherwise[0].rhs = chart.expr(toks);
-    assert_eq!(chart.lower(), report(14, &["A"]));
+    assert_eq!(lowered(chart), report(14, &["A"]));
 
-    let mut chart = Chart::new();
+    let mut chart = Activated::new();
     let gone = chart.var("gone");
     let toks = chart.call(&[gone]);
     chart.a.otherwise[0].rhs = chart.expr(toks);
-    assert_eq!(chart.lower(), report(15, &["A", "gone"]));
+    assert_eq!(lowered(chart), report(15, &["A", "gone"]));
 
-    let mut chart = Chart::new();
+    let mut chart = Activated::new();
     let v = chart.var("v");
     let toks = chart.call(&[v]);
     chart.a.otherwise[0].rhs = chart.expr(toks);
     chart.b.p.nodes[0].inputs[0].ty.lens.push(3);
-    assert_eq!(chart.lower(), report(16, &["A", "v"]));
+    assert_eq!(lowered(chart), report(16, &["A", "v"]));
 }
 
 #[test]
 fn what_last_starts_from() {
     for byte in (0..14u8).filter(|b| *b != TYPE_ARRAY) {
-        let mut chart = Chart::new();
+        let mut chart = Activated::new();
         let e = chart.b.name("E");
         let variants = ["Red", "Green"].map(|n| chart.b.name(n)).to_vec();
         // Of enums with one name the last that has variants counts.
@@ -469,33 +365,28 @@ fn what_last_starts_from() {
             11 => "Char(0)",
             _ => "Red",
         };
-        assert_eq!(right_side(&made(chart.lower()), 0, "__act_A_last_v"), format!("Arrow {want} Pre v"));
+        assert_eq!(right_side(&made(lowered(chart)), 0, "__act_A_last_v"), format!("Arrow {want} Pre v"));
     }
 }
 
 #[test]
 fn an_equation_without_left_names() {
-    let mut chart = Chart::new();
+    let mut chart = Activated::new();
     let rhs = chart.a.otherwise[0].rhs;
     chart.a.otherwise.push(Equation { lhs: vec![], rhs });
-    assert_eq!(chart.lower(), report(18, &["A"]));
+    assert_eq!(lowered(chart), report(18, &["A"]));
     // The other checks come first, and see what it reads.
-    let mut chart = Chart::new();
+    let mut chart = Activated::new();
     let gone = chart.var("gone");
     let toks = chart.call(&[gone]);
     let rhs = chart.expr(toks);
     chart.a.branches[0].equations.push(Equation { lhs: vec![], rhs });
-    assert_eq!(chart.lower(), report(15, &["A", "gone"]));
+    assert_eq!(lowered(chart), report(15, &["A", "gone"]));
 }
 
 #[test]
 fn a_scope_reads_samples() {
-    let mut chart = Chart::new();
-    let (v, w) = (chart.b.name("v"), chart.b.name("w"));
-    let c = chart.b.name("c");
-    chart.a.otherwise[0].rhs =
-        chart.expr(vec![Tok::When(c, false), Tok::Binary(10), Tok::Var(v), Tok::Binary(10), Tok::Var(w), Tok::Var(v)]);
-    let got = made(chart.lower());
+    let got = made(lower_activations(&pack(charts::clocks())));
     // Clock names are read too, in preorder.
     assert_eq!(left_names(&got, 0)[2..], ["__act_A_se_c", "__act_A_se_v", "__act_A_se_w", "__act_A_xe_o", "o"]);
     assert_eq!(right_side(&got, 0, "__act_A_se_v"), "when __act_A_b1 false v");

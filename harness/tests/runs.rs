@@ -1,9 +1,8 @@
 //! Lowered equations run cycle by cycle: the charts that speak of runs.
 
 use harness::encode::encode_any;
-use harness::gen::Builder;
 use harness::package::*;
-use harness::{activations, answer::Outcome, decode, machines, special};
+use harness::{activations, answer::Outcome, charts, decode, machines};
 use std::collections::HashMap;
 
 #[derive(Debug, Clone, PartialEq)]
@@ -88,29 +87,10 @@ fn made(outcome: Option<Outcome>) -> Package {
     decode::decode(&pack).unwrap()
 }
 
-/// Top states On and Off, left by inputs; in On a region of P and Q, P to Q always.
-fn nested(history: bool) -> Package {
-    let mut b = Builder::new();
-    let [m, on, off, p, q, swap] = ["M", "On", "Off", "P", "Q", "swap"].map(|n| b.name(n));
-    let always = b.p.expr([Tok::Const(Lit::Bool(true))]);
-    let guard = b.p.expr([Tok::Var(swap)]);
-    let go = |name, guard, target| {
-        let mut s = special::state(name);
-        s.transitions.push(Transition { guard, target });
-        s
-    };
-    let mut top = go(on, guard, off);
-    top.regions.push(Region { initial: p, history, states: vec![go(p, always, q), special::state(q)] });
-    let mut machine = special::machine(m, on, vec![top, go(off, guard, on)]);
-    machine.inputs.push(Port { name: swap, ty: Type::plain(0) });
-    b.p.machines.push(machine);
-    b.done()
-}
-
 #[test]
 fn a_region_restarts_or_resumes() {
     for (history, want) in [(false, ["P", "Q", "Q", "P"]), (true, ["P", "Q", "Q", "Q"])] {
-        let p = made(machines::expected(&encode_any(&nested(history)).0));
+        let p = made(machines::expected(&encode_any(&charts::nested(history)).0));
         // On in cycles 0, 1 and 3.
         let swap = [false, true, true, false].map(Value::Bool).to_vec();
         let run = Run { p: &p, inputs: HashMap::from([("swap", swap)]) };
@@ -123,20 +103,7 @@ fn a_region_restarts_or_resumes() {
 
 #[test]
 fn the_first_true_branch_is_taken() {
-    let mut b = Builder::new();
-    let [a, n, o, c, d, one, two] = ["A", "N", "o", "c", "d", "One", "Two"].map(|x| b.name(x));
-    let mut owner = special::node(n);
-    owner.inputs = [c, d].map(|name| Port { name, ty: Type::plain(0) }).to_vec();
-    owner.outputs.push(Port { name: o, ty: Type::plain(4) });
-    b.p.nodes.push(owner);
-    let mut scope = |i: i64| vec![Equation { lhs: vec![o], rhs: b.p.expr([Tok::Const(Lit::Int(i))]) }];
-    let (first, second, otherwise) = (scope(1), scope(2), scope(3));
-    let branches = [(one, c, first), (two, d, second)]
-        .map(|(name, v, equations)| Branch { name, condition: b.p.expr([Tok::Var(v)]), equations })
-        .to_vec();
-    let outputs = vec![Port { name: o, ty: Type::plain(4) }];
-    b.p.activations.push(Activation { name: a, owner: n, outputs, branches, otherwise });
-    let p = made(activations::expected(&encode_any(&b.done()).0));
+    let p = made(activations::expected(&encode_any(&charts::two_branches()).0));
     let column = |bits: [bool; 4]| bits.map(Value::Bool).to_vec();
     let inputs = HashMap::from([("c", column([true, true, false, false])), ("d", column([true, false, true, false]))]);
     let run = Run { p: &p, inputs };

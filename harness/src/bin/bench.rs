@@ -1,15 +1,17 @@
-//! `bench [check] [machines] [stack]`: the linked calls against the Rust, on the same packs in one run; then the stack
-//! that they take.
+//! `bench [check] [machines] [activations] [stack]`: the linked calls against the Rust, on the same packs in one run; then
+//! the stack that they take.
 
+use harness::answer::Outcome;
 use harness::calls::{self, CheckFn, LowerFn};
 use harness::convert::to_project;
 use harness::decode::decode;
 use harness::encode::encode_any;
 use harness::gen::{self, Size};
-use harness::hostile;
+use harness::hostile::{self, Hostile};
 use harness::package::Package;
 use harness::rng::Rng;
-use harness::{deep, machines, special, stack};
+use harness::{activations, deep, machines, special, stack};
+use reference::project::Project;
 use std::hint::black_box;
 use std::ops::RangeInclusive;
 use std::time::{Duration, Instant};
@@ -29,8 +31,46 @@ struct Set {
     packs: Vec<Vec<u8>>,
 }
 
+/// A lowering, and how the reference does it.
+struct Lowering {
+    name: &'static str,
+    linked: Option<LowerFn>,
+    /// Whether the reference's own call can do it.
+    plain: fn(&[u8]) -> bool,
+    /// The reference's own call, with the conversions around it.
+    at_once: fn(&Package) -> Outcome,
+    /// The harness's shortcut, where that call cannot.
+    expected: fn(&[u8]) -> Option<Outcome>,
+    /// The call alone, on a project that is ready.
+    alone: fn(&mut Project) -> bool,
+    costly: fn() -> Vec<Hostile>,
+}
+
+fn lowerings() -> [Lowering; 2] {
+    [
+        Lowering {
+            name: "machines",
+            linked: calls::linked_machines(),
+            plain: |p| decode(p).is_ok_and(|p| machines::tokens(&p).is_some_and(|tokens| tokens <= MOST_TOKENS)),
+            at_once: machines::at_once,
+            expected: machines::expected,
+            alone: |project| project.lower_state_machines().is_ok(),
+            costly: hostile::machines::costly,
+        },
+        Lowering {
+            name: "activations",
+            linked: calls::linked_activations(),
+            plain: |p| decode(p).is_ok_and(|p| activations::tokens(&p).is_some_and(|tokens| tokens <= MOST_TOKENS)),
+            at_once: activations::at_once,
+            expected: activations::expected,
+            alone: |project| project.lower_activations().is_ok(),
+            costly: hostile::activations::costly,
+        },
+    ]
+}
+
 fn main() {
-    let (check, lowering) = (calls::linked_check(), calls::linked_machines());
+    let check = calls::linked_check();
     if check.is_none() {
         println!("{}; only the Rust side is timed", calls::ABSENT);
     }
@@ -39,11 +79,11 @@ fn main() {
     if wanted("check") {
         time_check(check);
     }
-    if wanted("machines") {
-        deep::large(|| time_machines(lowering));
+    for lowering in lowerings().iter().filter(|l| wanted(l.name)) {
+        deep::large(|| time_lowering(lowering));
     }
     if wanted("stack") {
-        stack_use(check, lowering);
+        stack_use(check);
     }
 }
 
@@ -72,31 +112,26 @@ fn time_check(linked: Option<CheckFn>) {
     }
 }
 
-/// Lowering machines against decoding, the reference's call and encoding.
-fn time_machines(linked: Option<LowerFn>) {
-    head("machines (~: the reference's call cannot do it)");
-    for set in machine_sets() {
-        let plain = set.packs.iter().all(|p| plain(p));
-        let rust = move |p: &[u8]| {
+/// A lowering against decoding, the reference's call and encoding.
+fn time_lowering(l: &Lowering) {
+    head(&format!("{} (~: the reference's call cannot do it)", l.name));
+    for set in lowering_sets(l) {
+        let plain = set.packs.iter().all(|p| (l.plain)(p));
+        let rust = |p: &[u8]| {
             let outcome = match decode(p) {
-                Ok(p) if plain => Some(machines::at_once(&p)),
-                _ => machines::expected(p),
+                Ok(p) if plain => Some((l.at_once)(&p)),
+                _ => (l.expected)(p),
             };
             outcome.map_or(0, |o| o.bytes() as u64)
         };
-        let (rust, rattle) = time(&set, rust, linked.map(|f| move |p: &[u8]| lower(f, p)));
+        let (rust, rattle) = time(&set, rust, l.linked.map(|f| move |p: &[u8]| lower(f, p)));
         row(&set, if plain { "" } else { " ~" }, rust, rattle);
     }
-    println!("of the Rust's time on the generated packs, lowering alone: {:.1} us", lowering_alone());
+    println!("of the Rust's time on the generated packs, lowering alone: {:.1} us", lowering_alone(l));
 }
 
 fn legal(pack: &[u8]) -> bool {
     decode(pack).is_ok()
-}
-
-/// Whether the reference's own call can lower the machines of a pack.
-fn plain(pack: &[u8]) -> bool {
-    decode(pack).is_ok_and(|p| machines::tokens(&p).is_some_and(|tokens| tokens <= MOST_TOKENS))
 }
 
 /// With buffers that all results and most reports fit in.
@@ -111,14 +146,14 @@ fn lower(f: LowerFn, p: &[u8]) -> u64 {
 }
 
 /// Microseconds that the reference's call takes of a generated pack, on a project that is ready.
-fn lowering_alone() -> f64 {
-    let projects: Vec<_> = generated(60, KB, &plain).iter().map(|p| to_project(&decode(p).unwrap())).collect();
+fn lowering_alone(l: &Lowering) -> f64 {
+    let projects: Vec<_> = generated(60, KB, &l.plain).iter().map(|p| to_project(&decode(p).unwrap())).collect();
     let mut best = f64::MAX;
     for _ in 0..TURNS {
         let mut ready = projects.clone();
         let start = Instant::now();
         for project in &mut ready {
-            black_box(project.lower_state_machines().is_ok());
+            black_box((l.alone)(project));
         }
         best = best.min(start.elapsed().as_secs_f64() * 1e6 / projects.len() as f64);
     }
@@ -154,37 +189,36 @@ fn turn(set: &Set, call: impl Fn(&[u8]) -> u64) -> f64 {
 }
 
 /// The most stack that each call takes on these packs.
-fn stack_use(check: Option<CheckFn>, lowering: Option<LowerFn>) {
-    let packs =
-        || hostile::limits().into_iter().chain(hostile::quick()).map(|h| h.pack).chain(generated(20, KB, &legal));
+fn stack_use(check: Option<CheckFn>) {
+    let parts = [hostile::machines::limits, hostile::machines::quick];
+    let parts = parts.into_iter().chain([hostile::activations::limits, hostile::activations::quick]);
+    let packs: Vec<Vec<u8>> = parts.flat_map(|make| make()).map(|h| h.pack).chain(generated(20, KB, &legal)).collect();
+    let most = |call: &(dyn Fn(&[u8]) -> u64 + Sync)| {
+        let used = |p: &Vec<u8>| {
+            stack::used(&mut || {
+                black_box(call(p));
+            })
+        };
+        packs.iter().map(used).max().unwrap_or(0) / 1024
+    };
     if let Some(f) = check {
-        let most = packs().map(|p| {
-            stack::used(&mut || {
-                // SAFETY: the pointer and the length are those of the pack.
-                black_box(unsafe { f(p.as_ptr(), p.len()) });
-            })
-        });
-        println!("stack of a check: at most {} KB", most.max().unwrap_or(0) / 1024);
+        // SAFETY: the pointer and the length are those of the pack.
+        println!("stack of a check: at most {} KB", most(&move |p| unsafe { f(p.as_ptr(), p.len()) }));
     }
-    if let Some(f) = lowering {
-        let (mut o, mut r) = (vec![0u8; 65_536], vec![0u8; 65_536]);
-        let most = packs().map(|p| {
-            stack::used(&mut || {
-                // SAFETY: each pointer is that of a live buffer of the length given with it.
-                black_box(unsafe { f(p.as_ptr(), p.len(), o.as_mut_ptr(), o.len(), r.as_mut_ptr(), r.len()) });
-            })
-        });
-        println!("stack of lowering machines: at most {} KB", most.max().unwrap_or(0) / 1024);
+    for l in lowerings() {
+        if let Some(f) = l.linked {
+            println!("stack of lowering {}: at most {} KB", l.name, most(&move |p| lower(f, p)));
+        }
     }
 }
 
-fn machine_sets() -> Vec<Set> {
+fn lowering_sets(l: &Lowering) -> Vec<Set> {
     let mut sets = vec![
-        Set { name: "generated, 1 to 20 KB", packs: generated(60, KB, &plain) },
-        Set { name: "generated, 200 to 1,000 bytes", packs: generated(60, 200..=1_000, &plain) },
+        Set { name: "generated, 1 to 20 KB", packs: generated(60, KB, &l.plain) },
+        Set { name: "generated, 200 to 1,000 bytes", packs: generated(60, 200..=1_000, &l.plain) },
         Set { name: "twelve zero bytes", packs: vec![vec![0; 12]] },
     ];
-    sets.extend(hostile::costly().into_iter().map(|h| Set { name: h.name, packs: vec![h.pack] }));
+    sets.extend((l.costly)().into_iter().map(|h| Set { name: h.name, packs: vec![h.pack] }));
     sets
 }
 

@@ -92,7 +92,7 @@ fn hostile(calls: &[Call]) -> Tally {
     let mut judge = Judge::new(0);
     alarm::watch(0);
     let mut tally = Tally::default();
-    for (i, h) in hostile::limits().iter().chain(&hostile::costly()).enumerate() {
+    for (i, h) in hostile::all().iter().enumerate() {
         let start = Instant::now();
         let mut say = |text: String| println!("{}: {text}", h.name);
         let work = || compare::pack(&mut judge, calls, &h.pack, &mut tally, &mut say);

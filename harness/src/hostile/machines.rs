@@ -1,35 +1,9 @@
 //! Packs that cost lowering machines the most for their size, or stand at its limits.
 
-use crate::encode::encode_any;
+use super::{equation, full, idle_names, long_expr, packs, port, Hostile};
 use crate::gen::Builder;
 use crate::package::*;
 use crate::special::{self, machine, node, short_name, state};
-
-pub struct Hostile {
-    pub name: &'static str,
-    pub pack: Vec<u8>,
-}
-
-/// A port that holds a number.
-fn port(name: Name) -> Port {
-    Port { name, ty: Type::plain(4) }
-}
-
-fn equation(left: Name, rhs: Expr) -> Equation {
-    Equation { lhs: vec![left], rhs }
-}
-
-/// An expression of so many bytes.
-fn long_expr(b: &mut Builder, bytes: usize) -> Expr {
-    b.p.expr(std::iter::repeat_n(Tok::Pre, bytes - 3).chain([Tok::Tuple(0)]))
-}
-
-/// Names that nothing uses: 1 to 3 bytes each, none of which the builders here take.
-fn idle_names(b: &mut Builder, count: usize) {
-    for k in 0..count {
-        b.name(&short_name(k));
-    }
-}
 
 /// A state of this name that refines `to`.
 fn refining(name: Name, to: Name) -> State {
@@ -218,12 +192,6 @@ pub fn transitions(states: usize, count: usize, refused: bool) -> Package {
     b.done()
 }
 
-/// The package with idle names up to a pack of exactly 65,536 bytes.
-fn full(mut p: Package) -> Package {
-    special::pad(&mut p, MAX_PACK);
-    p
-}
-
 /// Packs at the limits of lowering machines.
 pub fn limits() -> Vec<Hostile> {
     let all = [
@@ -299,28 +267,4 @@ pub fn quick() -> Vec<Hostile> {
         ("long names alike", alike(1, true)),
         ("names by the thousand", many_names(14_000, 512)),
     ])
-}
-
-fn packs<const N: usize>(all: [(&'static str, Package); N]) -> Vec<Hostile> {
-    all.into_iter().map(|(name, p)| Hostile { name, pack: encode_any(&p).0 }).collect()
-}
-
-#[cfg(test)]
-mod tests {
-    use super::*;
-    use crate::decode::decode;
-
-    #[test]
-    fn costly_packs_are_legal() {
-        for h in costly() {
-            assert!(decode(&h.pack).is_ok(), "{}: {} bytes, {:?}", h.name, h.pack.len(), decode(&h.pack).err());
-        }
-    }
-
-    #[test]
-    fn limits_are_met() {
-        for h in limits().iter().filter(|h| h.name.starts_with("65,53")) {
-            assert_eq!(h.pack.len(), if h.name.starts_with("65,536") { 65_536 } else { 65_537 }, "{}", h.name);
-        }
-    }
 }
