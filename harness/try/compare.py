@@ -1,7 +1,7 @@
 #!/usr/bin/env python3
 """compare.py DUMP PROGRAM COUNT SEED long|short [PACKS]: a program's answers against the Rust's.
 
-DUMP is the harness's `dump`, PROGRAM a captured program that reads its records (docs/outline/trial-main.rt.txt)."""
+DUMP is the harness's `dump`, PROGRAM a captured program that reads its records."""
 import os
 import struct
 import subprocess

@@ -121,21 +121,6 @@ module _ (ns : List Name) (fresh : Fresh [] ns) (legal : All LegalName ns) (few 
       (subst (λ (i : ℕ). Leaves ns s ps y (holderLocalsT ns s (enc ns) made a spots table env i n y)) j
       (holders-left n (suc h) xs ps gs (pre ++ (p ∷ [])) y (omega arith) (r .1) d (o .1) (append-assoc pre (p ∷ []) ps ∙ g) (λ i l. c i (omega arith))))
 
--- THE LAW: the tables that the code fills for an activation none of whose holders is refused
-pub act-tables : (ns : List Name) → Fresh [] ns → All LegalName ns → length ns + length ns < 65536 → (s : List ℕ) → Bytes s → length s ≤ 65536 → (last : ℕ) → LastIs ns last
-    → (spots : List ℕ) → ((i : ℕ) → i < length ns → packName s spots i ≡ nameAt ns i) → (b : Base) → b .names ≡ length ns → MadeIs ns (b .made) → (enums : List Enum) (to : ℕ) → counted (enumIn ns s) s (b .enums) ≡ value enums to
-    → (at : ℕ) (A : Activation) (q : ℕ) → activationIn ns s at ≡ value A q → (outs : List ℕ) → TypesAre ns s outs (firstTyped (A .outputs)) → (base ps : List Port) (gs : List Equation) (env table : List ℕ) → TypesAre ns s env (lastTyped base) → length ns + length ns ≤ length env → 24576 ≤ length table
-    → (z : Rows) → z ≡ seekAllT ns s last (actAt ns s at) (rowsOf table 0) → 3 * z .count ≤ length (z .table) → (h : Hold) → h ≡ holdFrom ns (enc ns) s b spots (A .name) outs (z .count) 0 env (z .table) → hold enums (A .name) base (A .outputs) (found (expressions A) []) ≡ held ps gs
-    → (z .count ≡ length (found (expressions A) [])) × (h .kind ≡ 0) × KnownAt ns s (A .name) (h .env) (h .held) (z .count) (base ++ ps) × RowsFrom ns s (h .held) 0 (found (expressions A) [])
-act-tables ns fresh legal few s by short last L spots placed b names M enums to E at A q d outs O base ps gs env table T long room z g fits h f H =
-    let xs = found (expressions A) [] in
-    let r = all-found ns fresh (omega arith) s by short last L at A q table d room in
-    let R : RowsFrom ns s (z .table) 0 xs = subst (λ (y : Rows). RowsFrom ns s (y .table) 0 xs) (sym g) (r .0) in
-    let c : z .count ≡ length xs = ap (λ (y : Rows). y .count) g ∙ r .1 in
-    let k = held-known ns s (A .name) h (z .count) base xs (hold enums (A .name) base (A .outputs) xs) ps gs
-    (subst (λ (y : Hold). HeldAs ns s (A .name) y (z .count) base xs (hold enums (A .name) base (A .outputs) xs)) (sym f) (hold-is ns fresh legal few s by short spots placed b names M enums to E (A .name) outs (A .outputs) O (z .count) xs base env (z .table) c R T long fits)) H in
-    (c, k .0, k .1, k .2)
-
 -- a pack that was read, one of its activations, whose equations have left names; the tables once its holders are known; the owner's
 -- variables, and the holders
 module _ (ns : List Name) (fresh : Fresh [] ns) (legal : All LegalName ns) (few : length ns + length ns ≤ 65536) (s : List ℕ) (by : Bytes s) (short : length s ≤ 65536) (last : ℕ) (L : LastIs ns last)

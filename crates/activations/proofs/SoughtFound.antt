@@ -340,6 +340,7 @@ module _ (ns : List Name) (fresh : Fresh [] ns) (few : length ns < 65536) (s : L
   -- THE LINK: the rows of the activation that was read there
   pub all-found : (at : ℕ) (x : Activation) (q : ℕ) (t : List ℕ) → activationIn ns s at ≡ value x q → 24576 ≤ length t
       → RowsFrom ns s (seekAllT ns s last (actAt ns s at) (rowsOf t 0) .table) 0 (found (expressions x) []) × (seekAllT ns s last (actAt ns s at) (rowsOf t 0) .count ≡ length (found (expressions x) []))
+      × (3 * seekAllT ns s last (actAt ns s at) (rowsOf t 0) .count ≤ length (seekAllT ns s last (actAt ns s at) (rowsOf t 0) .table))
   unfolding seekAllT eachBranchT expressions
   all-found at x q t e l =
       let r = activation-value ns s at x q e in
@@ -360,4 +361,5 @@ module _ (ns : List Name) (fresh : Fresh [] ns) (few : length ns < 65536) (s : L
       found-append (conditions (x .branches)) (bodies (x .branches) ++ rightSides (x .otherwise)) [] ∙ found-append (bodies (x .branches)) (rightSides (x .otherwise)) (found (conditions (x .branches)) []) in (
         subst (λ a. RowsFrom ns s (a .table) 0 (found (conditions (x .branches) ++ (bodies (x .branches) ++ rightSides (x .otherwise))) [])) (sym m) (subst (RowsFrom ns s (seekScopeT ns s last (r .to-else) v .table) 0) (sym w) (h .0)),
         ap (λ a. a .count) m ∙ h .1 ∙ ap length (sym w),
+        subst (λ a. 3 * a .count ≤ length (a .table)) (sym m) (let j = h .2 in let k = h .3 in omega arith),
       )

@@ -50,3 +50,13 @@ pub mod ScopesAt
 pub mod Asked
 pub mod BegunAt
 pub mod EquationsAt
+pub mod Basis
+pub mod ActTable
+pub mod Fates
+pub mod Judging
+pub mod Placing
+pub mod ReportAt
+pub mod CountsAt
+pub mod Bringing
+pub mod OriginsAt
+pub mod CallAt

@@ -1,6 +1,5 @@
 // Activations: checked and lowered.
 pub mod made; // the names that lowering makes
-pub mod interface; // the C interface
 pub mod cells; // tables of 16-bit words
 pub mod base; // what is known of a pack as a whole
 pub mod met; // the nodes of an expression, one by one
@@ -27,3 +26,15 @@ pub mod samples; // the samples that are new in a scope
 pub mod scopes; // the equations of scopes
 pub mod begin; // an activation begun
 pub mod equations; // all equations of an activation
+pub mod acts; // the table of activations
+pub mod placing; // where nodes and activations stand
+pub mod judge; // an activation judged in its owner
+pub mod judging; // all activations judged, node by node
+pub mod report; // the report of what is refused
+pub mod counts; // how many locals and equations activations bring to nodes
+pub mod bringing; // what they bring, written
+pub mod nodes; // the nodes of the lowered package
+pub mod origins; // the origins of activations
+pub mod sections; // the lowered package, section by section
+pub mod call; // the call
+pub mod interface; // the C interface

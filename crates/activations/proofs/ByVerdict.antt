@@ -1,0 +1,96 @@
+-- A call by the verdict on its pack: refused by the table's numbers 1 to 5, or opened; whatever it does with a package.
+use Prim.Native.Nat.{ℕ, _<_, _≤_}
+use native.Mathlib.Omega.{arith}
+use mathlib.Core.List.{List}
+use mathlib.Core.Path.{_≡_, refl, sym, ap, subst, _∙_}
+use lib.ListN.{length}
+use Rattle.pack.specs.Limits.{maxBytes}
+use Rattle.pack.specs.Syntax.{Package}
+use Rattle.pack.specs.Read.{Reading, bytesAfter, deepAt, endsEarly, illegalAt, read, tooLong, whole}
+use Rattle.pack.specs.Outcome.{Outcome, answers, numberOf, onPackage, outputOf, reportOf, valueOf}
+use Rattle.pack.specs.Verdict.{Small, Stands, recordOf, verdictOf}
+use Rattle.pack.specs.declared.check.Verdict.{Verdict}
+use Rattle.pack.specs.declared.check.Verdict.the-variants as vd
+use Rattle.pack.specs.declared.record.Pack.{Pack}
+use Rattle.pack.proofs.CheckLaws.{check-small, record-stands}
+use Rattle.pack.proofs.RoundTrip.{read-value}
+use Rattle.machines.specs.Filled.{Answers, OpenedAs}
+use Rattle.machines.proofs.Answered.{answers-as}
+
+-- the table's numbers and values by the verdict
+unfoldable pub numberFor : Verdict → ℕ
+numberFor vd.Whole = 0
+numberFor vd.TooLong = 1
+numberFor vd.EndsEarly = 2
+numberFor (vd.Illegal o) = 3
+numberFor (vd.Deep o) = 4
+numberFor (vd.After o) = 5
+
+unfoldable pub valueFor : Verdict → ℕ → ℕ
+valueFor vd.Whole n = n
+valueFor vd.TooLong n = 65536
+valueFor vd.EndsEarly n = n
+valueFor (vd.Illegal o) n = o
+valueFor (vd.Deep o) n = o
+valueFor (vd.After o) n = o
+
+table : (s : List ℕ) (k : Package → Outcome) (r : Reading) → (verdictOf r ≡ vd.Whole → ⊥) → onPackage s r k ≡ answers (numberFor (verdictOf r)) (valueFor (verdictOf r) (length s))
+unfolding onPackage verdictOf numberFor valueFor maxBytes
+table s k tooLong n = refl
+table s k endsEarly n = refl
+table s k (illegalAt o) n = refl
+table s k (deepAt o) n = refl
+table s k (bytesAfter o) n = refl
+table s k (whole p) n = absurd (n refl)
+
+-- they are small
+small-table : (v : Verdict) (n : ℕ) → Small v n → (numberFor v ≤ 9) × (valueFor v n < 4294967296)
+unfolding Small numberFor valueFor
+small-table vd.Whole n h = (omega arith, omega arith)
+small-table vd.TooLong n h = (omega arith, omega arith)
+small-table vd.EndsEarly n h = (omega arith, omega arith)
+small-table (vd.Illegal o) n h = (omega arith, omega arith)
+small-table (vd.Deep o) n h = (omega arith, omega arith)
+small-table (vd.After o) n h = (omega arith, omega arith)
+
+module _ (s : List ℕ) (v : Verdict) (e : v ≡ verdictOf (read s)) where
+  pub verdict-fits : (w : Verdict) → v ≡ w → (numberFor w ≤ 9) × (valueFor w (length s) < 4294967296)
+  verdict-fits w f = small-table w (length s) (check-small s w (sym f ∙ e))
+
+  is-whole : v ≡ vd.Whole → (p : Package) × (read s ≡ whole p)
+  unfolding verdictOf
+  is-whole f = go (read s) refl
+    where
+      go : (r : Reading) → read s ≡ r → (p : Package) × (read s ≡ whole p)
+      go (whole p) g = (p, g)
+      go tooLong g = let z : vd.Whole ≡ vd.TooLong = sym f ∙ e ∙ ap verdictOf g in let w : _≡_ {A = ℕ} 0 1 = cc in absurd (omega arith)
+      go endsEarly g = let z : vd.Whole ≡ vd.EndsEarly = sym f ∙ e ∙ ap verdictOf g in let w : _≡_ {A = ℕ} 0 1 = cc in absurd (omega arith)
+      go (illegalAt o) g = let z : vd.Whole ≡ vd.Illegal o = sym f ∙ e ∙ ap verdictOf g in let w : _≡_ {A = ℕ} 0 1 = cc in absurd (omega arith)
+      go (deepAt o) g = let z : vd.Whole ≡ vd.Deep o = sym f ∙ e ∙ ap verdictOf g in let w : _≡_ {A = ℕ} 0 1 = cc in absurd (omega arith)
+      go (bytesAfter o) g = let z : vd.Whole ≡ vd.After o = sym f ∙ e ∙ ap verdictOf g in let w : _≡_ {A = ℕ} 0 1 = cc in absurd (omega arith)
+
+  module _ (k : Pack) (ek : k ≡ recordOf s) where
+    stands-here : (p : Package) → read s ≡ whole p → Stands s k p
+    stands-here p g = subst (λ (y : Pack). Stands s y p) (sym ek) (record-stands s p g)
+
+    -- a whole pack is opened
+    pub opened : v ≡ vd.Whole → (length s ≤ 65536) × OpenedAs s k
+    unfolding maxBytes
+    opened f = let w = is-whole f in (read-value s (w .0) (w .1) .0, record { whole = w .0; stands = stands-here (w .0) (w .1) })
+
+    -- and answered as its package is
+    pub whole-by : (f : Package → Outcome) → v ≡ vd.Whole → (number value : ℕ) (output output′ report report′ : List ℕ)
+        → ((p : Package) → Stands s k p → Answers (f p) number value output output′ report report′)
+        → Answers (onPackage s (read s) f) number value output output′ report report′
+    unfolding onPackage
+    whole-by f h number value output output′ report report′ g =
+        let w = is-whole h in
+        answers-as _ _ number value output output′ report report′ (ap (λ (r : Reading). onPackage s r f) (sym (w .1))) (g (w .0) (stands-here (w .0) (w .1)))
+
+  -- a pack that is not whole: its number and value, and both buffers as they were
+  pub stopped-by : (f : Package → Outcome) (output report : List ℕ) (w : Verdict) → v ≡ w → (w ≡ vd.Whole → ⊥) → Answers (onPackage s (read s) f) (numberFor w) (valueFor w (length s)) output output report report
+  unfolding numberOf valueOf outputOf reportOf
+  stopped-by f output report w h n =
+      let t : onPackage s (read s) f ≡ answers (numberFor w) (valueFor w (length s)) =
+      table s f (read s) (λ z. n (sym h ∙ e ∙ z)) ∙ ap (λ (y : Verdict). answers (numberFor y) (valueFor y (length s))) (sym e ∙ h) in
+      record { gives = record { number-is = rw t; value-is = rw t; output-is = rw t }; report-is = rw t }

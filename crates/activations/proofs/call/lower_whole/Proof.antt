@@ -1,0 +1,77 @@
+use Rattle.activations.proofs.Answered.{blank, scratch}
+use borrow.Author.Needs.{needs}
+use Rattle.activations.proofs.call.lower_whole.Statement.{statement}
+use Rattle.activations.proofs.call.lower_whole.Tie as tie
+use Rattle.activations.proofs.call.lower_whole.Reads as reads
+use Rattle.activations.proofs.call.lower_whole.Lts as lts
+use Rattle.activations.proofs.call.lower_opened.Reads as lower-opened-reads
+
+-- src/call.rt:128:15
+slice-aggregate-lower-opened : tie.Need-slice-aggregate-lower-opened
+slice-aggregate-lower-opened c = search needs
+
+-- src/call.rt:128:27
+slice-aggregate-lower-opened-2 : tie.Need-slice-aggregate-lower-opened-2
+slice-aggregate-lower-opened-2 c = search needs
+
+-- src/call.rt:128:39
+slice-aggregate-lower-opened-3 : tie.Need-slice-aggregate-lower-opened-3
+slice-aggregate-lower-opened-3 c = search needs
+
+-- src/call.rt:128:50
+slice-aggregate-lower-opened-4 : tie.Need-slice-aggregate-lower-opened-4
+slice-aggregate-lower-opened-4 c = search needs
+
+-- src/call.rt:128:60
+slice-aggregate-lower-opened-5 : tie.Need-slice-aggregate-lower-opened-5
+slice-aggregate-lower-opened-5 c = search needs
+
+-- src/call.rt:128:71
+slice-aggregate-lower-opened-6 : tie.Need-slice-aggregate-lower-opened-6
+slice-aggregate-lower-opened-6 c = search needs
+
+-- src/call.rt:128:82
+slice-aggregate-lower-opened-7 : tie.Need-slice-aggregate-lower-opened-7
+slice-aggregate-lower-opened-7 c = search needs
+
+-- src/call.rt:129:9
+slice-aggregate-lower-opened-8 : tie.Need-slice-aggregate-lower-opened-8
+slice-aggregate-lower-opened-8 c = search needs
+
+-- src/call.rt:129:20
+slice-aggregate-lower-opened-9 : tie.Need-slice-aggregate-lower-opened-9
+slice-aggregate-lower-opened-9 c = search needs
+
+-- src/call.rt:127:5
+lower-opened-requires : tie.Need-lower-opened-requires
+lower-opened-requires c κs = (c .before .before .before .before .before .before .before .before .before .before .before .before .before .before .pre .0, c .before .before .before .before .before .before .before .before .before .before .before .before .before .before .pre .1, blank, scratch)
+
+-- src/call.rt:114:1
+same-length : tie.Need-same-length
+same-length c = search needs
+
+-- src/call.rt:114:1
+same-length-2 : tie.Need-same-length-2
+same-length-2 c = search needs
+
+-- src/call.rt:114:1
+returns : tie.Need-returns
+returns c = search needs
+
+pub lower-whole-spec : {M : Type 1} → statement M
+lower-whole-spec =
+    tie.close
+    (tie.spec
+    slice-aggregate-lower-opened
+    slice-aggregate-lower-opened-2
+    slice-aggregate-lower-opened-3
+    slice-aggregate-lower-opened-4
+    slice-aggregate-lower-opened-5
+    slice-aggregate-lower-opened-6
+    slice-aggregate-lower-opened-7
+    slice-aggregate-lower-opened-8
+    slice-aggregate-lower-opened-9
+    lower-opened-requires
+    same-length
+    same-length-2
+    returns)
