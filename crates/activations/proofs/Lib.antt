@@ -19,7 +19,6 @@ pub mod MisusedFound
 pub mod LookupLaws
 pub mod MetExample
 pub mod Computed
-pub mod Charts
 pub mod Examples
 pub mod UnlastLaws
 pub mod UnlastWritten
