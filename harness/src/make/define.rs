@@ -288,7 +288,7 @@ impl Maker {
         let node = c.name("a node's name")?;
         c.need("equations")?;
         let first = c.number("a number up to 65,535")?;
-        c.need("to")?;
+        c.need("until")?;
         let after = c.number("a number up to 65,535")?;
         let branches = if c.word("branches") { c.names("a branch's name")? } else { vec![] };
         c.end()?;

@@ -6,6 +6,8 @@ use crate::package::*;
 
 /// Columns a level.
 const STEP: usize = 2;
+/// A space at which no line is broken.
+const TIE: char = '\u{1}';
 
 /// The whole package, section by section.
 pub fn package(p: &Package) -> String {
@@ -18,6 +20,13 @@ pub fn package(p: &Package) -> String {
     if page.out.is_empty() {
         page.out.push_str("-- nothing is drawn\n");
     }
+    page.out
+}
+
+/// One node.
+pub fn node(p: &Package, n: &Node) -> String {
+    let mut page = Page { p, out: String::new() };
+    page.node(n);
     page.out
 }
 
@@ -36,8 +45,13 @@ fn left(p: &Package, e: &Equation) -> String {
 
 /// Ports one after the other, each with its type.
 pub fn ports(p: &Package, ports: &[Port]) -> String {
-    let all: Vec<String> = ports.iter().map(|port| format!("{}: {}", name(p, port.name), words::ty(p, &port.ty))).collect();
-    all.join(", ")
+    tied_ports(p, ports).replace(TIE, " ")
+}
+
+/// The same with a variable and its type tied to each other.
+fn tied_ports(p: &Package, ports: &[Port]) -> String {
+    let port = |port: &Port| format!("{}:{TIE}{}", name(p, port.name), words::ty(p, &port.ty));
+    ports.iter().map(port).collect::<Vec<_>>().join(", ")
 }
 
 struct Page<'a> {
@@ -46,33 +60,35 @@ struct Page<'a> {
 }
 
 impl Page<'_> {
-    /// A line of this level; what is too long for it stands on further lines, deeper by two levels.
+    /// A line of this level; what is too long for it goes on in deeper lines.
     fn line(&mut self, level: usize, text: &str) {
-        let indent = level * STEP;
-        for (i, line) in text.lines().enumerate() {
-            let line = if i == 0 { format!("{}{line}", " ".repeat(indent)) } else { line.to_string() };
-            self.wrapped(&line, 0, indent + 2 * STEP);
-        }
+        let text = format!("{}{text}", " ".repeat(level * STEP));
+        text.lines().for_each(|line| self.wrapped(line, 0));
     }
 
     /// A line that others may belong to: it is broken only in its last part, where that has brackets.
     fn head(&mut self, level: usize, text: &str, last: &str) {
         let text = format!("{}{text}", " ".repeat(level * STEP));
-        self.wrapped(&format!("{text}{last}"), text.len(), (level + 2) * STEP);
+        self.wrapped(&format!("{text}{last}"), text.len());
     }
 
     /// Broken at spaces after the first `keep` bytes. A word that is longer than a line stands on one of its own.
-    fn wrapped(&mut self, line: &str, keep: usize, deeper: usize) {
+    fn wrapped(&mut self, line: &str, keep: usize) {
+        let spaces = line.len() - line.trim_start().len();
         let (mut rest, mut indent) = (line, 0);
         while indent + rest.len() > WIDTH {
-            let from = if indent == 0 { keep.max(rest.len() - rest.trim_start().len()) } else { 0 };
+            let from = if indent == 0 { keep.max(spaces) } else { 0 };
             let fits = (WIDTH - indent).clamp(from, rest.len());
             let space = rest[from..fits].rfind(' ').map(|at| from + at);
             let Some(at) = space.or_else(|| rest[fits..].find(' ').map(|at| fits + at)) else { break };
-            self.out += &format!("{}{}\n", " ".repeat(indent), &rest[..at]);
-            (rest, indent) = (&rest[at + 1..], deeper);
+            self.written(indent, &rest[..at]);
+            (rest, indent) = (&rest[at + 1..], spaces + 2 * STEP);
         }
-        self.out += &format!("{}{rest}\n", " ".repeat(indent));
+        self.written(indent, rest);
+    }
+
+    fn written(&mut self, indent: usize, text: &str) {
+        self.out += &format!("{}{}\n", " ".repeat(indent), text.replace(TIE, " "));
     }
 
     /// A line between definitions.
@@ -100,7 +116,7 @@ impl Page<'_> {
 
     fn ports(&mut self, word: &str, all: &[Port]) {
         if !all.is_empty() {
-            self.line(1, &format!("{word} {}", ports(self.p, all)));
+            self.line(1, &format!("{word} {}", tied_ports(self.p, all)));
         }
     }
 
@@ -169,7 +185,7 @@ impl Page<'_> {
         for o in &self.p.origins {
             let kind = if o.activation { "activation" } else { "machine" };
             let (of, node) = (name(self.p, o.name), name(self.p, o.node));
-            let mut text = format!("origin {kind} {of} in {node} equations {} to {}", o.first, o.after);
+            let mut text = format!("origin {kind} {of} in {node} equations {} until {}", o.first, o.after);
             if !o.branches.is_empty() {
                 text += &format!(" branches {}", names(self.p, &o.branches));
             }

@@ -13,7 +13,7 @@ pub const BINARY: [&str; 20] = [
 /// Node kinds 0 to 2.
 pub const KINDS: [&str; 3] = ["function", "operator", "imported"];
 /// Words that are no names, besides those of types, operators and kinds.
-const RESERVED: [&str; 28] = [
+const RESERVED: [&str; 27] = [
     "true",
     "false",
     "if",
@@ -40,7 +40,6 @@ const RESERVED: [&str; 28] = [
     "refines",
     "branch",
     "equations",
-    "to",
     "branches",
 ];
 
