@@ -4,6 +4,7 @@
 pub mod activations;
 pub mod alarm;
 pub mod answer;
+pub mod bench;
 pub mod calls;
 pub mod charts;
 pub mod compare;

@@ -3,10 +3,10 @@
 use harness::decode::decode;
 use harness::encode::encode_any;
 use harness::gen::{self, Size};
+use harness::make;
 use harness::package::Package;
 use harness::rng::Rng;
 use harness::show::page;
-use harness::make;
 
 /// The pack with its names in order of first use, and without those that nothing uses.
 fn by_use(mut p: Package) -> Vec<u8> {

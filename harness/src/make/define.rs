@@ -217,7 +217,10 @@ impl Maker {
     fn region(&mut self, level: usize) -> Read<Region> {
         let line = self.lines[self.at].number;
         if level > MAX_LEVEL {
-            return Err(Error { line, says: format!("a region of level {level} opens: {MAX_LEVEL} levels are the most") });
+            return Err(Error {
+                line,
+                says: format!("a region of level {level} opens: {MAX_LEVEL} levels are the most"),
+            });
         }
         let (column, mut c) = self.head();
         c.need("region")?;

@@ -56,7 +56,10 @@ pub const ANSWERS: [Meaning; 10] = [
 /// An answer in words, on four lines.
 pub fn answer(number: u32, value: u32) -> String {
     let m = &ANSWERS[number as usize];
-    format!("number      {number}\nvalue       {value} ({})\nit says     {}\nwhat to do  {}\n", m.value, m.says, m.remedy)
+    format!(
+        "number      {number}\nvalue       {value} ({})\nit says     {}\nwhat to do  {}\n",
+        m.value, m.says, m.remedy
+    )
 }
 
 /// The kinds of the report, from 1 on: name, and a sentence in which @1 to @3 are the error's names.
@@ -90,7 +93,8 @@ pub fn report(bytes: &[u8]) -> Vec<String> {
         let count = (1..=3).filter(|i| sentence.contains(&format!("@{i}"))).count();
         rest = after;
         let names: Vec<&str> = (0..count).map(|_| taken_name(&mut rest)).collect();
-        let said = names.iter().enumerate().fold(sentence.to_string(), |s, (i, n)| s.replace(&format!("@{}", i + 1), n));
+        let said =
+            names.iter().enumerate().fold(sentence.to_string(), |s, (i, n)| s.replace(&format!("@{}", i + 1), n));
         lines.push(format!("{kind} {name} ({}): {said}", names.join(", ")));
     }
     lines

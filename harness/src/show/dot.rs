@@ -98,7 +98,13 @@ impl Drawing<'_> {
             let lines: Vec<String> = lines.map(|(word, all)| cut(&format!("{word} {}", ports(p, all)))).collect();
             self.machine = i;
             self.put(1, &format!("subgraph cluster_m{i} {{"));
-            self.put(2, &format!("label=<{}> style=\"rounded,filled\" fillcolor=\"#eef3f9\" color=\"#7a8ca3\"", left(&head, &lines)));
+            self.put(
+                2,
+                &format!(
+                    "label=<{}> style=\"rounded,filled\" fillcolor=\"#eef3f9\" color=\"#7a8ca3\"",
+                    left(&head, &lines)
+                ),
+            );
             self.states.clear();
             self.region(2, &format!("m{i}"), m.initial, false, &m.states);
             self.foot(2, &format!("m{i}"), &format!("m{i}_begin"), 0);
@@ -208,10 +214,17 @@ impl Drawing<'_> {
     /// A decision tree: each condition a diamond, its branch to the right of it.
     fn activation(&mut self, i: usize, a: &Activation) {
         let p = self.p;
-        let head = format!("<b>activation {}</b>{}", html(&name(p, a.name)), html(&format!(" in {}", name(p, a.owner))));
+        let head =
+            format!("<b>activation {}</b>{}", html(&name(p, a.name)), html(&format!(" in {}", name(p, a.owner))));
         let lines = [cut(&format!("out {}", ports(p, &a.outputs)))];
         self.put(1, &format!("subgraph cluster_a{i} {{"));
-        self.put(2, &format!("label=<{}> style=\"rounded,filled\" fillcolor=\"#f5f1e6\" color=\"#a3947a\"", left(&head, &lines)));
+        self.put(
+            2,
+            &format!(
+                "label=<{}> style=\"rounded,filled\" fillcolor=\"#f5f1e6\" color=\"#a3947a\"",
+                left(&head, &lines)
+            ),
+        );
         self.put(2, &format!("m_a{i}_begin [shape=circle label=\"\" width=0.13 fixedsize=true fillcolor=black]"));
         let mut above = format!("m_a{i}_begin");
         let mut edge = "";
@@ -322,7 +335,8 @@ fn left(head: &str, lines: &[String]) -> String {
         return head.into();
     }
     let row = |text: &str| format!("<tr><td align=\"left\">{text}</td></tr>");
-    let lines: String = lines.iter().map(|line| row(&format!("<font point-size=\"9\">{}</font>", html(line)))).collect();
+    let lines: String =
+        lines.iter().map(|line| row(&format!("<font point-size=\"9\">{}</font>", html(line)))).collect();
     format!("<table border=\"0\" cellspacing=\"0\" cellpadding=\"1\">{}{lines}</table>", row(head))
 }
 

@@ -12,5 +12,5 @@ use crate::decode::{refused_at, Refusal};
 /// Why a pack cannot be read, in words.
 pub fn unreadable(pack: &[u8]) -> Option<String> {
     let (Refusal { number, value }, what) = refused_at(pack)?;
-    Some(format!("The pack is refused.\n{}met at     {what}\n", answers::answer(number, value)))
+    Some(format!("The pack is refused.\n{}met at      {what}\n", answers::answer(number, value)))
 }

@@ -62,7 +62,9 @@ pub fn text(pack: &[u8], before: Package) -> String {
     let mut out = format!("== The package\n\n{}\n", page::package(&steps.before));
     out += &step("machines", &steps.machines, steps.before.machines.is_empty());
     match (&steps.machines, &steps.activations) {
-        (Ok(before), Some(step_two)) => out += &format!("\n{}", step("activations", step_two, before.activations.is_empty())),
+        (Ok(before), Some(step_two)) => {
+            out += &format!("\n{}", step("activations", step_two, before.activations.is_empty()))
+        }
         _ => out += "\n== Lowering activations: not made, since machines are refused\n",
     }
     out
