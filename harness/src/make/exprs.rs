@@ -66,10 +66,15 @@ impl<'a> Cursor<'a> {
 
     /// Nothing may follow.
     pub fn end(&self) -> Read<()> {
-        if self.peek().is_some() {
-            return self.wrong("the end of the line; two operations need parentheses");
+        let Some((line, token)) = self.tokens.get(self.at) else { return Ok(()) };
+        let first = self.tokens[0].0;
+        if BINARY.iter().chain(&["->", "when", ":>"]).any(|op| token.is(op)) {
+            self.wrong("the end of the line; two operations need parentheses")
+        } else if *line > first {
+            self.wrong(&format!("the end of line {first}, which goes on in deeper lines"))
+        } else {
+            self.wrong("the end of the line")
         }
-        Ok(())
     }
 
     /// A number of this type.

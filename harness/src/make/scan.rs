@@ -2,6 +2,7 @@
 
 use super::Error;
 use crate::package::Lit;
+use crate::show::exprs::literal;
 use crate::show::words::reserved;
 
 #[derive(Debug, Clone, PartialEq)]
@@ -22,7 +23,7 @@ impl Token {
         match self {
             Token::Name(n) => format!("the name {n}"),
             Token::Word(w) => format!("`{w}`"),
-            Token::Literal(lit) => format!("{lit:?}"),
+            Token::Literal(lit) => literal(*lit),
         }
     }
 }

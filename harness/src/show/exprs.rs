@@ -154,7 +154,7 @@ fn field(p: &Package, f: Name) -> String {
     format!("{}: ", name(p, f))
 }
 
-fn literal(lit: Lit) -> String {
+pub fn literal(lit: Lit) -> String {
     match lit {
         Lit::Bool(b) => b.to_string(),
         Lit::Int(i) => i.to_string(),
