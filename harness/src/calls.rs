@@ -68,6 +68,7 @@ pub fn lower(f: LowerFn, pack: &[u8], output: &mut [u8], report: &mut [u8]) -> u
 }
 
 /// Every call that the linked library has.
+#[cfg(feature = "reference")]
 pub fn linked() -> Vec<Call> {
     let check = linked_check().map(check);
     let machines = linked_machines().map(machines);
@@ -81,11 +82,13 @@ pub fn check(function: CheckFn) -> Call {
 }
 
 /// A lowering of machines, held to the reference.
+#[cfg(feature = "reference")]
 pub fn machines(function: LowerFn) -> Call {
     Call { name: "machines", function: Function::Lower(function), expected: crate::machines::expected }
 }
 
 /// A lowering of activations, held to the reference.
+#[cfg(feature = "reference")]
 pub fn activations(function: LowerFn) -> Call {
     Call { name: "activations", function: Function::Lower(function), expected: crate::activations::expected }
 }

@@ -1,8 +1,10 @@
 //! The samples: each chart makes the pack, the text and the drawing that stand beside it.
 
+use harness::answer::Answer;
 use harness::decode::decode;
+use harness::package::MAX_PACK;
 use harness::show::{dot, page, steps};
-use harness::{calls, make};
+use harness::{activations, machines, make};
 use std::path::PathBuf;
 
 fn folder() -> PathBuf {
@@ -42,12 +44,23 @@ fn every_sample_is_shown_as_it_stands() {
     for name in names() {
         let pack = file(&name, "pack");
         let p = decode(&pack).unwrap();
-        assert_eq!(steps::text(&pack, p.clone()), text(&name, "txt"), "{name}.txt, {}", steps::by());
+        assert_eq!(steps::text(&pack, p.clone()), text(&name, "txt"), "{name}.txt, {:?}", steps::by());
         assert_eq!(dot::picture(&steps::steps(&pack, p)).unwrap(), text(&name, "dot"), "{name}.dot");
         assert!(text(&name, "svg").contains("</svg>"), "{name}.svg");
     }
-    // The same by the library, where it is linked, and by the reference.
-    assert_eq!(calls::linked_machines().is_some(), steps::by().contains("proved"));
+}
+
+/// The library, where it is linked, lowers the samples as the reference does.
+#[test]
+fn library_and_reference_agree() {
+    for name in names() {
+        let pack = file(&name, "pack");
+        let steps = steps::steps(&pack, decode(&pack).unwrap());
+        let first = machines::expected(&pack).unwrap().answer(MAX_PACK, MAX_PACK);
+        let second = first.output.as_ref().map(|p| activations::expected(p).unwrap().answer(MAX_PACK, MAX_PACK));
+        let read = |answer: Answer| answer.output.clone().map(|p| decode(&p).unwrap()).ok_or(answer);
+        assert_eq!((steps.machines, steps.activations), (read(first), second.map(read)), "{name}");
+    }
 }
 
 #[test]

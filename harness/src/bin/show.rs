@@ -13,7 +13,7 @@ fn main() {
     match args[..] {
         ["--lower", file] => {
             let (pack, p) = read(file);
-            eprintln!("{}", steps::by());
+            eprintln!("{}", lowered_by());
             print(&steps::text(&pack, p));
         }
         ["--dot", file] => print(&drawing(file)),
@@ -45,8 +45,15 @@ fn read(file: &str) -> (Vec<u8>, Package) {
     }
 }
 
+/// Who lowers.
+fn lowered_by() -> &'static str {
+    let nobody = "there is neither the proved library (harness/library) nor the reference (OL_IR_SRC) to lower by";
+    steps::by().unwrap_or_else(|| stop(nobody, 2))
+}
+
 fn drawing(file: &str) -> String {
     let (pack, p) = read(file);
+    lowered_by();
     let drawn = dot::picture(&steps::steps(&pack, p));
     drawn.unwrap_or_else(|| stop("too many states, branches and nodes for a picture: `show PACK` prints them", 1))
 }

@@ -6,6 +6,7 @@ use crate::answer::{Answer, Outcome};
 use crate::calls::{self, LowerFn};
 use crate::decode::decode;
 use crate::package::{Package, MAX_PACK};
+#[cfg(feature = "reference")]
 use crate::{activations, machines};
 
 /// One lowering: the package that it wrote, or the answer by which it refused.
@@ -18,18 +19,26 @@ pub struct Steps {
     pub activations: Option<Step>,
 }
 
-/// Who lowers.
-pub fn by() -> &'static str {
-    match calls::linked_activations() {
-        Some(_) => "lowered by the proved library",
-        None => "lowered by the Rust reference: harness/library proves and builds the library first, some 20 minutes",
-    }
+type Expected = fn(&[u8]) -> Option<Outcome>;
+
+/// Lowering machines and activations by the reference, where its files are there.
+#[cfg(feature = "reference")]
+const REFERENCE: [Option<Expected>; 2] = [Some(machines::expected), Some(activations::expected)];
+#[cfg(not(feature = "reference"))]
+const REFERENCE: [Option<Expected>; 2] = [None, None];
+
+/// Who lowers; nothing where nobody can.
+pub fn by() -> Option<&'static str> {
+    let reference = "lowered by the Rust reference: harness/library proves and builds the library, some 20 minutes";
+    let library = calls::linked_activations().map(|_| "lowered by the proved library");
+    library.or(REFERENCE[1].map(|_| reference))
 }
 
 /// Both lowerings of a pack that can be read.
 pub fn steps(pack: &[u8], before: Package) -> Steps {
-    let first = lower(calls::linked_machines(), machines::expected, pack);
-    let second = first.output.as_deref().map(|pack| lower(calls::linked_activations(), activations::expected, pack));
+    let [machines, activations] = REFERENCE;
+    let first = lower(calls::linked_machines(), machines, pack);
+    let second = first.output.as_deref().map(|pack| lower(calls::linked_activations(), activations, pack));
     Steps { before, machines: read(first), activations: second.map(read) }
 }
 
@@ -40,9 +49,10 @@ fn read(answer: Answer) -> Step {
     }
 }
 
-fn lower(linked: Option<LowerFn>, expected: fn(&[u8]) -> Option<Outcome>, pack: &[u8]) -> Answer {
+fn lower(linked: Option<LowerFn>, expected: Option<Expected>, pack: &[u8]) -> Answer {
     let Some(f) = linked else {
-        return expected(pack).expect("the reference answers").answer(MAX_PACK, usize::MAX);
+        let outcome = expected.and_then(|expected| expected(pack)).expect("the reference stands in for the library");
+        return outcome.answer(MAX_PACK, usize::MAX);
     };
     let (mut output, mut report) = (vec![0; MAX_PACK], vec![0; MAX_PACK]);
     let mut word = calls::lower(f, pack, &mut output, &mut report);
