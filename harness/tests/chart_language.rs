@@ -82,6 +82,18 @@ origin activation A in F equations 3 until 65535 branches One, `else`
     assert_eq!(o.branches.iter().map(|n| name(*n)).collect::<Vec<_>>(), ["One", "else"]);
 }
 
+#[test]
+fn the_chart_of_the_readme_is_read() {
+    let readme = include_str!("../../samples/README.md");
+    let (_, language) = readme.split_once("## The chart language").unwrap();
+    let lines = language.lines().filter_map(|line| line.strip_prefix("    "));
+    let p = made(&lines.map(|line| format!("{line}\n")).collect::<String>());
+    let counts = [p.enums.len(), p.nodes.len(), p.machines.len(), p.activations.len(), p.origins.len()];
+    assert_eq!(counts, [1; 5]);
+    let shut = &p.machines[0].states[0];
+    assert_eq!((shut.transitions.len(), shut.regions.len(), shut.refines.is_some()), (1, 1, true));
+}
+
 /// The tokens of an equation's right side; variables a, b, c are names 1, 2, 3.
 fn right(text: &str) -> Vec<Tok> {
     let p = made(&format!("operator N\n  input a: bool, b: bool, c: bool\n  () = {text}\n"));
