@@ -3,6 +3,7 @@
 use harness::decode::decode;
 use harness::make;
 use harness::package::*;
+use harness::rng::Rng;
 
 /// The package that a chart's pack reads back as.
 fn made(text: &str) -> Package {
@@ -189,4 +190,35 @@ fn limits_are_said() {
     let nested = |depth: usize| format!("operator N\n  a = {}b{}\n", "(".repeat(depth), ")".repeat(depth));
     assert!(make::pack(&nested(400)).is_ok());
     assert!(make::pack(&nested(70_000)).unwrap_err().says.starts_with("expected an expression of at most 500 levels"));
+}
+
+/// A chart with letters lost, doubled or changed is read or refused, and what is read is a whole pack.
+#[test]
+fn no_chart_stops_the_reader() {
+    let chart = include_str!("../../samples/duress.chart");
+    let signs = b"()[]{}<>=,:;.^`'#\\-0aA \n\t\xc3\xa9";
+    let mut rng = Rng::new(1);
+    let (mut read, mut refused) = (0, 0);
+    for _ in 0..3_000 {
+        let mut bytes = chart.as_bytes().to_vec();
+        for _ in 0..rng.range(1, 3) {
+            let at = rng.below(bytes.len());
+            match rng.below(3) {
+                0 => drop(bytes.remove(at)),
+                1 => bytes.insert(at, rng.pick(signs)),
+                _ => bytes[at] = rng.pick(signs),
+            }
+        }
+        match make::pack(&String::from_utf8_lossy(&bytes)) {
+            Ok(pack) => {
+                assert!(decode(&pack).is_ok(), "{}", String::from_utf8_lossy(&bytes));
+                read += 1;
+            }
+            Err(e) => {
+                assert!(e.line >= 1 && e.line <= chart.lines().count() + 3, "{e}");
+                refused += 1;
+            }
+        }
+    }
+    assert!(read > 300 && refused > 300, "{read} read, {refused} refused");
 }

@@ -206,9 +206,9 @@ fn no_depth_uses_up_the_stack() {
     let v = Tok::Var(0);
     let deep = [
         ("(pre ", nested(&[Tok::Pre], &[], 65_400)),
-        (" and ", nested(&[Tok::Binary(0)], &[v.clone()], 13_000)),
+        (" and ", nested(&[Tok::Binary(0)], std::slice::from_ref(&v), 13_000)),
         (" else ", nested(&[Tok::If, v.clone(), v.clone()], &[], 9_300)),
-        (" then", nested(&[Tok::If, v.clone()], &[v.clone()], 9_300)),
+        (" then", nested(&[Tok::If, v.clone()], std::slice::from_ref(&v), 9_300)),
         ("merge(", nested(&[Tok::Merge(0), v.clone()], &[], 10_900)),
         (".v", nested(&[Tok::Field(0)], &[], 21_800)),
     ];

@@ -1,20 +1,25 @@
 //! A pack's charts as a drawing for Graphviz: what is drawn above, what it is lowered into below.
 
 use super::exprs::flat;
-use super::page::{equation, node, ports};
+use super::labels::{bare, bare_equation, cut, html, left, listed, table};
+use super::page::node;
 use super::steps::{refusal, Steps};
 use super::words::name;
+use crate::answer::Answer;
 use crate::package::*;
 use std::cmp::Ordering;
 use std::collections::HashMap;
 
-/// Letters of a guard, a condition or an equation in a chart; what is longer is cut.
-const MOST_LETTERS: usize = 60;
 /// Lines of a node's box.
 const MOST_LINES: usize = 80;
-/// States, branches and nodes of one drawing: Graphviz takes minutes for more.
+/// Machines, states, branches and nodes of one drawing: Graphviz takes minutes for more.
 const MOST_BOXES: usize = 400;
 
+const MACHINE: &str = r##"style="rounded,filled" fillcolor="#eef3f9" color="#7a8ca3""##;
+const ACTIVATION: &str = r##"style="rounded,filled" fillcolor="#f5f1e6" color="#a3947a""##;
+const NODE: &str = r##"style=filled fillcolor="#eef6ee" color="#5a8f5a" fontname="Courier" fontsize=9"##;
+const BEGIN: &str = "shape=circle label=\"\" width=0.13 fixedsize=true style=filled fillcolor=black";
+const HISTORY: &str = "shape=circle label=\"H\" fontsize=9 width=0.24 fixedsize=true style=solid";
 /// Arrows to what is made.
 const LOWERED: &str = "color=\"#5a8f5a\" penwidth=1.6";
 
@@ -27,14 +32,15 @@ const HEAD: &str = r##"digraph pack {
 /// The drawing; nothing where it would be too large.
 pub fn picture(steps: &Steps) -> Option<String> {
     let p = &steps.before;
-    let branches = p.activations.iter().map(|a| a.branches.len() + 1).sum::<usize>();
-    let boxes = p.machines.iter().map(|m| count(&m.states)).sum::<usize>() + branches + p.nodes.len();
+    let machines = p.machines.iter().map(|m| 1 + count(&m.states)).sum::<usize>();
+    let activations = p.activations.iter().map(|a| 1 + a.branches.len()).sum::<usize>();
+    let boxes = machines + activations + p.nodes.len();
     if boxes > MOST_BOXES {
         return None;
     }
     let last = p.machines.iter().enumerate().map(|(i, m)| (m.name, i)).collect();
     let (out, late) = (HEAD.into(), String::new());
-    let mut drawing = Drawing { p, machines: last, out, boxes: 0, machine: 0, states: vec![], late };
+    let mut drawing = Drawing { p, machines: last, out, boxes: 0, drawn: 0, states: vec![], late };
     drawing.charts();
     drawing.after(steps);
     let Drawing { out, late, .. } = drawing;
@@ -54,7 +60,7 @@ struct Drawing<'a> {
     /// How many boxes have a number.
     boxes: usize,
     /// The machine that is drawn, and its states' boxes so far.
-    machine: usize,
+    drawn: usize,
     states: Vec<String>,
     /// Edges between clusters, which belong to no cluster.
     late: String,
@@ -90,29 +96,21 @@ impl Drawing<'_> {
 
     fn charts(&mut self) {
         let p = self.p;
-        for (i, m) in p.machines.iter().enumerate() {
-            let owner = m.owner.map_or(String::new(), |o| format!(" in {}", name(p, o)));
-            let head = format!("<b>machine {}</b>{}", html(&name(p, m.name)), html(&owner));
-            let lines = [("in", &m.inputs), ("out", &m.outputs), ("local", &m.locals)];
-            let lines = lines.into_iter().filter(|(_, all)| !all.is_empty());
-            let lines: Vec<String> = lines.map(|(word, all)| cut(&format!("{word} {}", ports(p, all)))).collect();
-            self.machine = i;
-            self.put(1, &format!("subgraph cluster_m{i} {{"));
-            self.put(
-                2,
-                &format!(
-                    "label=<{}> style=\"rounded,filled\" fillcolor=\"#eef3f9\" color=\"#7a8ca3\"",
-                    left(&head, &lines)
-                ),
-            );
-            self.states.clear();
-            self.region(2, &format!("m{i}"), m.initial, false, &m.states);
-            self.foot(2, &format!("m{i}"), &format!("m{i}_begin"), 0);
-            self.put(1, "}");
-        }
-        for (i, a) in p.activations.iter().enumerate() {
-            self.activation(i, a);
-        }
+        p.machines.iter().enumerate().for_each(|(i, m)| self.machine(i, m));
+        p.activations.iter().enumerate().for_each(|(i, a)| self.activation(i, a));
+    }
+
+    fn machine(&mut self, i: usize, m: &Machine) {
+        let (p, id) = (self.p, format!("m{i}"));
+        let owner = m.owner.map_or(String::new(), |o| format!(" in {}", name(p, o)));
+        let head = format!("<b>machine {}</b>{}", html(&name(p, m.name)), html(&owner));
+        let label = left(&head, &listed(p, &[("in", &m.inputs), ("out", &m.outputs), ("local", &m.locals)]));
+        (self.drawn, self.states) = (i, vec![]);
+        self.put(1, &format!("subgraph cluster_{id} {{"));
+        self.put(2, &format!("label=<{label}> {MACHINE}"));
+        self.region(2, &id, m.initial, false, &m.states);
+        self.foot(2, &id, &format!("{id}_begin"), 0);
+        self.put(1, "}");
     }
 
     /// The lowest point of a cluster: below its beginning and the states drawn since.
@@ -126,12 +124,7 @@ impl Drawing<'_> {
 
     /// A region's states with its beginning, a dot or an H; `id` names the beginning.
     fn region(&mut self, level: usize, id: &str, initial: Name, history: bool, states: &[State]) {
-        let begin = if history {
-            "shape=circle label=\"H\" fontsize=9 width=0.24 fixedsize=true style=solid"
-        } else {
-            "shape=circle label=\"\" width=0.13 fixedsize=true style=filled fillcolor=black"
-        };
-        self.put(level, &format!("{id}_begin [{begin}]"));
+        self.put(level, &format!("{id}_begin [{}]", if history { HISTORY } else { BEGIN }));
         let anchors: Vec<Anchor> = states.iter().map(|s| self.state(level, s)).collect();
         let find = |target: Name| states.iter().position(|s| s.name == target);
         let first = find(initial).map_or_else(|| self.missing(level, initial), |i| anchors[i].top.clone());
@@ -203,7 +196,7 @@ impl Drawing<'_> {
     /// A dashed arrow to the machine that a state refines, where it is there.
     fn refinement(&mut self, s: &State, from: &Anchor) {
         let Some(machine) = s.refines.and_then(|m| self.machines.get(&m)) else { return };
-        if *machine == self.machine {
+        if *machine == self.drawn {
             return;
         }
         let style = "style=dashed color=\"#7a8ca3\" constraint=false arrowhead=empty";
@@ -214,20 +207,12 @@ impl Drawing<'_> {
     /// A decision tree: each condition a diamond, its branch to the right of it.
     fn activation(&mut self, i: usize, a: &Activation) {
         let p = self.p;
-        let head =
-            format!("<b>activation {}</b>{}", html(&name(p, a.name)), html(&format!(" in {}", name(p, a.owner))));
-        let lines = [cut(&format!("out {}", ports(p, &a.outputs)))];
+        let head = format!("<b>activation {}</b> in {}", html(&name(p, a.name)), html(&name(p, a.owner)));
+        let label = left(&head, &listed(p, &[("out", &a.outputs)]));
         self.put(1, &format!("subgraph cluster_a{i} {{"));
-        self.put(
-            2,
-            &format!(
-                "label=<{}> style=\"rounded,filled\" fillcolor=\"#f5f1e6\" color=\"#a3947a\"",
-                left(&head, &lines)
-            ),
-        );
-        self.put(2, &format!("m_a{i}_begin [shape=circle label=\"\" width=0.13 fixedsize=true fillcolor=black]"));
-        let mut above = format!("m_a{i}_begin");
-        let mut edge = "";
+        self.put(2, &format!("label=<{label}> {ACTIVATION}"));
+        self.put(2, &format!("a{i}_begin [{BEGIN}]"));
+        let (mut above, mut edge) = (format!("a{i}_begin"), "");
         for (k, b) in a.branches.iter().enumerate() {
             let (test, scope) = (format!("a{i}_c{k}"), format!("a{i}_b{k}"));
             let condition = html(&format!("{} ?", cut(&bare(&flat(p, b.condition)))));
@@ -250,24 +235,23 @@ impl Drawing<'_> {
 
     /// Nodes as they are drawn, and as they are after both lowerings; or why they are refused.
     fn after(&mut self, steps: &Steps) {
-        let last = match (&steps.machines, &steps.activations) {
-            (Err(answer), _) | (_, Some(Err(answer))) => Err(answer),
-            (_, Some(Ok(made))) => Ok(made),
-            (Ok(made), None) => Ok(made),
-        };
         for (i, n) in steps.before.nodes.iter().enumerate() {
             self.node(&format!("n{i}"), "", self.p, n);
         }
-        match last {
-            Err(answer) => {
-                let text = refusal(answer);
-                let lines: Vec<String> = text.lines().map(|line| line.to_string()).collect();
-                let label = left("<b>refused</b>", &lines);
-                self.put(1, &format!("refused [label=<{label}> color=red fillcolor=\"#fdeeee\"]"));
-                self.arrows("refused", |_| true, |_| true);
-            }
-            Ok(made) => self.made(steps, made),
+        match (&steps.machines, &steps.activations) {
+            (Err(answer), _) => self.refused(answer, true),
+            (_, Some(Err(answer))) => self.refused(answer, false),
+            (_, Some(Ok(made))) | (Ok(made), None) => self.made(steps, made),
         }
+    }
+
+    /// A refusal, below the machines or the activations that were to be lowered.
+    fn refused(&mut self, answer: &Answer, machines: bool) {
+        let text = refusal(answer);
+        let lines: Vec<String> = text.lines().map(|line| line.to_string()).collect();
+        let label = left("<b>refused</b>", &lines);
+        self.put(1, &format!("refused [label=<{label}> color=red fillcolor=\"#fdeeee\"]"));
+        self.arrows("refused", |_| machines, |_| !machines);
     }
 
     fn made(&mut self, steps: &Steps, made: &Package) {
@@ -303,16 +287,12 @@ impl Drawing<'_> {
         let text = node(p, n);
         let mut lines = text.lines().map(|line| html(line).replace("  ", "&#160;&#160;"));
         let head = format!("<b>{}</b>{title}", lines.next().unwrap_or_default());
-        let mut rows: Vec<String> = lines.by_ref().take(MOST_LINES).collect();
+        let mut rows: Vec<String> = [head].into_iter().chain(lines.by_ref().take(MOST_LINES)).collect();
         let more = lines.count();
         if more > 0 {
             rows.push(format!("and {more} more lines"));
         }
-        let rows: String = rows.iter().map(|row| format!("<tr><td align=\"left\">{row}</td></tr>")).collect();
-        let table = "table border=\"0\" cellspacing=\"0\" cellpadding=\"1\"";
-        let label = format!("<{table}><tr><td align=\"left\">{head}</td></tr>{rows}</table>");
-        let style = "style=filled fillcolor=\"#eef6ee\" color=\"#5a8f5a\" fontname=\"Courier\" fontsize=9";
-        self.put(1, &format!("{id} [{style} label=<{label}>]"));
+        self.put(1, &format!("{id} [{NODE} label=<{}>]", table(&rows)));
     }
 }
 
@@ -327,46 +307,4 @@ fn between(anchors: &[Anchor], i: usize, j: usize) -> (&str, &str, String) {
         // Graphviz cannot cut an edge from a cluster to itself.
         Ordering::Equal => (&upper.top, &upper.top, String::new()),
     }
-}
-
-/// A heading, and lines below it from the left.
-fn left(head: &str, lines: &[String]) -> String {
-    if lines.is_empty() {
-        return head.into();
-    }
-    let row = |text: &str| format!("<tr><td align=\"left\">{text}</td></tr>");
-    let lines: String =
-        lines.iter().map(|line| row(&format!("<font point-size=\"9\">{}</font>", html(line)))).collect();
-    format!("<table border=\"0\" cellspacing=\"0\" cellpadding=\"1\">{}{lines}</table>", row(head))
-}
-
-/// Without the outermost parentheses, where they are one operation's.
-fn bare(text: &str) -> String {
-    let mut open = 0;
-    let closes_last = text.bytes().enumerate().all(|(i, b)| {
-        open += (b == b'(') as i32 - (b == b')') as i32;
-        open > 0 || i + 1 == text.len()
-    });
-    let inner = text.strip_prefix('(').and_then(|t| t.strip_suffix(')')).filter(|_| closes_last && !text.contains(','));
-    inner.unwrap_or(text).to_string()
-}
-
-fn bare_equation(p: &Package, e: &Equation) -> String {
-    let text = equation(p, e);
-    match text.split_once(" = ") {
-        Some((left, right)) => format!("{left} = {}", bare(right)),
-        None => text,
-    }
-}
-
-fn cut(text: &str) -> String {
-    if text.len() <= MOST_LETTERS {
-        text.to_string()
-    } else {
-        format!("{} ...", &text[..MOST_LETTERS])
-    }
-}
-
-fn html(text: &str) -> String {
-    text.replace('&', "&amp;").replace('<', "&lt;").replace('>', "&gt;")
 }
