@@ -175,6 +175,32 @@ fn every_kind_of_expression() {
     assert_eq!(make::pack(&expected).unwrap(), by_use(p));
 }
 
+/// In the order of the reference's `BinOp`, `Type` and `NodeKind`.
+#[test]
+fn every_operator_type_and_kind() {
+    let operators = "and or xor => = <> < <= > >= + - * / mod land lor lxor lsl lsr";
+    let types = "bool int8 int16 int32 int64 uint8 uint16 uint32 uint64 float32 float64 char";
+    let mut b = Builder::new();
+    let a = b.name("a");
+    let mut expected = String::new();
+    for (kind, word) in ["function", "operator", "imported"].iter().enumerate() {
+        let mut node = Node { kind: kind as u8, ..special::node(a) };
+        let port = |byte| Port { name: a, ty: Type::plain(byte) };
+        node.inputs = (4 * kind as u8..).take(4).map(port).collect();
+        let ports: Vec<String> = types.split(' ').skip(4 * kind).take(4).map(|t| format!("a: {t}")).collect();
+        expected += &format!("{}{word} a\n  input {}\n", if kind > 0 { "\n" } else { "" }, ports.join(", "));
+        for (op, text) in operators.split(' ').enumerate().filter(|(op, _)| op % 3 == kind) {
+            let rhs = b.p.expr([Tok::Binary(op as u8), Tok::Var(a), Tok::Const(Lit::Int(1))]);
+            node.equations.push(Equation { lhs: vec![a, a], rhs });
+            expected += &format!("  a, a = (a {text} 1)\n");
+        }
+        b.p.nodes.push(node);
+    }
+    let p = b.done();
+    assert_eq!(page::package(&p), expected);
+    assert_eq!(make::pack(&expected).unwrap(), by_use(p));
+}
+
 #[test]
 fn what_is_shown_is_read_back() {
     let mut rng = Rng::new(1);
