@@ -60,7 +60,15 @@ pub fn linked_activations() -> Option<LowerFn> {
     None
 }
 
+/// A lowering into these buffers: the returned word.
+pub fn lower(f: LowerFn, pack: &[u8], output: &mut [u8], report: &mut [u8]) -> u64 {
+    let (o, r) = (output.as_mut_ptr(), report.as_mut_ptr());
+    // SAFETY: each pointer is that of a slice of the length given with it, and the borrows keep them apart.
+    unsafe { f(pack.as_ptr(), pack.len(), o, output.len(), r, report.len()) }
+}
+
 /// Every call that the linked library has.
+#[cfg(feature = "reference")]
 pub fn linked() -> Vec<Call> {
     let check = linked_check().map(check);
     let machines = linked_machines().map(machines);
@@ -74,11 +82,13 @@ pub fn check(function: CheckFn) -> Call {
 }
 
 /// A lowering of machines, held to the reference.
+#[cfg(feature = "reference")]
 pub fn machines(function: LowerFn) -> Call {
     Call { name: "machines", function: Function::Lower(function), expected: crate::machines::expected }
 }
 
 /// A lowering of activations, held to the reference.
+#[cfg(feature = "reference")]
 pub fn activations(function: LowerFn) -> Call {
     Call { name: "activations", function: Function::Lower(function), expected: crate::activations::expected }
 }

@@ -1,12 +1,17 @@
 //! An independent judge of the pack calls: an own codec, a generator, the expected answers, and
 //! the comparison of both sides byte by byte.
 
+#[cfg(feature = "reference")]
 pub mod activations;
 pub mod alarm;
 pub mod answer;
+#[cfg(feature = "reference")]
+pub mod bench;
 pub mod calls;
+#[cfg(feature = "reference")]
 pub mod charts;
 pub mod compare;
+#[cfg(feature = "reference")]
 pub mod convert;
 pub mod damage;
 pub mod decode;
@@ -15,13 +20,20 @@ pub mod encode;
 pub mod gen;
 pub mod ground;
 pub mod hostile;
+#[cfg(feature = "reference")]
 pub mod machines;
+pub mod make;
 pub mod package;
+#[cfg(feature = "reference")]
 pub mod report;
 pub mod rng;
+#[cfg(feature = "reference")]
 pub mod sample;
+#[cfg(feature = "reference")]
 pub mod scopes;
+pub mod show;
 pub mod special;
 pub mod stack;
 pub mod stream;
+#[cfg(feature = "reference")]
 pub mod walk;
