@@ -22,17 +22,17 @@ use Rattle.machines.specs.declared.sure.Num.{Num}
 use Rattle.machines.specs.Emits.{packName}
 use Rattle.activations.specs.declared.base.Base.{Base}
 use Rattle.activations.specs.declared.parts.Act.{Act}
-use Rattle.activations.specs.MadeNames.{lastVar, other}
-use Rattle.activations.specs.EmptyLeft.{leftless, leftlessBranch, leftlessIn, nameless}
-use Rattle.activations.specs.Defines.{asLocals}
-use Rattle.activations.specs.Unlast.{conditionsOf}
-use Rattle.activations.specs.Types.{firstTyped, lastTyped, portNames, readable, sampleType, valueType}
-use Rattle.activations.specs.Sought.{Sought, bodies, conditions, expressions, found, rightSides}
-use Rattle.activations.specs.Holders.{held, hold, holderPort}
-use Rattle.activations.specs.Flags.{flagEquations}
-use Rattle.activations.specs.Clocks.{guardEquations}
-use Rattle.activations.specs.Scopes.{branchEquations, branchLocals, scopeEquations, scopeLocals}
-use Rattle.activations.specs.Lower.{actLocals, tailOf}
+use Rattle.activation_rules.specs.MadeNames.{lastVar, other}
+use Rattle.activation_rules.specs.EmptyLeft.{leftless, leftlessBranch, leftlessIn, nameless}
+use Rattle.activation_rules.specs.Defines.{asLocals}
+use Rattle.activation_rules.specs.Unlast.{conditionsOf}
+use Rattle.activation_rules.specs.Types.{firstTyped, lastTyped, portNames, readable, sampleType, valueType}
+use Rattle.activation_rules.specs.Sought.{Sought, bodies, conditions, expressions, found, rightSides}
+use Rattle.activation_rules.specs.Holders.{held, hold, holderPort}
+use Rattle.activation_rules.specs.Flags.{flagEquations}
+use Rattle.activation_rules.specs.Clocks.{guardEquations}
+use Rattle.activation_rules.specs.Scopes.{branchEquations, branchLocals, scopeEquations, scopeLocals}
+use Rattle.activation_rules.specs.Lower.{actLocals, tailOf}
 use Rattle.activations.specs.Lookups.{MadeIs, isMade}
 use Rattle.activations.specs.Places.{actAt}
 use Rattle.activations.specs.Walks.{LastIs}

@@ -20,11 +20,11 @@ use Rattle.machines.specs.Marks.{among}
 use Rattle.machines.specs.Emits.{packName}
 use Rattle.machines.proofs.Reading.{many-cut, many-more, many-over}
 use Rattle.machines.proofs.SureLaws.{number-to}
-use Rattle.activations.specs.MadeNames.{Scope, actPrefix, branch, madeName, other, sampleVar, scopeAt, valueVar}
-use Rattle.activations.specs.Defines.{firstLeft}
-use Rattle.activations.specs.Types.{orBool, sampleType, typed, valueType}
-use Rattle.activations.specs.Samples.{dropIn, sampleLocals}
-use Rattle.activations.specs.Scopes.{branchLocals, scopeLocals, scopeReads}
+use Rattle.activation_rules.specs.MadeNames.{Scope, actPrefix, branch, madeName, other, sampleVar, scopeAt, valueVar}
+use Rattle.activation_rules.specs.Defines.{firstLeft}
+use Rattle.activation_rules.specs.Types.{orBool, sampleType, typed, valueType}
+use Rattle.activation_rules.specs.Samples.{dropIn, sampleLocals}
+use Rattle.activation_rules.specs.Scopes.{branchLocals, scopeLocals, scopeReads}
 use Rattle.activations.specs.Lookups.{MadeIs, isMade}
 use Rattle.activations.specs.Places.{bodyIn, branchEnd, equationEnd, firstLeftIn}
 use Rattle.activations.specs.Walks.{LastIs}

@@ -28,12 +28,12 @@ use Rattle.machines.specs.Emits.{packName}
 use Rattle.machines.proofs.LocalLaws.{each-append}
 use Rattle.machines.proofs.Reading.{many-cut, many-more, many-over, name-number}
 use Rattle.machines.proofs.SureLaws.{number-num, number-to}
-use Rattle.activations.specs.MadeNames.{Scope, branch, other, sampleVar, scopeAt, valueVar}
-use Rattle.activations.specs.Defines.{eqn, firstLeft}
-use Rattle.activations.specs.Clocks.{onto}
-use Rattle.activations.specs.Unlast.{unlast}
-use Rattle.activations.specs.Samples.{dropIn, overSamples, sampleEquations}
-use Rattle.activations.specs.Scopes.{branchEquations, rewritten, scopeEquations, scopeReads}
+use Rattle.activation_rules.specs.MadeNames.{Scope, branch, other, sampleVar, scopeAt, valueVar}
+use Rattle.activation_rules.specs.Defines.{eqn, firstLeft}
+use Rattle.activation_rules.specs.Clocks.{onto}
+use Rattle.activation_rules.specs.Unlast.{unlast}
+use Rattle.activation_rules.specs.Samples.{dropIn, overSamples, sampleEquations}
+use Rattle.activation_rules.specs.Scopes.{branchEquations, rewritten, scopeEquations, scopeReads}
 use Rattle.activations.specs.Lookups.{MadeIs}
 use Rattle.activations.specs.Places.{equationEnd, firstLeftIn}
 use Rattle.activations.specs.Walks.{LastIs}

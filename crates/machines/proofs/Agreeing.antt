@@ -18,8 +18,8 @@ use Rattle.pack.specs.Read.{OneRegion, OneState, drawnOf, optionalIn, regionAt,
 use Rattle.machines.specs.declared.path.Path.{Path}
 use Rattle.machines.specs.declared.walk.Walked.{Walked}
 use Rattle.machines.specs.declared.walk.Walked.the-variants as wk
-use Rattle.machines.specs.Refusals.{refineCycle, tooLarge, unknownRefine}
-use Rattle.machines.specs.Resolve.{Target, Walk, deeper, machineOf, refineAt, refineWith, resolveR, resolveS, shortR, shortS, stop, walkOn, withRefine, withTarget}
+use Rattle.machine_rules.specs.Refusals.{refineCycle, tooLarge, unknownRefine}
+use Rattle.machine_rules.specs.Resolve.{Target, Walk, deeper, machineOf, refineAt, refineWith, resolveR, resolveS, shortR, shortS, stop, walkOn, withRefine, withTarget}
 use Rattle.machines.specs.Sure.{machineFrom, numberIn, regionIn, with}
 use Rattle.machines.specs.Tables.{lenOf}
 use Rattle.machines.specs.Paths.{pushedOf}

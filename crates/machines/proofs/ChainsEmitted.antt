@@ -14,12 +14,12 @@ use Rattle.pack.specs.Read.{exprIn, nameIn, transitionIn}
 use Rattle.pack.specs.Write.{Item, exprItems, raw}
 use Rattle.pack.specs.Intern.{putItem, putName, render}
 use Rattle.pack.proofs.Interns.{render-append}
-use Rattle.machines.specs.MadeNames.{stateVar}
-use Rattle.machines.specs.Resolve.{prefixTransitions}
+use Rattle.machine_rules.specs.MadeNames.{stateVar}
+use Rattle.machine_rules.specs.Resolve.{prefixTransitions}
 use Rattle.machines.specs.Stands.{StateAt, endOf}
 use Rattle.machines.specs.Sure.{numberIn, with}
 use Rattle.machines.specs.Laid.{HeldS, StateRow, hEnd, hMore, prefixOf, sliceOf}
-use Rattle.machines.specs.Lower.{isName, nextChain, orElse, transitionsOf}
+use Rattle.machine_rules.specs.Lower.{isName, nextChain, orElse, transitionsOf}
 use Rattle.machines.specs.Emits.{chainT, inRegion, lastOr, lettersAt, moveT, movesT, packName, testT, transitionsT}
 use Rattle.machines.proofs.Reading.{many-cut, many-more, many-over, name-number}
 use Rattle.machines.proofs.SureLaws.{end-to, number-to}

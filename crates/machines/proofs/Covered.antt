@@ -17,8 +17,8 @@ use Rattle.pack.specs.Legal.{Fresh}
 use Rattle.pack.specs.Report.{firstOf}
 use Rattle.pack.specs.Read.{equationIn, equationsIn, exprIn, nameIn, namesIn}
 use Rattle.machines.specs.declared.cover.Told.{Told}
-use Rattle.machines.specs.Lower.{coversR, coversS, isOnly, isSome, ownValue}
-use Rattle.machines.specs.Checks.{uncoveredR, uncoveredS, unlessCovered, unlessOther}
+use Rattle.machine_rules.specs.Lower.{coversR, coversS, isOnly, isSome, ownValue}
+use Rattle.machine_rules.specs.Checks.{uncoveredR, uncoveredS, unlessCovered, unlessOther}
 use Rattle.machines.specs.Stands.{StateAt, endOf}
 use Rattle.machines.specs.Sure.{numberIn, with}
 use Rattle.machines.specs.Laid.{HeldR, HeldS, RegionRow, StateRow, gEnd, gMore, hEnd, hMore}

@@ -18,10 +18,10 @@ use Rattle.pack.specs.Report.{asRefusal, firstOf}
 use Rattle.pack.specs.Verdict.{offsetOf}
 use Rattle.pack.proofs.WrittenBack.{allSmall, small-bytes}
 use Rattle.machines.specs.declared.walk.Walked.the-variants as wk
-use Rattle.machines.specs.Resolve.{arrive, asMachine, asTarget, deeper, machineOf, prefixR, prefixS, prefixTransitions, refineAt, refineWith, resolveR, resolveS, resolvedStates, shortName, shortR, shortS, shortTargets, snoc, walkOn, went, withRefine, withTarget}
-use Rattle.machines.specs.Lower.{coversR, coversS, isOnly, isSome, namesOf, ownValue}
-use Rattle.machines.specs.Checks.{allNamesR, allNamesS, badInitial, badR, badS, badTarget, emptyTop, refusalOf, repeated, uncovered, uncoveredR, uncoveredS, unlessCovered, unlessOther}
-use Rattle.machines.specs.Machines.{accept, checked, judge, resolved}
+use Rattle.machine_rules.specs.Resolve.{arrive, asMachine, asTarget, deeper, machineOf, prefixR, prefixS, prefixTransitions, refineAt, refineWith, resolveR, resolveS, resolvedStates, shortName, shortR, shortS, shortTargets, snoc, walkOn, went, withRefine, withTarget}
+use Rattle.machine_rules.specs.Lower.{coversR, coversS, isOnly, isSome, namesOf, ownValue}
+use Rattle.machine_rules.specs.Checks.{allNamesR, allNamesS, badInitial, badR, badS, badTarget, emptyTop, refusalOf, repeated, uncovered, uncoveredR, uncoveredS, unlessCovered, unlessOther}
+use Rattle.machine_rules.specs.Machines.{accept, checked, judge, resolved}
 use Rattle.machines.specs.Judging.{boardAt, judgeAt}
 use Rattle.machines.specs.Verdicts.{AcceptedAs}
 use Rattle.machines.specs.JudgedAs.{JudgedAs}

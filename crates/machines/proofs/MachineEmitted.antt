@@ -19,8 +19,8 @@ use Rattle.pack.specs.Intern.{putItem, putName, render}
 use Rattle.pack.proofs.Copies.{copied-expr, render-known}
 use Rattle.pack.proofs.Tables.{code, place-at-name}
 use Rattle.machines.specs.Laid.{HeldR, sliceOf}
-use Rattle.machines.specs.Lower.{equationsOf, equationsS, outputEquations, sizeS, topEquations}
-use Rattle.machines.specs.Checks.{refusalOf}
+use Rattle.machine_rules.specs.Lower.{equationsOf, equationsS, outputEquations, sizeS, topEquations}
+use Rattle.machine_rules.specs.Checks.{refusalOf}
 use Rattle.machines.specs.Emits.{packName, regionsT}
 use Rattle.machines.specs.Values.{portOutputsT}
 use Rattle.machines.proofs.NamesPlaced.{SpotAt}

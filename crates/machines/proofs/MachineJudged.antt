@@ -19,13 +19,13 @@ use Rattle.machines.specs.declared.refusal.Judged.{Judged}
 use Rattle.machines.specs.declared.sure.Num.{Num}
 use Rattle.machines.specs.declared.walk.Walked.{Walked}
 use Rattle.machines.specs.declared.walk.Walked.the-variants as wk
-use Rattle.machines.specs.Refusals.{refineCycle, tooLarge, unknownRefine}
-use Rattle.machines.specs.Resolve.{asMachine, resolvedStates, stop, went}
+use Rattle.machine_rules.specs.Refusals.{refineCycle, tooLarge, unknownRefine}
+use Rattle.machine_rules.specs.Resolve.{asMachine, resolvedStates, stop, went}
 use Rattle.machines.specs.Sure.{num, numberIn}
 use Rattle.machines.specs.Tables.{initialIn, outputsIn}
-use Rattle.machines.specs.Lower.{sizeS}
-use Rattle.machines.specs.Checks.{refusalOf}
-use Rattle.machines.specs.Machines.{checked, judge, resolved}
+use Rattle.machine_rules.specs.Lower.{sizeS}
+use Rattle.machine_rules.specs.Checks.{refusalOf}
+use Rattle.machine_rules.specs.Machines.{checked, judge, resolved}
 use Rattle.machines.specs.Walks.{machineW}
 use Rattle.machines.specs.Same.{WithinNames, whyOf}
 use Rattle.machines.specs.Lays.{Board, board, lay, layMachine}

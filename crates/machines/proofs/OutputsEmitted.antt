@@ -20,8 +20,8 @@ use Rattle.pack.specs.Intern.{putItem, putName, render}
 use Rattle.machines.specs.Stands.{endOf}
 use Rattle.machines.specs.Sure.{numberIn}
 use Rattle.machines.specs.Laid.{HeldR, gMore, sliceOf}
-use Rattle.machines.specs.Lower.{coversS, defaultOf, outputEquations, valueS}
-use Rattle.machines.specs.Checks.{uncovered}
+use Rattle.machine_rules.specs.Lower.{coversS, defaultOf, outputEquations, valueS}
+use Rattle.machine_rules.specs.Checks.{uncovered}
 use Rattle.machines.specs.Emits.{packName}
 use Rattle.machines.specs.Values.{Peopled, WholeS, outputT, outputsT, portOutputsT, valueT}
 use Rattle.machines.proofs.Reading.{many-cut, many-more, many-over, name-number}

@@ -16,10 +16,10 @@ use Rattle.pack.specs.Intern.{render}
 use Rattle.machines.specs.declared.sure.Num.{Num}
 use Rattle.machines.specs.declared.walk.Walked.{Walked}
 use Rattle.machines.specs.declared.walk.Walked.the-variants as wk
-use Rattle.machines.specs.Resolve.{Walk, asMachine, stop, went}
+use Rattle.machine_rules.specs.Resolve.{Walk, asMachine, stop, went}
 use Rattle.machines.specs.Same.{Same, fitS, goes, stops}
-use Rattle.machines.specs.Lower.{enumsOf, equationsOf}
-use Rattle.machines.specs.Checks.{refusalOf}
+use Rattle.machine_rules.specs.Lower.{enumsOf, equationsOf}
+use Rattle.machine_rules.specs.Checks.{refusalOf}
 use Rattle.machines.specs.Lays.{Board, fed, layMachine}
 use Rattle.machines.specs.Emits.{enumsT, packName, regionsT}
 use Rattle.machines.specs.Values.{WholeR, portOutputsT}

@@ -19,10 +19,10 @@ use Rattle.pack.specs.Read.{machineIn, optionalIn}
 use Rattle.pack.specs.Report.{Refusal}
 use Rattle.pack.proofs.Tables.{Either, either, known, place-out, unknown}
 use Rattle.machines.specs.declared.sure.Num.{Num}
-use Rattle.machines.specs.Refusals.{unknownOwner}
-use Rattle.machines.specs.Resolve.{asMachine}
-use Rattle.machines.specs.Checks.{refusalOf}
-use Rattle.machines.specs.Machines.{Judged, accept, judge, refuse}
+use Rattle.machine_rules.specs.Refusals.{unknownOwner}
+use Rattle.machine_rules.specs.Resolve.{asMachine}
+use Rattle.machine_rules.specs.Checks.{refusalOf}
+use Rattle.machine_rules.specs.Machines.{Judged, accept, judge, refuse}
 use Rattle.machines.specs.Sections.{fateOf, indexOf, shareOf}
 use Rattle.machines.specs.Judges.{namesThen}
 use Rattle.machines.specs.Shown.{LoweredAt}

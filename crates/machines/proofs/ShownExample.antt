@@ -18,9 +18,9 @@ use Rattle.pack.specs.Report.{asRefusal, firstOf}
 use Rattle.pack.specs.Verdict.{Stands}
 use Rattle.pack.specs.declared.record.Pack.{Pack}
 use Rattle.pack.specs.Write.{enc}
-use Rattle.machines.specs.Checks.{allNamesR, allNamesS, badInitial, badR, badS, badTarget, emptyTop, refusalOf, repeated, uncovered}
-use Rattle.machines.specs.Resolve.{arrive, asMachine, resolveR, resolveS, resolvedStates, walkOn, withRefine}
-use Rattle.machines.specs.Lower.{namesOf, sizeR, sizeS}
+use Rattle.machine_rules.specs.Checks.{allNamesR, allNamesS, badInitial, badR, badS, badTarget, emptyTop, refusalOf, repeated, uncovered}
+use Rattle.machine_rules.specs.Resolve.{arrive, asMachine, resolveR, resolveS, resolvedStates, walkOn, withRefine}
+use Rattle.machine_rules.specs.Lower.{namesOf, sizeR, sizeS}
 use Rattle.machines.specs.Emits.{packName}
 use Rattle.machines.specs.Sections.{Share, alone, fateOf}
 use Rattle.machines.specs.Shown.{Lowered, PackOf, Shown}

@@ -14,8 +14,8 @@ use Rattle.pack.specs.Write.{Item, each, portItems, raw}
 use Rattle.pack.specs.Intern.{putItem, render}
 use Rattle.pack.proofs.Interns.{render-append}
 use Rattle.pack.proofs.Copies.{lies-copied, lies-ports-rest}
-use Rattle.machines.specs.Resolve.{asMachine}
-use Rattle.machines.specs.Lower.{localsOf, localsS, regionLocals, sizeS}
+use Rattle.machine_rules.specs.Resolve.{asMachine}
+use Rattle.machine_rules.specs.Lower.{localsOf, localsS, regionLocals, sizeS}
 use Rattle.machines.specs.Locals.{innerLocals}
 use Rattle.machines.specs.Laid.{sliceOf}
 use Rattle.machines.specs.Sections.{Share, bringsItems, shareMachine}

@@ -24,7 +24,7 @@ use Rattle.pack.specs.Intern.{render}
 use Rattle.pack.proofs.Tables.{code, place-at-name}
 use Rattle.pack.proofs.Interns.{render-append}
 use Rattle.pack.proofs.Copies.{render-known}
-use Rattle.machines.specs.Resolve.{asMachine}
+use Rattle.machine_rules.specs.Resolve.{asMachine}
 use Rattle.machines.specs.Sections.{Share, bringsCount, broughtCount, equationCount, equationsBefore, fateOf, originFor, originsItems, total}
 use Rattle.machines.specs.Sure.{numberIn, with}
 use Rattle.machines.specs.Shown.{PackOf, Shown, ShownAt}

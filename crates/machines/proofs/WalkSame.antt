@@ -21,8 +21,8 @@ use Rattle.pack.proofs.Tables.{eqName-true}
 use Rattle.machines.specs.declared.path.Path.{Path}
 use Rattle.machines.specs.declared.walk.Walked.{Walked}
 use Rattle.machines.specs.declared.walk.Walked.the-variants as wk
-use Rattle.machines.specs.Refusals.{tooLarge}
-use Rattle.machines.specs.Resolve.{Target, Walk, arrive, asTarget, machineOf, prefixS, shortName, shortR, shortS, shortTargets, snoc, stop, walkOn, went, withTarget}
+use Rattle.machine_rules.specs.Refusals.{tooLarge}
+use Rattle.machine_rules.specs.Resolve.{Target, Walk, arrive, asTarget, machineOf, prefixS, shortName, shortR, shortS, shortTargets, snoc, stop, walkOn, went, withTarget}
 use Rattle.machines.specs.Stands.{StateAt}
 use Rattle.machines.specs.Sure.{num, numberIn, turns, with}
 use Rattle.machines.specs.Tables.{lenOf}

@@ -18,7 +18,7 @@ use Rattle.pack.specs.Verdict.{Stands}
 use Rattle.pack.specs.declared.record.Pack.{Pack}
 use Rattle.machines.specs.declared.walk.Walked.{Walked}
 use Rattle.machines.specs.declared.walk.Walked.the-variants as wk
-use Rattle.machines.specs.Resolve.{Walk, refineAt, resolveS, resolvedStates, shortS, stop, went}
+use Rattle.machine_rules.specs.Resolve.{Walk, refineAt, resolveS, resolvedStates, shortS, stop, went}
 use Rattle.machines.specs.Stands.{StandsS}
 use Rattle.machines.specs.Sure.{machineFrom}
 use Rattle.machines.specs.Tables.{lenOf, machinesPlaced, namesPlaced}

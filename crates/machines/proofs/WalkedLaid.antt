@@ -14,7 +14,7 @@ use Rattle.pack.specs.Forms.{nameAt}
 use Rattle.machines.specs.declared.walk.Walked.the-variants as wk
 use Rattle.machines.specs.Counts.{countS}
 use Rattle.machines.specs.Lays.{layMachine}
-use Rattle.machines.specs.Resolve.{resolvedStates, shortS, went}
+use Rattle.machine_rules.specs.Resolve.{resolvedStates, shortS, went}
 use Rattle.machines.specs.Stands.{StandsS}
 use Rattle.machines.specs.Walks.{machineW}
 use Rattle.machines.proofs.Reading.{MachineRead}

@@ -13,8 +13,8 @@ use Rattle.pack.specs.Forms.{nameAt}
 use Rattle.pack.specs.Report.{Refusal}
 use Rattle.machines.specs.declared.walk.Walked.{Walked}
 use Rattle.machines.specs.declared.walk.Walked.the-variants as wk
-use Rattle.machines.specs.Refusals.{refineCycle, tooLarge, unknownRefine}
-use Rattle.machines.specs.Resolve.{Walk, shortR, shortS, stop, went}
+use Rattle.machine_rules.specs.Refusals.{refineCycle, tooLarge, unknownRefine}
+use Rattle.machine_rules.specs.Resolve.{Walk, shortR, shortS, stop, went}
 
 -- why a walk of the machine `top` stopped
 unfoldable pub whyOf : List Name → Name → Walked → Option Refusal

@@ -10,7 +10,7 @@ use Rattle.pack.specs.Names.{Name}
 use Rattle.pack.specs.Syntax.{Equation, Regions, States, Transition, rCons, rNil, sCons, sNil}
 use Rattle.pack.specs.Forms.{flagOf}
 use Rattle.pack.specs.Read.{equationsIn, nameIn, stateAt, transitionIn}
-use Rattle.machines.specs.Resolve.{prefixTransitions}
+use Rattle.machine_rules.specs.Resolve.{prefixTransitions}
 
 -- a state's fields up to its regions: k of them, from b on
 pub record StateAt (ns : List Name) (s : List ℕ) (at : ℕ) (nm : Name) (es : List Equation) (ts : List Transition) (k b : ℕ) : Type 0 where

@@ -8,9 +8,9 @@ use mathlib.Core.Path.{_≡_, refl, ap, subst, _∙_}
 use lib.ListN.{length}
 use Rattle.pack.specs.Names.{Name, eqName, member}
 use Rattle.pack.specs.Syntax.{Equation, Expr, Regions, States, Transition, rCons, rNil, sCons, sNil}
-use Rattle.machines.specs.Checks.{allNamesR, allNamesS}
-use Rattle.machines.specs.Lower.{coversR, coversS, fromOption, isName, isOnly, isSome, namesOf, orElse, ownValue, sizeR, sizeS, valueR, valueS}
-use Rattle.machines.specs.MadeNames.{stateVar}
+use Rattle.machine_rules.specs.Checks.{allNamesR, allNamesS}
+use Rattle.machine_rules.specs.Lower.{coversR, coversS, fromOption, isName, isOnly, isSome, namesOf, orElse, ownValue, sizeR, sizeS, valueR, valueS}
+use Rattle.machine_rules.specs.MadeNames.{stateVar}
 use Rattle.runs.specs.Chart.{Guards}
 use Rattle.runs.specs.Claim.{Picks}
 use Rattle.runs.specs.Premises.{HasValue, sidesE, sidesR, sidesS}

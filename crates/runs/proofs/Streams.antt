@@ -5,7 +5,7 @@ use mathlib.Core.Bool.{Bool, false, cond}
 use mathlib.Core.Option.{Option, none}
 use Rattle.pack.specs.Names.{Name, eqName}
 use Rattle.pack.specs.Syntax.{Expr, Machine, Regions, States, rCons, rNil, sCons, sNil}
-use Rattle.machines.specs.Lower.{coversS, ownValue}
+use Rattle.machine_rules.specs.Lower.{coversS, ownValue}
 use Rattle.runs.specs.Chart.{Guards, Kept, find, keep}
 use Rattle.runs.specs.Words.{always, within}
 

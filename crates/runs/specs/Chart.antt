@@ -6,7 +6,7 @@ use mathlib.Core.Option.{Option, none}
 use lib.ListN.{drop}
 use Rattle.pack.specs.Names.{Name, eqName}
 use Rattle.pack.specs.Syntax.{Expr, Machine, Regions, States, Transition, rCons, rNil, sCons, sNil}
-use Rattle.machines.specs.Lower.{coversS, ownValue, sizeR, sizeS}
+use Rattle.machine_rules.specs.Lower.{coversS, ownValue, sizeR, sizeS}
 use Rattle.runs.specs.Run.{history}
 
 -- each guard's value in each cycle

@@ -3,11 +3,11 @@ use mathlib.Core.List.{List, [], _∷_, _++_}
 use Prim.Native.Nat.{ℕ, suc}
 use Rattle.pack.specs.Names.{Name}
 use Rattle.pack.specs.Syntax.{Branch, Equation, Expr, Port, Ty}
-use Rattle.activations.specs.MadeNames.{Scope, branch, valueVar}
-use Rattle.activations.specs.Defines.{eqn, firstLeft}
-use Rattle.activations.specs.Unlast.{unlast}
-use Rattle.activations.specs.Reads.{readsOf}
-use Rattle.activations.specs.Samples.{dropIn, overSamples, sampleEquations, sampleLocals}
+use Rattle.activation_rules.specs.MadeNames.{Scope, branch, valueVar}
+use Rattle.activation_rules.specs.Defines.{eqn, firstLeft}
+use Rattle.activation_rules.specs.Unlast.{unlast}
+use Rattle.activation_rules.specs.Reads.{readsOf}
+use Rattle.activation_rules.specs.Samples.{dropIn, overSamples, sampleEquations, sampleLocals}
 
 -- what an equation reads of the known variables, its holders among them; collected before it is renamed
 unfoldable pub scopeReads : Name → List Name → Equation → List Name

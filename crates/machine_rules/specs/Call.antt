@@ -5,7 +5,7 @@ use Rattle.pack.specs.Syntax.{Package}
 use Rattle.pack.specs.Read.{read}
 use Rattle.pack.specs.Report.{Refusal, reportBytes}
 use Rattle.pack.specs.Outcome.{Outcome, onPackage, reported, written}
-use Rattle.machines.specs.Machines.{Made, madeMachines, withoutMachines}
+use Rattle.machine_rules.specs.Machines.{Made, madeMachines, withoutMachines}
 
 -- a report where something is refused, else the pack
 unfoldable pub finished : ℕ → ℕ → List Refusal → Package → Outcome

@@ -4,8 +4,8 @@ use mathlib.Core.Bool.{true, false}
 use Prim.Native.Nat.{ℕ, zero, suc}
 use Rattle.pack.specs.Names.{Name}
 use Rattle.pack.specs.Syntax.{Equation, Expr, eVar, eWhen}
-use Rattle.activations.specs.MadeNames.{Scope, branch, clockVar, flagVar, other}
-use Rattle.activations.specs.Defines.{eqn}
+use Rattle.activation_rules.specs.MadeNames.{Scope, branch, clockVar, flagVar, other}
+use Rattle.activation_rules.specs.Defines.{eqn}
 
 -- as `under` in 001: e on the clock where no branch before k is taken
 unfoldable pub under : Name → ℕ → Expr → Expr

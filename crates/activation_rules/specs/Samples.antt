@@ -4,11 +4,11 @@ use mathlib.Core.Bool.{cond}
 use Prim.Native.Nat.{ℕ}
 use Rattle.pack.specs.Names.{Name, eqName, member}
 use Rattle.pack.specs.Syntax.{Equation, Expr, Port, Ty, eVar}
-use Rattle.activations.specs.MadeNames.{Scope, sampleVar}
-use Rattle.activations.specs.Defines.{eqn}
-use Rattle.activations.specs.Clocks.{onto}
-use Rattle.activations.specs.Renames.{rename}
-use Rattle.activations.specs.Pins.{pinned}
+use Rattle.activation_rules.specs.MadeNames.{Scope, sampleVar}
+use Rattle.activation_rules.specs.Defines.{eqn}
+use Rattle.activation_rules.specs.Clocks.{onto}
+use Rattle.activation_rules.specs.Renames.{rename}
+use Rattle.activation_rules.specs.Pins.{pinned}
 
 -- Activations, samples as in 001: of the names read those that the scope has not sampled yet
 unfoldable pub dropIn : List Name → List Name → List Name

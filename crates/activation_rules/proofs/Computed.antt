@@ -12,35 +12,35 @@ use Rattle.pack.specs.Read
 use Rattle.pack.specs.Write
 use Rattle.pack.specs.Report
 use Rattle.pack.specs.Outcome
-use Rattle.machines.specs.Lower
-use Rattle.machines.specs.Checks
-use Rattle.machines.specs.Machines
-use Rattle.machines.specs.Call
-use Rattle.activations.specs.Refusals
-use Rattle.activations.specs.MadeNames
-use Rattle.activations.specs.LastCalls
-use Rattle.activations.specs.Misused
-use Rattle.activations.specs.Sought
-use Rattle.activations.specs.Unlast
-use Rattle.activations.specs.Reads
-use Rattle.activations.specs.Renames
-use Rattle.activations.specs.Pins
-use Rattle.activations.specs.Defines
-use Rattle.activations.specs.Flags
-use Rattle.activations.specs.Clocks
-use Rattle.activations.specs.Samples
-use Rattle.activations.specs.Scopes
-use Rattle.activations.specs.Merges
-use Rattle.activations.specs.Types
-use Rattle.activations.specs.Defaults
-use Rattle.activations.specs.Holders
-use Rattle.activations.specs.Checks as Checked
-use Rattle.activations.specs.EmptyLeft
-use Rattle.activations.specs.Lower as Lowers
-use Rattle.activations.specs.Activations
-use Rattle.activations.specs.Call as Calls
+use Rattle.machine_rules.specs.Lower
+use Rattle.machine_rules.specs.Checks
+use Rattle.machine_rules.specs.Machines
+use Rattle.machine_rules.specs.Call
+use Rattle.activation_rules.specs.Refusals
+use Rattle.activation_rules.specs.MadeNames
+use Rattle.activation_rules.specs.LastCalls
+use Rattle.activation_rules.specs.Misused
+use Rattle.activation_rules.specs.Sought
+use Rattle.activation_rules.specs.Unlast
+use Rattle.activation_rules.specs.Reads
+use Rattle.activation_rules.specs.Renames
+use Rattle.activation_rules.specs.Pins
+use Rattle.activation_rules.specs.Defines
+use Rattle.activation_rules.specs.Flags
+use Rattle.activation_rules.specs.Clocks
+use Rattle.activation_rules.specs.Samples
+use Rattle.activation_rules.specs.Scopes
+use Rattle.activation_rules.specs.Merges
+use Rattle.activation_rules.specs.Types
+use Rattle.activation_rules.specs.Defaults
+use Rattle.activation_rules.specs.Holders
+use Rattle.activation_rules.specs.Checks as Checked
+use Rattle.activation_rules.specs.EmptyLeft
+use Rattle.activation_rules.specs.Lower as Lowers
+use Rattle.activation_rules.specs.Activations
+use Rattle.activation_rules.specs.Call as Calls
 use Rattle.pack.specs.Outcome.{Outcome}
-use Rattle.activations.specs.Call.{lowerActivations}
+use Rattle.activation_rules.specs.Call.{lowerActivations}
 
 -- a pack, the length of both buffers, and what is given
 pub record Chart : Type 0 where

@@ -12,15 +12,15 @@ use Rattle.pack.specs.Read
 use Rattle.pack.specs.Write
 use Rattle.pack.specs.Report
 use Rattle.pack.specs.Outcome
-use Rattle.machines.specs.Refusals
-use Rattle.machines.specs.MadeNames
-use Rattle.machines.specs.Resolve
-use Rattle.machines.specs.Lower
-use Rattle.machines.specs.Checks
-use Rattle.machines.specs.Machines
-use Rattle.machines.specs.Call
+use Rattle.machine_rules.specs.Refusals
+use Rattle.machine_rules.specs.MadeNames
+use Rattle.machine_rules.specs.Resolve
+use Rattle.machine_rules.specs.Lower
+use Rattle.machine_rules.specs.Checks
+use Rattle.machine_rules.specs.Machines
+use Rattle.machine_rules.specs.Call
 use Rattle.pack.specs.Outcome.{Outcome}
-use Rattle.machines.specs.Call.{lowerMachines}
+use Rattle.machine_rules.specs.Call.{lowerMachines}
 
 -- the definition with everything unfolded; both buffers have so many bytes
 unfoldable pub machinesGiven : List ℕ → ℕ → Outcome

@@ -6,19 +6,19 @@ use lib.ListN.{length}
 use Rattle.pack.specs.Names.{Name}
 use Rattle.pack.specs.Report.{Refusal}
 use Rattle.pack.specs.Syntax.{Activation, Enum, Equation, Expr, Node, Port, Ty, tBool}
-use Rattle.activations.specs.Refusals.{emptyLeft}
-use Rattle.activations.specs.MadeNames.{other}
-use Rattle.activations.specs.Defines.{asLocals}
-use Rattle.activations.specs.Sought.{expressions, found}
-use Rattle.activations.specs.Unlast.{conditionsOf}
-use Rattle.activations.specs.Types.{readable, sampleType, valueType, variables}
-use Rattle.activations.specs.Holders.{Holding, held, hold, unheld}
-use Rattle.activations.specs.Flags.{flagEquations}
-use Rattle.activations.specs.Clocks.{guardEquations}
-use Rattle.activations.specs.Scopes.{branchEquations, branchLocals, scopeEquations, scopeLocals}
-use Rattle.activations.specs.Merges.{mergeEquations}
-use Rattle.activations.specs.Checks.{checks}
-use Rattle.activations.specs.EmptyLeft.{leftlessIn}
+use Rattle.activation_rules.specs.Refusals.{emptyLeft}
+use Rattle.activation_rules.specs.MadeNames.{other}
+use Rattle.activation_rules.specs.Defines.{asLocals}
+use Rattle.activation_rules.specs.Sought.{expressions, found}
+use Rattle.activation_rules.specs.Unlast.{conditionsOf}
+use Rattle.activation_rules.specs.Types.{readable, sampleType, valueType, variables}
+use Rattle.activation_rules.specs.Holders.{Holding, held, hold, unheld}
+use Rattle.activation_rules.specs.Flags.{flagEquations}
+use Rattle.activation_rules.specs.Clocks.{guardEquations}
+use Rattle.activation_rules.specs.Scopes.{branchEquations, branchLocals, scopeEquations, scopeLocals}
+use Rattle.activation_rules.specs.Merges.{mergeEquations}
+use Rattle.activation_rules.specs.Checks.{checks}
+use Rattle.activation_rules.specs.EmptyLeft.{leftlessIn}
 
 -- all but the first
 unfoldable pub tailOf : List Expr → List Expr

@@ -5,11 +5,11 @@ use mathlib.Core.Option.{Option, none, some}
 use Rattle.pack.specs.Names.{Name}
 use Rattle.pack.specs.Report.{Refusal, asRefusal, firstOf}
 use Rattle.pack.specs.Syntax.{Activation, Branch, Equation, Port}
-use Rattle.machines.specs.Lower.{isSome, ownValue}
-use Rattle.machines.specs.Checks.{repeated}
-use Rattle.activations.specs.Refusals.{duplicateBranch, lastArgs, noBranches, noOutputs, outputUnassigned}
-use Rattle.activations.specs.Misused.{anyMisused}
-use Rattle.activations.specs.Sought.{expressions}
+use Rattle.machine_rules.specs.Lower.{isSome, ownValue}
+use Rattle.machine_rules.specs.Checks.{repeated}
+use Rattle.activation_rules.specs.Refusals.{duplicateBranch, lastArgs, noBranches, noOutputs, outputUnassigned}
+use Rattle.activation_rules.specs.Misused.{anyMisused}
+use Rattle.activation_rules.specs.Sought.{expressions}
 
 -- Activations, the first check of `lower`
 unfoldable pub branchless : Name → List Branch → Option Refusal

@@ -4,9 +4,9 @@ use Prim.Native.Nat.{ℕ}
 use Rattle.pack.specs.Syntax.{Package}
 use Rattle.pack.specs.Read.{read}
 use Rattle.pack.specs.Outcome.{Outcome, onPackage}
-use Rattle.machines.specs.Machines.{Made}
-use Rattle.machines.specs.Call.{finished}
-use Rattle.activations.specs.Activations.{madeActivations, withoutActivations}
+use Rattle.machine_rules.specs.Machines.{Made}
+use Rattle.machine_rules.specs.Call.{finished}
+use Rattle.activation_rules.specs.Activations.{madeActivations, withoutActivations}
 
 -- the table, 6 to 9 and 0: a report where something is refused, else the pack
 unfoldable pub activationsOf : ℕ → ℕ → Package → Outcome

@@ -4,8 +4,8 @@ use mathlib.Core.Option.{Option, none, some}
 use Prim.Native.Nat.{ℕ, suc}
 use Rattle.pack.specs.Names.{Name}
 use Rattle.pack.specs.Syntax.{Equation, Expr, eBinary, eUnary, eVar, oAnd, oNot}
-use Rattle.activations.specs.MadeNames.{flagVar, noneVar}
-use Rattle.activations.specs.Defines.{eqn}
+use Rattle.activation_rules.specs.MadeNames.{flagVar, noneVar}
+use Rattle.activation_rules.specs.Defines.{eqn}
 
 -- a condition where no branch before is taken; nothing is before the first
 unfoldable pub andAlso : Option Expr → Expr → Expr

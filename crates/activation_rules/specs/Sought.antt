@@ -5,7 +5,7 @@ use mathlib.Core.Option.{Option}
 use Rattle.pack.specs.Names.{Name, eqName}
 use Rattle.pack.specs.Report.{firstOf}
 use Rattle.pack.specs.Syntax.{Activation, Branch, Equation, Expr, Exprs, eArray, eArrow, eBinary, eCall, eCast, eConst, eField, eIf, eIndex, eIterate, eMerge, ePre, eStruct, eTuple, eUnary, eVar, eWhen, xCons, xNil}
-use Rattle.activations.specs.LastCalls.{badLast, callKind, lastOf, plain}
+use Rattle.activation_rules.specs.LastCalls.{badLast, callKind, lastOf, plain}
 
 -- a variable with its initial value, where one is given
 pub record Sought : Type 0 where

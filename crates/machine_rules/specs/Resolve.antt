@@ -10,7 +10,7 @@ use Rattle.pack.specs.Limits.{maxLevel, maxName, maxStates}
 use Rattle.pack.specs.Names.{Name, eqName, member}
 use Rattle.pack.specs.Syntax.{Drawing, Drawn, DrawnRegions, Machine, Regions, States, Transition, dCons, dNil, qCons, qNil, rCons, rNil, sCons, sNil}
 use Rattle.pack.specs.Report.{Refusal, firstOf}
-use Rattle.machines.specs.Refusals.{refineCycle, tooLarge, unknownRefine}
+use Rattle.machine_rules.specs.Refusals.{refineCycle, tooLarge, unknownRefine}
 
 -- stopped, or a value and how many states there have been
 pub data Walk (A : Type 0) : Type 0 where

@@ -2,8 +2,8 @@
 use mathlib.Core.List.{List, [], _∷_}
 use Rattle.pack.specs.Names.{Name}
 use Rattle.pack.specs.Syntax.{Branch, Expr, Exprs, eArray, eArrow, eBinary, eCall, eCast, eConst, eField, eIf, eIndex, eIterate, eMerge, ePre, eStruct, eTuple, eUnary, eVar, eWhen, xCons, xNil}
-use Rattle.activations.specs.MadeNames.{lastVar}
-use Rattle.activations.specs.LastCalls.{badLast, callKind, lastOf, plain}
+use Rattle.activation_rules.specs.MadeNames.{lastVar}
+use Rattle.activation_rules.specs.LastCalls.{badLast, callKind, lastOf, plain}
 
 -- Activations: each call of `last` becomes its holder; rewriting doesn't enter a replaced call
 unfoldable mutual

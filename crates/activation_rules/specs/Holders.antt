@@ -4,12 +4,12 @@ use mathlib.Core.Option.{Option, none, some}
 use Rattle.pack.specs.Names.{Name}
 use Rattle.pack.specs.Report.{Refusal, firstOf}
 use Rattle.pack.specs.Syntax.{Enum, Equation, Expr, Port, Ty, eArrow, ePre, eVar}
-use Rattle.activations.specs.Refusals.{lastNeedsInit, lastUnknown}
-use Rattle.activations.specs.MadeNames.{lastVar}
-use Rattle.activations.specs.Defines.{eqn}
-use Rattle.activations.specs.Sought.{Sought}
-use Rattle.activations.specs.Types.{typed}
-use Rattle.activations.specs.Defaults.{startOf}
+use Rattle.activation_rules.specs.Refusals.{lastNeedsInit, lastUnknown}
+use Rattle.activation_rules.specs.MadeNames.{lastVar}
+use Rattle.activation_rules.specs.Defines.{eqn}
+use Rattle.activation_rules.specs.Sought.{Sought}
+use Rattle.activation_rules.specs.Types.{typed}
+use Rattle.activation_rules.specs.Defaults.{startOf}
 
 -- a refusal, or the holders' locals and equations
 pub data Holding : Type 0 where

@@ -4,9 +4,9 @@ use mathlib.Core.Bool.{Bool, true, false, cond}
 use mathlib.Core.Option.{Option, none, some}
 use Rattle.pack.specs.Names.{Name, member}
 use Rattle.pack.specs.Syntax.{Machine, Port, Regions, States, Transition, rCons, rNil, sCons, sNil}
-use Rattle.machines.specs.Lower.{coversR, isSome, namesOf, ownValue}
+use Rattle.machine_rules.specs.Lower.{coversR, isSome, namesOf, ownValue}
 use Rattle.pack.specs.Report.{Refusal, asRefusal, firstOf}
-use Rattle.machines.specs.Refusals.{duplicateState, noStates, unassigned, unknownInitial, unknownTarget}
+use Rattle.machine_rules.specs.Refusals.{duplicateState, noStates, unassigned, unknownInitial, unknownTarget}
 
 -- no states at the top
 unfoldable pub emptyTop : Name → States → Option Refusal

@@ -2,10 +2,10 @@
 use mathlib.Core.List.{List, [], _∷_, _++_}
 use mathlib.Core.Option.{Option, none, some}
 use Rattle.pack.specs.Syntax.{Activation, Node, Package, ofActivation}
-use Rattle.machines.specs.Machines.{Made, extendIn, nodeNamed, originOf, refusing, start}
-use Rattle.activations.specs.Refusals.{unknownOwner}
-use Rattle.activations.specs.Checks.{branchNames, elseName}
-use Rattle.activations.specs.Lower.{Lowered, lowered, make, refuse}
+use Rattle.machine_rules.specs.Machines.{Made, extendIn, nodeNamed, originOf, refusing, start}
+use Rattle.activation_rules.specs.Refusals.{unknownOwner}
+use Rattle.activation_rules.specs.Checks.{branchNames, elseName}
+use Rattle.activation_rules.specs.Lower.{Lowered, lowered, make, refuse}
 
 -- as `lower_activations` of 003: a refused one adds its refusal only; the origin has the branches' names, and the else scope's
 unfoldable pub into : Activation → Node → Lowered → Made → Made

@@ -7,10 +7,10 @@ use lib.ListN.{length}
 use Rattle.pack.specs.Names.{Name, eqName}
 use Rattle.pack.specs.Syntax.{Drawing, Enum, Equation, Machine, Node, Origin, OriginKind, Package, Port, States, kOperator, ofMachine}
 use Rattle.pack.specs.Report.{Refusal}
-use Rattle.machines.specs.Refusals.{unknownOwner}
-use Rattle.machines.specs.Resolve.{Walk, asMachine, resolvedStates, stop, went}
-use Rattle.machines.specs.Lower.{enumsOf, equationsOf, localsOf}
-use Rattle.machines.specs.Checks.{refusalOf}
+use Rattle.machine_rules.specs.Refusals.{unknownOwner}
+use Rattle.machine_rules.specs.Resolve.{Walk, asMachine, resolvedStates, stop, went}
+use Rattle.machine_rules.specs.Lower.{enumsOf, equationsOf, localsOf}
+use Rattle.machine_rules.specs.Checks.{refusalOf}
 
 -- refused, or the machine that is lowered
 pub data Judged : Type 0 where

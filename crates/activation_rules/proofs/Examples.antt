@@ -5,7 +5,7 @@ use mathlib.Core.Path.{_≡_, refl}
 use lib.ListN.{replicate}
 use Rattle.pack.specs.Limits.{maxBytes}
 use Rattle.pack.specs.Outcome.{answers, reports, writes}
-use Rattle.activations.proofs.Computed.{Chart, given, stated}
+use Rattle.activation_rules.proofs.Computed.{Chart, given, stated}
 
 unfoldable pub examples : List Chart
 examples =

@@ -3,8 +3,8 @@ use mathlib.Core.List.{List, [], _∷_}
 use Prim.Native.Nat.{ℕ, suc}
 use Rattle.pack.specs.Names.{Name}
 use Rattle.pack.specs.Syntax.{Equation, Expr, Port, eMerge, eVar}
-use Rattle.activations.specs.MadeNames.{branch, clockVar, other, valueVar}
-use Rattle.activations.specs.Defines.{eqn}
+use Rattle.activation_rules.specs.MadeNames.{branch, clockVar, other, valueVar}
+use Rattle.activation_rules.specs.Defines.{eqn}
 
 -- an output from the scopes of the branches from k on, and the else scope
 unfoldable pub mergeFrom : Name → Name → ℕ → List Expr → Expr
