@@ -3,7 +3,8 @@ use mathlib.Core.List.{List, [], _∷_, _++_}
 use mathlib.Core.Bool.{Bool, true, false, cond}
 use mathlib.Core.Option.{Option, none, some}
 use Rattle.pack.specs.Names.{Name, member}
-use Rattle.pack.specs.Syntax.{Machine, Port, Regions, States, Transition, rCons, rNil, sCons, sNil}
+use Rattle.pack.specs.Syntax.{Port, Transition}
+use Rattle.machine_rules.specs.Resolved.{Machine, Regions, States, rCons, rNil, sCons, sNil}
 use Rattle.machine_rules.specs.Lower.{coversR, isSome, namesOf, ownValue}
 use Rattle.pack.specs.Report.{Refusal, asRefusal, firstOf}
 use Rattle.machine_rules.specs.Refusals.{duplicateState, noStates, unassigned, unknownInitial, unknownTarget}

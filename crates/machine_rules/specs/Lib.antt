@@ -1,3 +1,4 @@
+pub mod Resolved
 pub mod Refusals
 pub mod MadeNames
 pub mod Resolve

@@ -5,7 +5,8 @@ use mathlib.Core.Option.{Option, none, some}
 use Prim.Native.Nat.{ℕ, suc, _+_}
 use Rattle.pack.specs.Names.{Name, eqName}
 use Rattle.machine_rules.specs.MadeNames.{activeVar, enumName, nextVar, stateVar}
-use Rattle.pack.specs.Syntax.{Enum, Equation, Expr, Machine, Port, Regions, States, Transition, Ty, eArrow, eBinary, eConst, eIf, ePre, eUnary, eVar, lBool, lChar, lFloat, lInt, oAnd, oEq, oNot, rCons, rNil, sCons, sNil, tArray, tBool, tChar, tFloat32, tFloat64, tInt16, tInt32, tInt64, tInt8, tNamed, tUint16, tUint32, tUint64, tUint8}
+use Rattle.pack.specs.Syntax.{Enum, Equation, Expr, Port, Transition, Ty, eArrow, eBinary, eConst, eIf, ePre, eUnary, eVar, lBool, lChar, lFloat, lInt, oAnd, oEq, oNot, tArray, tBool, tChar, tFloat32, tFloat64, tInt16, tInt32, tInt64, tInt8, tNamed, tUint16, tUint32, tUint64, tUint8}
+use Rattle.machine_rules.specs.Resolved.{Machine, Regions, States, rCons, rNil, sCons, sNil}
 
 -- how many regions are in a list of states, in a list of regions
 unfoldable mutual

@@ -5,7 +5,8 @@ use mathlib.Core.Option.{Option, none, some}
 use Prim.Native.Nat.{_+_}
 use lib.ListN.{length}
 use Rattle.pack.specs.Names.{Name, eqName}
-use Rattle.pack.specs.Syntax.{Drawing, Enum, Equation, Machine, Node, Origin, OriginKind, Package, Port, States, kOperator, ofMachine}
+use Rattle.pack.specs.Syntax.{Drawing, Enum, Equation, Node, Origin, OriginKind, Package, Port, kOperator, ofMachine}
+use Rattle.machine_rules.specs.Resolved.{Machine, States}
 use Rattle.pack.specs.Report.{Refusal}
 use Rattle.machine_rules.specs.Refusals.{unknownOwner}
 use Rattle.machine_rules.specs.Resolve.{Walk, asMachine, resolvedStates, stop, went}

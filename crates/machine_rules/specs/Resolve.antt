@@ -8,7 +8,8 @@ use lib.ListN.{length}
 use lib.Dec.{ltb, leb}
 use Rattle.pack.specs.Limits.{maxLevel, maxName, maxStates}
 use Rattle.pack.specs.Names.{Name, eqName, member}
-use Rattle.pack.specs.Syntax.{Drawing, Drawn, DrawnRegions, Machine, Regions, States, Transition, dCons, dNil, qCons, qNil, rCons, rNil, sCons, sNil}
+use Rattle.pack.specs.Syntax.{Drawing, Drawn, DrawnRegions, Transition, dCons, dNil, qCons, qNil}
+use Rattle.machine_rules.specs.Resolved.{Machine, Regions, States, rCons, rNil, sCons, sNil}
 use Rattle.pack.specs.Report.{Refusal, firstOf}
 use Rattle.machine_rules.specs.Refusals.{refineCycle, tooLarge, unknownRefine}
 

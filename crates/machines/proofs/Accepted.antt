@@ -6,7 +6,8 @@ use mathlib.Core.Path.{_≡_, refl, sym, ap, _∙_}
 use Prim.Native.Nat.{ℕ}
 use native.Mathlib.Omega.{arith}
 use Rattle.pack.specs.Names.{Name, member}
-use Rattle.pack.specs.Syntax.{Machine, Port, Regions, States, rCons, rNil, sCons, sNil}
+use Rattle.pack.specs.Syntax.{Port}
+use Rattle.machine_rules.specs.Resolved.{Machine, Regions, States, rCons, rNil, sCons, sNil}
 use Rattle.pack.specs.Report.{Refusal, asRefusal, firstOf}
 use Rattle.machine_rules.specs.Refusals.{unassigned}
 use Rattle.machine_rules.specs.Lower.{coversS, namesOf}

@@ -11,7 +11,8 @@ use borrow.Author.Tests.{eq-eqb, ne-eqb}
 use Rattle.wire.specs.Answer.{many, value}
 use Rattle.pack.specs.Limits.{absent, maxLevel, maxName}
 use Rattle.pack.specs.Names.{Name, member}
-use Rattle.pack.specs.Syntax.{Drawing, Regions, rCons, sCons}
+use Rattle.pack.specs.Syntax.{Drawing}
+use Rattle.machine_rules.specs.Resolved.{Regions, rCons, sCons}
 use Rattle.pack.specs.Forms.{nameAt}
 use Rattle.pack.specs.Legal.{Fresh}
 use Rattle.pack.specs.Read.{OneRegion, OneState, drawnOf, optionalIn, regionAt, regionsOf, stateWith}

@@ -8,7 +8,8 @@ use Rattle.wire.specs.Answer.{counted, many, u16, value}
 use Rattle.wire.specs.Writer.{State, puts}
 use Rattle.wire.proofs.Answers.{bind-value, map-value}
 use Rattle.pack.specs.Names.{Name}
-use Rattle.pack.specs.Syntax.{Equation, Expr, Regions, States, Transition, eVar, sCons, sNil}
+use Rattle.pack.specs.Syntax.{Equation, Expr, Transition, eVar}
+use Rattle.machine_rules.specs.Resolved.{Regions, States, sCons, sNil}
 use Rattle.pack.specs.Forms.{nameAt}
 use Rattle.pack.specs.Read.{exprIn, nameIn, transitionIn}
 use Rattle.pack.specs.Write.{Item, exprItems, raw}

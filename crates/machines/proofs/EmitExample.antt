@@ -14,7 +14,8 @@ use Rattle.wire.specs.Writer.{put, puts, st, swapped}
 use Rattle.pack.specs.Limits.{maxName, maxLevel}
 use Rattle.pack.specs.Names.{Name, eqName, member}
 use Rattle.pack.specs.RawNames.{rawName}
-use Rattle.pack.specs.Syntax.{Machine, Regions, Transition, eConst, eVar, lBool, rCons, rNil, sCons, sNil, Equation, tBool}
+use Rattle.pack.specs.Syntax.{Transition, eConst, eVar, lBool, Equation, tBool}
+use Rattle.machine_rules.specs.Resolved.{Machine, Regions, rCons, rNil, sCons, sNil}
 use Rattle.pack.specs.Forms.{exprArity, exprAt, exprFields, exprHead, exprOf, exprOver, exprRows, exprsOf, flagOf, literal, literalOf, nameAt, nth, firstType, plainTypes, typeArity, typeAt, typeFields, typeHead, typeOf, typeOver}
 use Rattle.pack.specs.Read.{equationsIn, exprIn, nameIn, transitionIn, equationIn, nameByte, namesIn, portIn, portsIn, typeIn}
 use Rattle.pack.specs.Write.{binByte, each, enc, enumItems, equationItems, exprItems, flagByte, list, litBytes, lookup, nameItems, unByte}

@@ -8,7 +8,8 @@ use mathlib.Core.Path.{_≡_, refl, sym, ap, _∙_}
 use lib.ListN.{length, getD}
 use Rattle.wire.specs.Bytes.{two}
 use Rattle.pack.specs.Names.{Name}
-use Rattle.pack.specs.Syntax.{Enum, Machine, Regions, States, rCons, rNil, sCons, sNil}
+use Rattle.pack.specs.Syntax.{Enum}
+use Rattle.machine_rules.specs.Resolved.{Machine, Regions, States, rCons, rNil, sCons, sNil}
 use Rattle.pack.specs.Write.{Item, each, enumItems, list, nameItems, nm, raw}
 use Rattle.machine_rules.specs.MadeNames.{enumName}
 use Rattle.machines.specs.Laid.{HeldR, HeldS, RegionRow, StateRow, gEnd, gMore, hEnd, hMore, sliceOf}

@@ -11,7 +11,8 @@ use borrow.Author.Tests.{eq-eqb, ne-eqb}
 use Rattle.wire.specs.Answer.{value}
 use Rattle.wire.specs.Writer.{State}
 use Rattle.pack.specs.Names.{Name}
-use Rattle.pack.specs.Syntax.{Equation, Expr, Machine, Regions, States, eIf, eVar, rCons, rNil, sCons, sNil}
+use Rattle.pack.specs.Syntax.{Equation, Expr, eIf, eVar}
+use Rattle.machine_rules.specs.Resolved.{Machine, Regions, States, rCons, rNil, sCons, sNil}
 use Rattle.pack.specs.Forms.{flagOf, nameAt}
 use Rattle.pack.specs.Read.{exprIn}
 use Rattle.pack.specs.Write.{Item, each, equationItems, exprItems, list, nameItems, raw}

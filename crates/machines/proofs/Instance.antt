@@ -11,7 +11,8 @@ use Rattle.wire.specs.Code.{next, onward, readOf, skip, skips}
 use Rattle.wire.specs.Preorder.{trees}
 use Rattle.pack.specs.Limits.{absent, maxLevel, maxName, maxStates}
 use Rattle.pack.specs.Names.{Name, eqName, member}
-use Rattle.pack.specs.Syntax.{Drawing, dCons, dNil, eBinary, eConst, lBool, lChar, oAnd, qNil, rCons, rNil, sCons, sNil, tBool, States}
+use Rattle.pack.specs.Syntax.{Drawing, dCons, dNil, eBinary, eConst, lBool, lChar, oAnd, qNil, tBool}
+use Rattle.machine_rules.specs.Resolved.{rCons, rNil, sCons, sNil, States}
 use Rattle.pack.specs.Forms.{binOps, exprArity, exprAt, exprFields, exprHead, exprOf, exprOver, exprRows, exprsOf, firstType, flagOf, literal, literalOf, nameAt, nth, plainTypes, typeArity, typeAt, typeFields, typeHead, typeOf, typeOver}
 use Rattle.pack.specs.Read.{char, drawnOf, equationIn, equationsIn, exprIn, machineIn, name, nameByte, nameIn, nameSection, namesAfter, namesIn, optional, optionalIn, portIn, portsIn, regionAt, regionsOf, size, stateAt, stateWith, transitionIn, typeIn}
 use Rattle.pack.specs.Report.{asRefusal, firstOf}

@@ -13,7 +13,8 @@ use Rattle.wire.specs.Answer.{counted, many, u16, value}
 use Rattle.wire.specs.Lists.{All}
 use Rattle.wire.proofs.Answers.{bind-value, map-value}
 use Rattle.pack.specs.Names.{Name}
-use Rattle.pack.specs.Syntax.{Machine, Port, States, rCons, rNil, sCons, sNil}
+use Rattle.pack.specs.Syntax.{Port}
+use Rattle.machine_rules.specs.Resolved.{Machine, States, rCons, rNil, sCons, sNil}
 use Rattle.pack.specs.Forms.{nameAt}
 use Rattle.pack.specs.Legal.{Fresh}
 use Rattle.pack.specs.Read.{nameIn, portIn, portsIn, typeIn}

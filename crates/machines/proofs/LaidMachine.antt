@@ -7,7 +7,8 @@ use mathlib.Core.Path.{_≡_, refl, sym, subst, _∙_}
 use lib.ListN.{length, getD, take}
 use Rattle.pack.specs.Limits.{maxLevel}
 use Rattle.pack.specs.Names.{Name}
-use Rattle.pack.specs.Syntax.{Drawing, States, rCons, rNil}
+use Rattle.pack.specs.Syntax.{Drawing}
+use Rattle.machine_rules.specs.Resolved.{States, rCons, rNil}
 use Rattle.pack.specs.Forms.{flagOf}
 use Rattle.pack.specs.Write.{enc}
 use Rattle.machines.specs.declared.opening.Opening.{Opening}

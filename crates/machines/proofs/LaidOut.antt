@@ -8,7 +8,8 @@ use lib.ListN.{length, getD, length-append}
 use Rattle.wire.specs.Answer.{byte, u16, value}
 use Rattle.pack.specs.Limits.{absent}
 use Rattle.pack.specs.Names.{Name}
-use Rattle.pack.specs.Syntax.{Equation, Regions, States, Transition, rCons, rNil, sCons, sNil}
+use Rattle.pack.specs.Syntax.{Equation, Transition}
+use Rattle.machine_rules.specs.Resolved.{Regions, States, rCons, rNil, sCons, sNil}
 use Rattle.pack.specs.Forms.{flagOf, nameAt}
 use Rattle.pack.specs.Write.{enc}
 use Rattle.machines.specs.declared.opening.Opening.{Opening}

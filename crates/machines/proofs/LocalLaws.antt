@@ -9,7 +9,8 @@ use Rattle.machines.specs.declared.made.Var.{Var}
 use Rattle.machines.specs.declared.made.Var.the-variants as vr
 use Rattle.wire.specs.Writer.{State, put, puts}
 use Rattle.pack.specs.Names.{Name}
-use Rattle.pack.specs.Syntax.{Port, Regions, States, rCons, rNil, sCons, sNil}
+use Rattle.pack.specs.Syntax.{Port}
+use Rattle.machine_rules.specs.Resolved.{Regions, States, rCons, rNil, sCons, sNil}
 use Rattle.pack.specs.Write.{Item, each, one, portItems, tyItems}
 use Rattle.pack.specs.Intern.{putItem, putName, render}
 use Rattle.pack.proofs.Interns.{render-append}

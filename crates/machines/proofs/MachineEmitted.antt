@@ -10,7 +10,8 @@ use Rattle.wire.specs.Bytes.{two}
 use Rattle.wire.specs.Lists.{All, Bytes}
 use Rattle.wire.specs.Writer.{State, puts}
 use Rattle.pack.specs.Names.{Name}
-use Rattle.pack.specs.Syntax.{Expr, Machine, rCons, rNil}
+use Rattle.pack.specs.Syntax.{Expr}
+use Rattle.machine_rules.specs.Resolved.{Machine, rCons, rNil}
 use Rattle.pack.specs.Forms.{nameAt}
 use Rattle.pack.specs.Legal.{Each, Fresh, LegalName, place}
 use Rattle.pack.specs.Read.{exprIn, portsIn}

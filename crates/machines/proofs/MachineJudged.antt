@@ -10,7 +10,8 @@ use Rattle.wire.specs.Answer.{value}
 use Rattle.wire.specs.Lists.{All, Bytes}
 use Rattle.wire.proofs.Answers.{u16-value}
 use Rattle.pack.specs.Names.{Name}
-use Rattle.pack.specs.Syntax.{Drawing, States}
+use Rattle.pack.specs.Syntax.{Drawing}
+use Rattle.machine_rules.specs.Resolved.{States}
 use Rattle.pack.specs.Forms.{nameAt}
 use Rattle.pack.specs.Read.{machineIn}
 use Rattle.pack.specs.Report.{Refusal}

@@ -14,7 +14,8 @@ use Rattle.wire.specs.Bytes.{two}
 use Rattle.wire.specs.Lists.{Bytes}
 use Rattle.pack.specs.Limits.{maxBytes}
 use Rattle.pack.specs.Names.{Name, member}
-use Rattle.pack.specs.Syntax.{Drawing, Machine, Package}
+use Rattle.pack.specs.Syntax.{Drawing, Package}
+use Rattle.machine_rules.specs.Resolved.{Machine}
 use Rattle.pack.specs.Forms.{nameAt}
 use Rattle.pack.specs.Read.{Reading, bytesAfter, deepAt, endsEarly, illegalAt, machineIn, read, tooLong, whole}
 use Rattle.pack.specs.Report.{Refusal, entries, reportBytes}

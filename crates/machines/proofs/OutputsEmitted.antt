@@ -11,7 +11,8 @@ use Rattle.wire.specs.Writer.{State, puts}
 use Rattle.wire.proofs.Answers.{bind-value, map-value}
 use Rattle.pack.specs.Limits.{maxLevel}
 use Rattle.pack.specs.Names.{Name}
-use Rattle.pack.specs.Syntax.{Equation, Expr, Machine, Port, rCons, rNil}
+use Rattle.pack.specs.Syntax.{Equation, Expr, Port}
+use Rattle.machine_rules.specs.Resolved.{Machine, rCons, rNil}
 use Rattle.pack.specs.Forms.{nameAt}
 use Rattle.pack.specs.Legal.{Fresh}
 use Rattle.pack.specs.Read.{exprIn, nameIn, portIn, portsIn, typeIn}

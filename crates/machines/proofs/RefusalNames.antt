@@ -10,7 +10,8 @@ use borrow.Author.Tests.{leb-true}
 use Rattle.wire.specs.Lists.{All}
 use Rattle.pack.specs.Limits.{maxName}
 use Rattle.pack.specs.Names.{Name, member}
-use Rattle.pack.specs.Syntax.{Equation, Regions, States, Transition, rCons, rNil, sCons, sNil}
+use Rattle.pack.specs.Syntax.{Equation, Transition}
+use Rattle.machine_rules.specs.Resolved.{Regions, States, rCons, rNil, sCons, sNil}
 use Rattle.pack.specs.Forms.{nameAt}
 use Rattle.pack.specs.Report.{Refusal, firstOf}
 use Rattle.pack.proofs.Tables.{all-append}

@@ -8,7 +8,8 @@ use lib.ListN.{length, getD}
 use lib.Dec.{eqb}
 use borrow.Author.Tests.{eq-eqb, ne-eqb}
 use Rattle.pack.specs.Names.{Name}
-use Rattle.pack.specs.Syntax.{Equation, Regions, States, Transition, rCons, sCons, sNil}
+use Rattle.pack.specs.Syntax.{Equation, Transition}
+use Rattle.machine_rules.specs.Resolved.{Regions, States, rCons, sCons, sNil}
 use Rattle.pack.specs.Forms.{flagOf, nameAt}
 use Rattle.pack.specs.Write.{enc}
 use Rattle.machine_rules.specs.Checks.{allNamesS}

@@ -9,7 +9,8 @@ use mathlib.Core.Path.{_≡_, sym, ap, subst, _∙_}
 use lib.ListN.{length, getD}
 use Rattle.wire.specs.Answer.{value}
 use Rattle.pack.specs.Names.{Name}
-use Rattle.pack.specs.Syntax.{Drawing, Machine, States, rCons, rNil}
+use Rattle.pack.specs.Syntax.{Drawing}
+use Rattle.machine_rules.specs.Resolved.{Machine, States, rCons, rNil}
 use Rattle.pack.specs.Read.{portsIn}
 use Rattle.pack.specs.Write.{Item, each, enumItems, equationItems}
 use Rattle.pack.specs.Intern.{render}

@@ -9,7 +9,8 @@ use lib.Dec.{eqb}
 use Rattle.wire.specs.Bytes.{two}
 use Rattle.wire.specs.Lists.{All}
 use Rattle.pack.specs.Names.{Name}
-use Rattle.pack.specs.Syntax.{Machine, Node, Origin, Package}
+use Rattle.pack.specs.Syntax.{Node, Origin, Package}
+use Rattle.machine_rules.specs.Resolved.{Machine}
 use Rattle.pack.specs.Write.{Item, activationItems, each, enumItems, equationItems, kindByte, list, nm, nodeItems, originItems, packageItems, portItems, raw}
 use Rattle.machine_rules.specs.Lower.{enumsOf, equationsOf, localsOf}
 use Rattle.machine_rules.specs.Machines.{extend, madeMachines, start, withoutMachines}

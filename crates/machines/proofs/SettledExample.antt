@@ -8,7 +8,8 @@ use Rattle.wire.specs.Answer.{bind, byte, counted, guard, index, many, mapA, u1
 use Rattle.pack.specs.declared.record.Pack.{Pack}
 use Rattle.pack.specs.Limits.{absent, maxLevel, maxStates}
 use Rattle.pack.specs.Names.{Name, eqName, member}
-use Rattle.pack.specs.Syntax.{Drawing, Package, States, dCons, dNil, qNil, rNil, sCons, sNil}
+use Rattle.pack.specs.Syntax.{Drawing, Package, dCons, dNil, qNil}
+use Rattle.machine_rules.specs.Resolved.{States, rNil, sCons, sNil}
 use Rattle.pack.specs.Forms.{nameAt}
 use Rattle.pack.specs.Read.{char, drawnOf, equationsIn, machineIn, name, nameByte, nameIn, nameSection, namesAfter, optional, optionalIn, portsIn, regionAt, regionsOf, size, stateAt, stateWith}
 use Rattle.pack.specs.Report.{asRefusal, firstOf}

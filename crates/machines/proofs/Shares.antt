@@ -11,7 +11,8 @@ use borrow.Author.Tests.{eq-eqb, ne-eqb}
 use Rattle.wire.specs.Lists.{All}
 use Rattle.pack.specs.Names.{Name, eqName}
 use Rattle.pack.specs.Legal.{Known, place}
-use Rattle.pack.specs.Syntax.{Equation, Machine, Node, Port, ofMachine}
+use Rattle.pack.specs.Syntax.{Equation, Node, Port, ofMachine}
+use Rattle.machine_rules.specs.Resolved.{Machine}
 use Rattle.pack.proofs.Tables.{eqName-true, place-in}
 use Rattle.machine_rules.specs.Lower.{equationsOf, localsOf}
 use Rattle.machine_rules.specs.Machines.{extend, extendIn, nodeFrom, nodeNamed, originOf}

@@ -13,7 +13,8 @@ use Rattle.wire.specs.Code.{onward}
 use Rattle.wire.proofs.Answers.{bind-value, guard-value, many-length, map-value, u16-value}
 use Rattle.pack.specs.Limits.{absent}
 use Rattle.pack.specs.Names.{Name}
-use Rattle.pack.specs.Syntax.{Drawing, Equation, Machine, Node, Port}
+use Rattle.pack.specs.Syntax.{Drawing, Equation, Node, Port}
+use Rattle.machine_rules.specs.Resolved.{Machine}
 use Rattle.pack.specs.Read.{equationIn, equationsIn, kindOf, nameIn, nodeIn, optionalIn, portIn, portsIn}
 use Rattle.pack.specs.Verdict.{offsetOf}
 use Rattle.pack.proofs.PartFormats.{fmtEquations, fmtPorts}

@@ -9,7 +9,8 @@ use Rattle.wire.specs.Answer.{bind, byte, counted, guard, index, many, mapA, u1
 use Rattle.wire.specs.Lists.{All, Bytes}
 use Rattle.pack.specs.Limits.{absent, maxLevel, maxStates}
 use Rattle.pack.specs.Names.{Name, eqName, member}
-use Rattle.pack.specs.Syntax.{Drawing, Package, States, dCons, dNil, qNil, rNil, sCons, sNil}
+use Rattle.pack.specs.Syntax.{Drawing, Package, dCons, dNil, qNil}
+use Rattle.machine_rules.specs.Resolved.{States, rNil, sCons, sNil}
 use Rattle.pack.specs.Forms.{nameAt}
 use Rattle.pack.specs.Legal.{Fresh}
 use Rattle.pack.specs.RawNames.{rawName}

@@ -11,7 +11,8 @@ use Rattle.wire.specs.Lists.{All}
 use Rattle.wire.specs.Writer.{State, puts}
 use Rattle.pack.specs.Limits.{absent}
 use Rattle.pack.specs.Names.{Name}
-use Rattle.pack.specs.Syntax.{Machine, Node, NodeKind, Port}
+use Rattle.pack.specs.Syntax.{Node, NodeKind, Port}
+use Rattle.machine_rules.specs.Resolved.{Machine}
 use Rattle.pack.specs.Forms.{nameAt}
 use Rattle.pack.specs.Legal.{Each, Known, LegalName, place}
 use Rattle.pack.specs.Read.{kindOf, nodeIn, optionalIn, portsIn}

@@ -8,7 +8,8 @@ use lib.ListN.{length, getD}
 use lib.Dec.{eqb}
 use Rattle.wire.specs.Writer.{State, puts}
 use Rattle.pack.specs.Names.{Name}
-use Rattle.pack.specs.Syntax.{Machine, Port}
+use Rattle.pack.specs.Syntax.{Port}
+use Rattle.machine_rules.specs.Resolved.{Machine}
 use Rattle.pack.specs.Read.{portsIn}
 use Rattle.pack.specs.Write.{Item, each, portItems, raw}
 use Rattle.pack.specs.Intern.{putItem, render}

@@ -10,7 +10,8 @@ use lib.Dec.{ltb}
 use Rattle.wire.specs.Answer.{many, value}
 use Rattle.pack.specs.Limits.{maxLevel, maxStates}
 use Rattle.pack.specs.Names.{Name, member}
-use Rattle.pack.specs.Syntax.{Drawing, Regions, States, Transition, rCons, rNil, sCons, sNil}
+use Rattle.pack.specs.Syntax.{Drawing, Transition}
+use Rattle.machine_rules.specs.Resolved.{Regions, States, rCons, rNil, sCons, sNil}
 use Rattle.pack.specs.Forms.{nameAt}
 use Rattle.pack.specs.Read.{OneRegion, OneState, drawnOf, optionalIn, regionAt, regionsOf, stateWith}
 use Rattle.pack.specs.Report.{Refusal}

@@ -6,7 +6,8 @@ use mathlib.Core.Path.{_≡_, refl, sym, ap, subst, _∙_}
 use lib.ListN.{length}
 use Rattle.wire.specs.Answer.{value}
 use Rattle.wire.specs.Lists.{Bytes}
-use Rattle.pack.specs.Syntax.{Drawing, Machine, Package}
+use Rattle.pack.specs.Syntax.{Drawing, Package}
+use Rattle.machine_rules.specs.Resolved.{Machine}
 use Rattle.pack.specs.Read.{machineIn, nodeIn}
 use Rattle.pack.specs.Verdict.{Stands}
 use Rattle.pack.specs.declared.record.Pack.{Pack}

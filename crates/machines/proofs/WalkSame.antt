@@ -12,7 +12,8 @@ use Rattle.wire.specs.Answer.{counted, many, u16, value}
 use Rattle.wire.proofs.Answers.{bind-value, map-value}
 use Rattle.pack.specs.Limits.{absent, maxName, maxStates}
 use Rattle.pack.specs.Names.{Name, eqName, member}
-use Rattle.pack.specs.Syntax.{Drawing, Equation, Regions, States, Transition}
+use Rattle.pack.specs.Syntax.{Drawing, Equation, Transition}
+use Rattle.machine_rules.specs.Resolved.{Regions, States}
 use Rattle.pack.specs.Forms.{nameAt}
 use Rattle.pack.specs.Legal.{Fresh}
 use Rattle.pack.specs.Read.{equationsIn, exprIn, nameIn, transitionIn}

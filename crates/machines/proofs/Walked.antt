@@ -10,7 +10,8 @@ use lib.Dec.{leb}
 use borrow.Author.Tests.{le-leb}
 use Rattle.pack.specs.Limits.{maxLevel, maxName}
 use Rattle.pack.specs.Names.{Name}
-use Rattle.pack.specs.Syntax.{Drawing, Package, States}
+use Rattle.pack.specs.Syntax.{Drawing, Package}
+use Rattle.machine_rules.specs.Resolved.{States}
 use Rattle.pack.specs.Forms.{nameAt}
 use Rattle.pack.specs.Read.{stateAt}
 use Rattle.pack.specs.Report.{Refusal}

@@ -9,7 +9,8 @@ use borrow.Author.Tests.{le-leb}
 use Rattle.wire.specs.Lists.{Bytes}
 use Rattle.pack.specs.Limits.{maxLevel, maxName}
 use Rattle.pack.specs.Names.{Name}
-use Rattle.pack.specs.Syntax.{Drawing, States}
+use Rattle.pack.specs.Syntax.{Drawing}
+use Rattle.machine_rules.specs.Resolved.{States}
 use Rattle.pack.specs.Forms.{nameAt}
 use Rattle.machines.specs.declared.walk.Walked.the-variants as wk
 use Rattle.machines.specs.Counts.{countS}

@@ -8,7 +8,7 @@ use lib.ListN.{length}
 use lib.Dec.{leb}
 use Rattle.pack.specs.Limits.{maxName}
 use Rattle.pack.specs.Names.{Name}
-use Rattle.pack.specs.Syntax.{Regions, States}
+use Rattle.machine_rules.specs.Resolved.{Regions, States}
 use Rattle.pack.specs.Forms.{nameAt}
 use Rattle.pack.specs.Report.{Refusal}
 use Rattle.machines.specs.declared.walk.Walked.{Walked}

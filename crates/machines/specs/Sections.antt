@@ -9,7 +9,8 @@ use lib.Dec.{eqb}
 use Rattle.wire.specs.Bytes.{two}
 use Rattle.pack.specs.Names.{Name}
 use Rattle.pack.specs.Legal.{Known, place}
-use Rattle.pack.specs.Syntax.{Drawing, Enum, Machine, Node, Origin, Package, kOperator, ofMachine}
+use Rattle.pack.specs.Syntax.{Drawing, Enum, Node, Origin, Package, kOperator, ofMachine}
+use Rattle.machine_rules.specs.Resolved.{Machine}
 use Rattle.pack.specs.Write.{Item, activationItems, each, enumItems, equationItems, kindByte, list, nm, originItems, portItems, raw}
 use Rattle.machine_rules.specs.Lower.{enumsOf, equationsOf, localsOf, sizeS}
 use Rattle.machine_rules.specs.Machines.{Judged, accept, extend, extendIn, judge, nodeFrom, nodeNamed, originOf, refuse}

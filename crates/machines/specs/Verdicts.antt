@@ -8,7 +8,8 @@ use lib.ListN.{length, getD}
 use Rattle.wire.specs.Answer.{value}
 use Rattle.pack.specs.Limits.{absent}
 use Rattle.pack.specs.Names.{Name, member}
-use Rattle.pack.specs.Syntax.{Drawing, Machine, Package, States}
+use Rattle.pack.specs.Syntax.{Drawing, Package}
+use Rattle.machine_rules.specs.Resolved.{Machine, States}
 use Rattle.pack.specs.Forms.{nameAt}
 use Rattle.pack.specs.Read.{machineIn}
 use Rattle.pack.specs.Report.{Refusal}

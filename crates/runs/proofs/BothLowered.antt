@@ -11,7 +11,8 @@ use Rattle.wire.specs.Lists.{Bytes}
 use Rattle.wire.proofs.Writers.{lt-or-le}
 use Rattle.pack.specs.Names.{Name}
 use Rattle.pack.specs.Outcome.{writes}
-use Rattle.pack.specs.Syntax.{Equation, Machine, Node, Origin, OriginKind, Package}
+use Rattle.pack.specs.Syntax.{Equation, Node, Origin, OriginKind, Package}
+use Rattle.machine_rules.specs.Resolved.{Machine}
 use Rattle.machine_rules.specs.Lower.{equationsOf}
 use Rattle.machine_rules.specs.Machines.{Made, start}
 use Rattle.machine_rules.specs.Resolve.{asMachine}

@@ -56,7 +56,8 @@ use Rattle.pack.proofs.WrittenBack
 use Rattle.pack.specs.Limits.{maxBytes}
 use Rattle.pack.specs.Names.{Name}
 use Rattle.pack.specs.Forms.{nameAt}
-use Rattle.pack.specs.Syntax.{Activation, Drawing, Equation, Expr, Machine, Node, Package, States}
+use Rattle.pack.specs.Syntax.{Activation, Drawing, Equation, Expr, Node, Package}
+use Rattle.machine_rules.specs.Resolved.{Machine, States}
 use Rattle.pack.specs.Read.{Reading, read}
 use Rattle.pack.specs.Write.{encode}
 use Rattle.pack.specs.Outcome.{Outcome, answers, numberOf, reports, writes}

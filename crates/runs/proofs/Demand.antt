@@ -7,7 +7,8 @@ use Rattle.wire.specs.Lists.{Bytes}
 use Rattle.pack.specs.Legal.{completed, newNames, withNames}
 use Rattle.pack.specs.Names.{Name}
 use Rattle.pack.specs.Outcome.{writes}
-use Rattle.pack.specs.Syntax.{Activation, Drawing, Equation, Expr, Machine, Node, Origin, OriginKind, Package, Port, ofActivation}
+use Rattle.pack.specs.Syntax.{Activation, Drawing, Equation, Expr, Node, Origin, OriginKind, Package, Port, ofActivation}
+use Rattle.machine_rules.specs.Resolved.{Machine}
 use Rattle.machine_rules.specs.Call.{lowerMachines}
 use Rattle.machine_rules.specs.Checks.{refusalOf}
 use Rattle.machine_rules.specs.Lower.{equationsOf}

@@ -1,7 +1,8 @@
 -- The premises as they are drawn give those of the claim.
 use Prim.Native.Nat.{ℕ}
 use mathlib.Core.Path.{_∙_}
-use Rattle.pack.specs.Syntax.{Activation, Machine, Package}
+use Rattle.pack.specs.Syntax.{Activation, Package}
+use Rattle.machine_rules.specs.Resolved.{Machine}
 use Rattle.machine_rules.specs.Checks.{allNamesS}
 use Rattle.machine_rules.specs.MadeNames.{smPrefix}
 use Rattle.activation_rules.specs.MadeNames.{actPrefix}

@@ -8,7 +8,8 @@ use lib.ListN.{length, length-append}
 use Rattle.pack.specs.Names.{Name}
 use Rattle.pack.specs.Read.{name}
 use Rattle.pack.specs.Report.{Refusal}
-use Rattle.pack.specs.Syntax.{Drawing, Equation, Machine, Node, Origin, OriginKind, Package, Port, States, ofMachine}
+use Rattle.pack.specs.Syntax.{Drawing, Equation, Node, Origin, OriginKind, Package, Port, ofMachine}
+use Rattle.machine_rules.specs.Resolved.{Machine, States}
 use Rattle.machine_rules.specs.Checks.{refusalOf}
 use Rattle.machine_rules.specs.Lower.{equationsOf, localsOf}
 use Rattle.machine_rules.specs.Machines.{Judged, Made, accept, checked, extend, extendIn, judge, lowerEach, madeMachines, merged, nodeFrom, nodeNamed, originOf, placed, refuse, resolved, standalone, start}

@@ -5,7 +5,8 @@ use mathlib.Core.Option.{Option, none, some}
 use mathlib.Core.Path.{_≡_, refl, sym, subst, _∙_}
 use Rattle.pack.specs.Names.{Name, eqName, member}
 use Rattle.pack.specs.Report.{Refusal, asRefusal, firstOf}
-use Rattle.pack.specs.Syntax.{Activation, Branch, Equation, Machine, Port, Regions, States, Transition, rCons, rNil, sCons, sNil}
+use Rattle.pack.specs.Syntax.{Activation, Branch, Equation, Port, Transition}
+use Rattle.machine_rules.specs.Resolved.{Machine, Regions, States, rCons, rNil, sCons, sNil}
 use Rattle.pack.proofs.Tables.{eqName-refl, eqName-true}
 use Rattle.machine_rules.specs.Checks.{allNamesS, badInitial, badR, badS, badTarget, emptyTop, refusalOf, repeated, uncovered, uncoveredR, uncoveredS, unlessCovered, unlessOther}
 use Rattle.machine_rules.specs.Lower.{coversR, coversS, isOnly, isSome, namesOf, ownValue}

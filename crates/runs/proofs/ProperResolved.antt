@@ -12,7 +12,8 @@ use Rattle.pack.specs.Limits.{maxLevel, maxStates}
 use Rattle.pack.specs.Names.{Name, eqName, member}
 use Rattle.pack.specs.Read.{nameByte}
 use Rattle.pack.specs.Report.{Refusal}
-use Rattle.pack.specs.Syntax.{Drawing, Drawn, DrawnRegions, Machine, Regions, States, Transition, dCons, dNil, qCons, qNil, rCons, rNil, sCons, sNil}
+use Rattle.pack.specs.Syntax.{Drawing, Drawn, DrawnRegions, Transition, dCons, dNil, qCons, qNil}
+use Rattle.machine_rules.specs.Resolved.{Machine, Regions, States, rCons, rNil, sCons, sNil}
 use Rattle.machine_rules.specs.Checks.{refusalOf}
 use Rattle.machine_rules.specs.Machines.{Judged, accept, checked, judge, refuse, resolved}
 use Rattle.machine_rules.specs.Refusals.{refineCycle, tooLarge, unknownRefine}

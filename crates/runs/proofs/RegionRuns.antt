@@ -6,7 +6,8 @@ use mathlib.Core.Bool.{Bool, true, false, cond, not, _&&_, _||_}
 use mathlib.Core.Option.{some}
 use mathlib.Core.Path.{_≡_, refl, sym, ap, subst, _∙_}
 use Rattle.pack.specs.Names.{Name, eqName, member}
-use Rattle.pack.specs.Syntax.{Equation, Expr, Regions, States, Transition, eIf, eVar, sCons, sNil}
+use Rattle.pack.specs.Syntax.{Equation, Expr, Transition, eIf, eVar}
+use Rattle.machine_rules.specs.Resolved.{Regions, States, sCons, sNil}
 use Rattle.pack.proofs.Tables.{eqName-refl}
 use Rattle.machine_rules.specs.Lower.{held, isName, justEntered, namesOf, nextChain, orElse, stateRhs, transitionsOf}
 use Rattle.machine_rules.specs.MadeNames.{activeVar, nextVar, stateVar}

@@ -10,7 +10,8 @@ use Rattle.pack.specs.Limits.{maxBytes}
 use Rattle.pack.specs.Names.{Name, member}
 use Rattle.pack.specs.Outcome.{Outcome, numberOf, outputOf, reportOf, valueOf}
 use Rattle.pack.specs.Read.{read, whole}
-use Rattle.pack.specs.Syntax.{Activation, Drawing, Equation, Node, Origin, Package, Port, States}
+use Rattle.pack.specs.Syntax.{Activation, Drawing, Equation, Node, Origin, Package, Port}
+use Rattle.machine_rules.specs.Resolved.{States}
 use Rattle.pack.specs.Write.{encode}
 use Rattle.pack.proofs.WrittenBack.{small-bytes}
 use Rattle.machine_rules.specs.Call.{lowerMachines}

@@ -8,7 +8,8 @@ use Rattle.pack.specs.Forms.{nameAt}
 use Rattle.pack.specs.Names.{Name}
 use Rattle.pack.specs.Outcome.{Outcome, numberOf, writes}
 use Rattle.pack.specs.Read.{read, whole}
-use Rattle.pack.specs.Syntax.{Activation, Drawing, Equation, Expr, Machine, Node, Package, Port, States, ofActivation}
+use Rattle.pack.specs.Syntax.{Activation, Drawing, Equation, Expr, Node, Package, Port, ofActivation}
+use Rattle.machine_rules.specs.Resolved.{Machine, States}
 use Rattle.machine_rules.specs.Call.{lowerMachines}
 use Rattle.machine_rules.specs.Machines.{madeMachines, nodeNamed}
 use Rattle.machine_rules.specs.MadeNames.{stateVar}
