@@ -5,7 +5,8 @@ use mathlib.Core.Path.{_≡_, refl}
 use lib.ListN.{replicate}
 use Rattle.pack.specs.Limits.{maxBytes}
 use Rattle.pack.specs.Outcome.{answers, reports, writes}
-use Rattle.activation_rules.proofs.Computed.{Chart, given, stated}
+use Rattle.machine_rules.proofs.Computed.{Chart, stated}
+use Rattle.activation_rules.proofs.Computed.{given}
 
 unfoldable pub examples : List Chart
 examples =
