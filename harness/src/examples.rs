@@ -1,7 +1,7 @@
 //! Small packs for the tables that the definitions are computed on (proofs/Examples of the crates of rules): one for each
 //! refusal and for each rule that is easily missed.
 
-use crate::charts::Activated;
+use crate::charts::{two_branches, Activated};
 use crate::encode::encode_any;
 use crate::gen::Builder;
 use crate::package::*;
@@ -364,8 +364,24 @@ fn circle() -> Package {
     p
 }
 
-/// Examples of lowering activations that stand beside the table's older ones.
+/// `last` of v without an initial value in the condition, with 1 and then with 2 in the branch.
+fn initials() -> Package {
+    let mut chart = Activated::new();
+    let v = chart.var("v");
+    let mut last = |initial: Option<i64>| {
+        let args: Vec<Tok> = [v.clone()].into_iter().chain(initial.map(|i| Tok::Const(Lit::Int(i)))).collect();
+        chart.call(&args)
+    };
+    let (none, one, two) = (last(None), last(Some(1)), last(Some(2)));
+    chart.a.branches[0].condition = chart.expr(none);
+    chart.a.branches[0].equations[0].rhs = chart.expr([vec![Tok::Binary(10)], one, two].concat());
+    chart.done()
+}
+
+/// Examples of lowering activations, as rows of the table that has others.
 pub fn activations() -> Vec<Example> {
-    let _ = Activated::new();
-    vec![]
+    vec![
+        example("last(v), last(v, 1), last(v, 2): one holder, which begins with 1", initials()),
+        example("two branches, on c and on d: the second is taken where d holds and c does not", two_branches()),
+    ]
 }
