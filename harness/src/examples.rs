@@ -216,7 +216,9 @@ fn values() -> Example {
     let equations = vec![s.gives(&["o", "o"], 4), s.gives(&["o"], 5), s.gives(&["o"], 6)];
     let b = State { equations, ..s.state("B") };
     s.machine("M", "A", vec![a, b]).outputs.push(o);
-    s.done("the first region that covers comes before the state's own equation; of equations the first with one left name")
+    s.done(
+        "the first region that covers comes before the state's own equation; of equations the first with one left name",
+    )
 }
 
 fn ids() -> Example {
