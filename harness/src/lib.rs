@@ -17,6 +17,7 @@ pub mod damage;
 pub mod decode;
 pub mod deep;
 pub mod encode;
+pub mod examples;
 pub mod gen;
 pub mod ground;
 pub mod hostile;

@@ -12,16 +12,16 @@ use Rattle.pack.specs.Names.{Name}
 use Rattle.pack.specs.Forms.{nameAt}
 use Rattle.pack.specs.Report.{Refusal}
 use Rattle.pack.specs.Syntax.{Activation, Enum, Equation, Node, Port}
-use Rattle.machines.specs.Machines.{extend}
+use Rattle.machine_rules.specs.Machines.{extend}
 use Rattle.activations.specs.declared.base.Base.{Base}
 use Rattle.activations.specs.declared.parts.Act.{Act}
 use Rattle.activations.specs.declared.refused.Refused.{Refused}
-use Rattle.activations.specs.Refusals.{emptyLeft, lastNeedsInit, lastUnknown}
-use Rattle.activations.specs.EmptyLeft.{leftlessIn}
-use Rattle.activations.specs.Types.{lastTyped, readable, sampleType, valueType, variables}
-use Rattle.activations.specs.Holders.{Holding, held, unheld}
-use Rattle.activations.specs.Checks.{checks, elseName}
-use Rattle.activations.specs.Lower.{Lowered, actEquations, actLocals, lowered, make, makes, refuse}
+use Rattle.activation_rules.specs.Refusals.{emptyLeft, lastNeedsInit, lastUnknown}
+use Rattle.activation_rules.specs.EmptyLeft.{leftlessIn}
+use Rattle.activation_rules.specs.Types.{lastTyped, readable, sampleType, valueType, variables}
+use Rattle.activation_rules.specs.Holders.{Holding, held, unheld}
+use Rattle.activation_rules.specs.Checks.{checks, elseName}
+use Rattle.activation_rules.specs.Lower.{Lowered, actEquations, actLocals, lowered, make, makes, refuse}
 use Rattle.activations.specs.Joining.{added, fateIn}
 use Rattle.activations.specs.TypesAt.{TypesAre}
 use Rattle.activations.specs.HeldAs.{HeldAs, asHeld, asNeedsInit, asUnknown}

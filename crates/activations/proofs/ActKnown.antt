@@ -22,17 +22,17 @@ use Rattle.machines.specs.declared.sure.Num.{Num}
 use Rattle.machines.specs.Emits.{packName}
 use Rattle.activations.specs.declared.base.Base.{Base}
 use Rattle.activations.specs.declared.parts.Act.{Act}
-use Rattle.activations.specs.MadeNames.{lastVar, other}
-use Rattle.activations.specs.EmptyLeft.{leftless, leftlessBranch, leftlessIn, nameless}
-use Rattle.activations.specs.Defines.{asLocals}
-use Rattle.activations.specs.Unlast.{conditionsOf}
-use Rattle.activations.specs.Types.{firstTyped, lastTyped, portNames, readable, sampleType, valueType}
-use Rattle.activations.specs.Sought.{Sought, bodies, conditions, expressions, found, rightSides}
-use Rattle.activations.specs.Holders.{held, hold, holderPort}
-use Rattle.activations.specs.Flags.{flagEquations}
-use Rattle.activations.specs.Clocks.{guardEquations}
-use Rattle.activations.specs.Scopes.{branchEquations, branchLocals, scopeEquations, scopeLocals}
-use Rattle.activations.specs.Lower.{actLocals, tailOf}
+use Rattle.activation_rules.specs.MadeNames.{lastVar, other}
+use Rattle.activation_rules.specs.EmptyLeft.{leftless, leftlessBranch, leftlessIn, nameless}
+use Rattle.activation_rules.specs.Defines.{asLocals}
+use Rattle.activation_rules.specs.Unlast.{conditionsOf}
+use Rattle.activation_rules.specs.Types.{firstTyped, lastTyped, portNames, readable, sampleType, valueType}
+use Rattle.activation_rules.specs.Sought.{Sought, bodies, conditions, expressions, found, rightSides}
+use Rattle.activation_rules.specs.Holders.{held, hold, holderPort}
+use Rattle.activation_rules.specs.Flags.{flagEquations}
+use Rattle.activation_rules.specs.Clocks.{guardEquations}
+use Rattle.activation_rules.specs.Scopes.{branchEquations, branchLocals, scopeEquations, scopeLocals}
+use Rattle.activation_rules.specs.Lower.{actLocals, tailOf}
 use Rattle.activations.specs.Lookups.{MadeIs, isMade}
 use Rattle.activations.specs.Places.{actAt}
 use Rattle.activations.specs.Walks.{LastIs}
@@ -51,12 +51,12 @@ use Rattle.activations.proofs.TypesKnown.{value-old}
 use Rattle.activations.proofs.ReadsKnown.{or-none}
 use Rattle.activations.proofs.SoughtFound.{all-found}
 use Rattle.activations.proofs.HoldKnown.{hold-is}
-use Rattle.activations.proofs.ScopesKnown.{scopes-known}
+use Rattle.activations.proofs.ScopesKnown.{Fits, FitsIn, scopes-known}
 use Rattle.activations.proofs.FoundOnce.{Has, VarsOnce, found-asked, found-once}
 use Rattle.activations.proofs.RowsKnown.{PortsIn, held-told, held-typed, none-told, old-told, old-typed, ports-known, rows-known}
 use Rattle.activations.proofs.HoldersKnown.{Holds, RowTypes, held-known, hold-holds, holder, holders-told, holders-written, known-types, noHolder, row-coded}
 use Rattle.activations.proofs.LocalsLeft.{Leaves, clocks-left, flags-left, leaves-more, leaves-none, leaves-one}
-use Rattle.activations.proofs.ScopeLocalsKnown.{Fits, branches-left, else-left}
+use Rattle.activations.proofs.ScopeLocalsKnown.{branches-left, else-left}
 
 -- of the first and of the rest of a list
 all-first : {A : Type 0} (Q : A → Type 0) (xs ys : List A) → All Q (xs ++ ys) → All Q xs
@@ -80,7 +80,7 @@ unfolding rightSides leftless All
 scope-fits P [] h e = tt
 scope-fits P (x ∷ xs) h e = let o = or-none (nameless (x .lhs)) (leftless xs) e in ((named-some (x .lhs) (o .0), h .0), scope-fits P xs (h .1) (o .1))
 
-branches-fit : (P : Name → Type 0) (bs : List Branch) → All (Asked P) (bodies bs) → leftlessBranch bs ≡ false → All (λ (b : Branch). All (Fits P) (b .equations)) bs
+branches-fit : (P : Name → Type 0) (bs : List Branch) → All (Asked P) (bodies bs) → leftlessBranch bs ≡ false → All (FitsIn P) bs
 unfolding bodies leftlessBranch All
 branches-fit P [] h e = tt
 branches-fit P (b ∷ bs) h e =
@@ -151,7 +151,7 @@ module _ (ns : List Name) (fresh : Fresh [] ns) (legal : All LegalName ns) (few 
   asked = all-rest (Asked (Has (found (expressions A) []))) (conditions (A .branches)) (bodies (A .branches) ++ rightSides (A .otherwise)) (found-asked (expressions A))
 
   -- the scopes fit
-  fit-branches : All (λ (b : Branch). All (Fits (Has xs)) (b .equations)) (A .branches)
+  fit-branches : All (FitsIn (Has xs)) (A .branches)
   unfolding leftlessIn
   fit-branches = branches-fit (Has xs) (A .branches) (all-first (Asked (Has xs)) (bodies (A .branches)) (rightSides (A .otherwise)) asked) (or-none (leftlessBranch (A .branches)) (leftless (A .otherwise)) filled .0)
 

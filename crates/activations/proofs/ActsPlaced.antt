@@ -31,10 +31,10 @@ use Rattle.machines.proofs.Settled.{found-place}
 use Rattle.machines.proofs.ShownCounts.{node-value}
 use Rattle.machines.proofs.SureLaws.{number-num, number-to}
 use Rattle.machines.proofs.TablesFilled.{fill-at, node-ends, nodes-filled}
-use Rattle.activations.specs.Refusals.{unknownOwner}
+use Rattle.activation_rules.specs.Refusals.{unknownOwner}
 use Rattle.activations.specs.Cells.{putT}
 use Rattle.activations.specs.ChecksAt.{called, refusalBy, refusedT}
-use Rattle.activations.specs.Lower.{refuse}
+use Rattle.activation_rules.specs.Lower.{refuse}
 use Rattle.activations.specs.Passes.{passT}
 use Rattle.activations.specs.Places.{actEnd}
 use Rattle.activations.specs.ActTable.{goalT, madeT, refusalT, spotT}

@@ -30,18 +30,18 @@ use Rattle.machines.specs.Reporting.{bytesT}
 use Rattle.machines.specs.Shown.{PackOf}
 use Rattle.machines.specs.Sure.{numberIn}
 use Rattle.machines.specs.Tables.{namesPlaced}
-use Rattle.machines.specs.Call.{finished}
+use Rattle.machine_rules.specs.Call.{finished}
 use Rattle.machines.proofs.Answered.{answers-as}
 use Rattle.machines.proofs.CallOpened.{scratch-empty}
 use Rattle.machines.proofs.NamesPlaced.{names-few, section-read}
 use Rattle.machines.proofs.Opened.{pack-known}
 use Rattle.machines.proofs.Walked.{ready}
 use Rattle.activations.specs.declared.base.Base.{Base}
-use Rattle.activations.specs.LastCalls.{lastName}
+use Rattle.activation_rules.specs.LastCalls.{lastName}
 use Rattle.activations.specs.Lookups.{MadeIs, someMadeT}
 use Rattle.activations.specs.Walks.{LastIs}
-use Rattle.activations.specs.Activations.{madeActivations, withoutActivations}
-use Rattle.activations.specs.Call.{activationsOf}
+use Rattle.activation_rules.specs.Activations.{madeActivations, withoutActivations}
+use Rattle.activation_rules.specs.Call.{activationsOf}
 use Rattle.activations.proofs.BaseLaws.{last-is}
 use Rattle.activations.proofs.LookupLaws.{some-made-is}
 use Rattle.activations.proofs.Joined.{activations-refusals}

@@ -15,7 +15,7 @@ use Rattle.pack.specs.Intern.{foundOf}
 use Rattle.pack.specs.declared.intern.Found as code
 use Rattle.pack.specs.declared.intern.Found.the-variants as codes
 use Rattle.pack.proofs.Tables.{eqName-false, eqName-true, name-at-place, place-at-name}
-use Rattle.activations.specs.LastCalls.{lastName}
+use Rattle.activation_rules.specs.LastCalls.{lastName}
 use Rattle.activations.specs.Walks.{LastIs}
 
 -- the number that a search answers

@@ -14,18 +14,18 @@ use Rattle.pack.specs.Syntax.{Activation, Enum, Equation, Node, Port, Ty}
 use Rattle.pack.specs.Write.{each, enc, equationItems}
 use Rattle.pack.specs.Intern.{render}
 use Rattle.machines.specs.Emits.{packName}
-use Rattle.machines.specs.Machines.{extend}
+use Rattle.machine_rules.specs.Machines.{extend}
 use Rattle.machines.proofs.TablesFilled.{fill-at, fill-length}
 use Rattle.activations.specs.declared.base.Base.{Base}
 use Rattle.activations.specs.declared.parts.Act.{Act}
-use Rattle.activations.specs.Refusals.{emptyLeft}
-use Rattle.activations.specs.EmptyLeft.{leftlessIn}
-use Rattle.activations.specs.Types.{firstTyped, lastTyped, readable, sampleType, valueType, variables}
-use Rattle.activations.specs.Sought.{Sought, expressions, found}
-use Rattle.activations.specs.Unlast.{conditionsOf}
-use Rattle.activations.specs.Holders.{Holding, held, hold, unheld}
-use Rattle.activations.specs.Checks.{checks}
-use Rattle.activations.specs.Lower.{Lowered, actEquations, actLocals, lowered, make, makes, refuse, unless, withHolders}
+use Rattle.activation_rules.specs.Refusals.{emptyLeft}
+use Rattle.activation_rules.specs.EmptyLeft.{leftlessIn}
+use Rattle.activation_rules.specs.Types.{firstTyped, lastTyped, readable, sampleType, valueType, variables}
+use Rattle.activation_rules.specs.Sought.{Sought, expressions, found}
+use Rattle.activation_rules.specs.Unlast.{conditionsOf}
+use Rattle.activation_rules.specs.Holders.{Holding, held, hold, unheld}
+use Rattle.activation_rules.specs.Checks.{checks}
+use Rattle.activation_rules.specs.Lower.{Lowered, actEquations, actLocals, lowered, make, makes, refuse, unless, withHolders}
 use Rattle.activations.specs.Joining.{added}
 use Rattle.activations.specs.Cells.{clearT, copyT}
 use Rattle.activations.specs.Places.{actAt}

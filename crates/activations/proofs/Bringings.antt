@@ -19,19 +19,19 @@ use Rattle.pack.specs.Intern.{render}
 use Rattle.pack.proofs.Interns.{render-append}
 use Rattle.pack.proofs.Written.{render-full}
 use Rattle.machines.specs.Emits.{packName}
-use Rattle.machines.specs.Machines.{extend}
+use Rattle.machine_rules.specs.Machines.{extend}
 use Rattle.machines.specs.Sections.{nodeNames}
 use Rattle.machines.proofs.LocalLaws.{each-append}
 use Rattle.activations.specs.declared.base.Base.{Base}
 use Rattle.activations.specs.declared.parts.Act.{Act}
-use Rattle.activations.specs.Lower.{Lowered, lowered, make, refuse}
+use Rattle.activation_rules.specs.Lower.{Lowered, lowered, make, refuse}
 use Rattle.activations.specs.Joining.{added, joined, joins}
 use Rattle.activations.specs.Places.{actAt}
 use Rattle.activations.specs.LocalsAt.{Left, actLocalsT}
 use Rattle.activations.specs.EquationsAt.{actEquationsT}
 use Rattle.activations.specs.BegunAt.{Beginning, begunT}
-use Rattle.activations.specs.Unlast.{conditionsOf}
-use Rattle.activations.specs.Types.{lastTyped, variables}
+use Rattle.activation_rules.specs.Unlast.{conditionsOf}
+use Rattle.activation_rules.specs.Types.{lastTyped, variables}
 use Rattle.activations.specs.TypesAt.{TypesAre}
 use Rattle.activations.proofs.Joined.{joined-snoc}
 use Rattle.activations.proofs.LocalsLeft.{Leaves}

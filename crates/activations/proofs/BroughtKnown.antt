@@ -18,7 +18,7 @@ use Rattle.pack.specs.Report.{Refusal}
 use Rattle.pack.specs.Syntax.{Activation, Enum, Equation, Node, Port}
 use Rattle.pack.specs.Read.{portIn, portsIn}
 use Rattle.machines.specs.Brought.{totalT}
-use Rattle.machines.specs.Machines.{extend}
+use Rattle.machine_rules.specs.Machines.{extend}
 use Rattle.machines.specs.Sections.{nodeNames}
 use Rattle.machines.proofs.PackCounts.{counted-many}
 use Rattle.machines.proofs.Reading.{name-number}
@@ -27,7 +27,7 @@ use Rattle.activations.specs.ActTable.{madeT, refusalT, spotT}
 use Rattle.activations.specs.CountsAt.{bringsEquationsT, bringsLocalsT, equationCountT}
 use Rattle.activations.specs.Fates.{Drawn, FateIs, Fates}
 use Rattle.activations.specs.Joining.{added, fateIn, joined, joins, nodeOf, ownerOf, refusalIn, refusalsOf}
-use Rattle.activations.specs.Lower.{Lowered, lowered, make, refuse}
+use Rattle.activation_rules.specs.Lower.{Lowered, lowered, make, refuse}
 use Rattle.activations.proofs.ActRead.{activation-value}
 use Rattle.activations.proofs.EquationCounts.{equations-counted}
 use Rattle.activations.proofs.Joined.{joined-snoc}

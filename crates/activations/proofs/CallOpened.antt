@@ -11,7 +11,7 @@ use Rattle.pack.specs.declared.check.Verdict.{Verdict}
 use Rattle.pack.specs.declared.check.Verdict.the-variants as vd
 use Rattle.pack.specs.declared.record.Pack.{Pack}
 use Rattle.machines.specs.Filled.{Answers}
-use Rattle.activations.specs.Call.{activationsOf, lowerActivations}
+use Rattle.activation_rules.specs.Call.{activationsOf, lowerActivations}
 use Rattle.activations.proofs.ByVerdict.{numberFor, stopped-by, valueFor, verdict-fits, whole-by}
 
 module _ (s : List ℕ) (v : Verdict) (e : v ≡ verdictOf (read s)) where

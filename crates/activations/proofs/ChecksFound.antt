@@ -19,8 +19,8 @@ use Rattle.pack.specs.Forms.{nameAt}
 use Rattle.pack.specs.Legal.{Fresh}
 use Rattle.pack.specs.Report.{Refusal, asRefusal, firstOf}
 use Rattle.pack.specs.Read.{activationIn, branchIn, equationIn, equationsIn, nameIn, namesIn, portIn, portsIn, typeIn}
-use Rattle.machines.specs.Checks.{repeated}
-use Rattle.machines.specs.Lower.{isOnly, isSome, ownValue}
+use Rattle.machine_rules.specs.Checks.{repeated}
+use Rattle.machine_rules.specs.Lower.{isOnly, isSome, ownValue}
 use Rattle.machines.specs.declared.sure.Num.{Num}
 use Rattle.machines.specs.Sure.{numberIn, with}
 use Rattle.machines.proofs.Covered.{lhs-link}
@@ -34,11 +34,11 @@ use Rattle.activations.specs.declared.refused.Refused.{Refused}
 use Rattle.activations.specs.Cells.{clearT, putT}
 use Rattle.activations.specs.Places.{actAt, along, anyT, bodyIn, branchEnd, eachOf}
 use Rattle.activations.specs.Passes.{passT}
-use Rattle.activations.specs.Refusals.{duplicateBranch, lastArgs, noBranches, noOutputs, outputUnassigned}
-use Rattle.activations.specs.Checks.{branchNames, elseName, inBranches, branchless, checks, inScopes, misuse, outputless, unlessAssigned}
-use Rattle.activations.specs.Misused.{anyMisused}
-use Rattle.activations.specs.Sought.{expressions}
-use Rattle.activations.specs.EmptyLeft.{leftless, leftlessBranch, leftlessIn, nameless}
+use Rattle.activation_rules.specs.Refusals.{duplicateBranch, lastArgs, noBranches, noOutputs, outputUnassigned}
+use Rattle.activation_rules.specs.Checks.{branchNames, elseName, inBranches, branchless, checks, inScopes, misuse, outputless, unlessAssigned}
+use Rattle.activation_rules.specs.Misused.{anyMisused}
+use Rattle.activation_rules.specs.Sought.{expressions}
+use Rattle.activation_rules.specs.EmptyLeft.{leftless, leftlessBranch, leftlessIn, nameless}
 use Rattle.activations.specs.MisusedAt.{anyBranchT, anyMisusedT}
 use Rattle.activations.specs.Walks.{LastIs}
 use Rattle.activations.proofs.MisusedFound.{any-misused-is}

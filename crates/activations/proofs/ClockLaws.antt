@@ -14,8 +14,8 @@ use Rattle.pack.specs.Intern.{putItem, putName, render}
 use Rattle.pack.proofs.Interns.{render-append}
 use Rattle.machines.proofs.RowLaws.{left-same}
 use Rattle.activations.specs.declared.made.Var.the-variants as vr
-use Rattle.activations.specs.MadeNames.{Scope, branch, clockVar, other, scopeAt}
-use Rattle.activations.specs.Clocks.{onto, under}
+use Rattle.activation_rules.specs.MadeNames.{Scope, branch, clockVar, other, scopeAt}
+use Rattle.activation_rules.specs.Clocks.{onto, under}
 use Rattle.activations.specs.Vars.{branchVar}
 use Rattle.activations.specs.ByNumber.{ontoItems, underItems, whenItems}
 

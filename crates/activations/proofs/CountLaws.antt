@@ -8,19 +8,19 @@ use lib.ListN.{length, length-append}
 use Rattle.pack.specs.Names.{Name}
 use Rattle.pack.specs.Report.{firstOf}
 use Rattle.pack.specs.Syntax.{Activation, Branch, Enum, Equation, Expr, Port, Ty, tBool}
-use Rattle.activations.specs.MadeNames.{Scope, branch, other}
-use Rattle.activations.specs.Defines.{asLocals}
-use Rattle.activations.specs.Sought.{Sought}
-use Rattle.activations.specs.Types.{typed}
-use Rattle.activations.specs.Defaults.{startOf}
-use Rattle.activations.specs.Holders.{Holding, also, held, hold, holderEquation, holderPort, unheld, withInit, withType}
-use Rattle.activations.specs.Unlast.{conditionsOf}
-use Rattle.activations.specs.Flags.{flagEquations}
-use Rattle.activations.specs.Clocks.{guardEquations}
-use Rattle.activations.specs.Samples.{dropIn, sampleEquations, sampleLocals}
-use Rattle.activations.specs.Scopes.{branchEquations, branchLocals, scopeEquations, scopeLocals, scopeReads}
-use Rattle.activations.specs.Merges.{mergeEquations}
-use Rattle.activations.specs.Lower.{actEquations, actLocals, tailOf}
+use Rattle.activation_rules.specs.MadeNames.{Scope, branch, other}
+use Rattle.activation_rules.specs.Defines.{asLocals}
+use Rattle.activation_rules.specs.Sought.{Sought}
+use Rattle.activation_rules.specs.Types.{typed}
+use Rattle.activation_rules.specs.Defaults.{startOf}
+use Rattle.activation_rules.specs.Holders.{Holding, also, held, hold, holderEquation, holderPort, unheld, withInit, withType}
+use Rattle.activation_rules.specs.Unlast.{conditionsOf}
+use Rattle.activation_rules.specs.Flags.{flagEquations}
+use Rattle.activation_rules.specs.Clocks.{guardEquations}
+use Rattle.activation_rules.specs.Samples.{dropIn, sampleEquations, sampleLocals}
+use Rattle.activation_rules.specs.Scopes.{branchEquations, branchLocals, scopeEquations, scopeLocals, scopeReads}
+use Rattle.activation_rules.specs.Merges.{mergeEquations}
+use Rattle.activation_rules.specs.Lower.{actEquations, actLocals, tailOf}
 
 -- two lists after two of the same lengths
 both : {A B : Type 0} (xs us : List A) (ys vs : List B) → length xs ≡ length ys → length us ≡ length vs → length (xs ++ us) ≡ length (ys ++ vs)

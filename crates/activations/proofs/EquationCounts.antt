@@ -4,7 +4,7 @@ use mathlib.Core.List.{List}
 use mathlib.Core.Path.{_≡_, sym, ap, subst, _∙_}
 use lib.ListN.{length}
 use Rattle.pack.specs.Syntax.{Activation, Enum, Equation, Node, Port}
-use Rattle.activations.specs.Lower.{lowered, make}
+use Rattle.activation_rules.specs.Lower.{lowered, make}
 use Rattle.activations.proofs.CountLaws.{Even, act-count, holders-count}
 use Rattle.activations.proofs.Begun.{made-makes}
 

@@ -10,8 +10,8 @@ use Rattle.pack.specs.Intern.{render}
 use Rattle.machines.specs.Brought.{eachT}
 use Rattle.activations.specs.declared.base.Base.{Base}
 use Rattle.activations.specs.declared.parts.Act.{Act}
-use Rattle.activations.specs.Clocks.{guardEquations}
-use Rattle.activations.specs.Lower.{tailOf}
+use Rattle.activation_rules.specs.Clocks.{guardEquations}
+use Rattle.activation_rules.specs.Lower.{tailOf}
 use Rattle.activations.specs.ByNumber.{portMergesT}
 use Rattle.activations.specs.FlagsAt.{flagsT}
 use Rattle.activations.specs.HoldersAt.{rowItems}

@@ -20,17 +20,17 @@ use Rattle.machines.specs.Emits.{packName}
 use Rattle.machines.proofs.LocalLaws.{each-append}
 use Rattle.activations.specs.declared.base.Base.{Base}
 use Rattle.activations.specs.declared.parts.Act.{Act}
-use Rattle.activations.specs.MadeNames.{other}
-use Rattle.activations.specs.EmptyLeft.{leftlessIn}
-use Rattle.activations.specs.Unlast.{conditionsOf}
-use Rattle.activations.specs.Types.{firstTyped, readable}
-use Rattle.activations.specs.Sought.{expressions, found}
-use Rattle.activations.specs.Holders.{held, hold}
-use Rattle.activations.specs.Flags.{flagEquations}
-use Rattle.activations.specs.Clocks.{guardEquations}
-use Rattle.activations.specs.Scopes.{branchEquations, scopeEquations}
-use Rattle.activations.specs.Merges.{mergeEquations}
-use Rattle.activations.specs.Lower.{actEquations, tailOf}
+use Rattle.activation_rules.specs.MadeNames.{other}
+use Rattle.activation_rules.specs.EmptyLeft.{leftlessIn}
+use Rattle.activation_rules.specs.Unlast.{conditionsOf}
+use Rattle.activation_rules.specs.Types.{firstTyped, readable}
+use Rattle.activation_rules.specs.Sought.{expressions, found}
+use Rattle.activation_rules.specs.Holders.{held, hold}
+use Rattle.activation_rules.specs.Flags.{flagEquations}
+use Rattle.activation_rules.specs.Clocks.{guardEquations}
+use Rattle.activation_rules.specs.Scopes.{branchEquations, scopeEquations}
+use Rattle.activation_rules.specs.Merges.{mergeEquations}
+use Rattle.activation_rules.specs.Lower.{actEquations, tailOf}
 use Rattle.activations.specs.Lookups.{MadeIs}
 use Rattle.activations.specs.ByNumber.{portMergesT}
 use Rattle.activations.specs.Places.{actAt}

@@ -21,10 +21,10 @@ use Rattle.machines.specs.Sure.{numberIn}
 use Rattle.machines.specs.Emits.{packName}
 use Rattle.machines.proofs.Reading.{many-cut, many-more, many-over}
 use Rattle.machines.proofs.SureLaws.{number-to, then-to}
-use Rattle.activations.specs.MadeNames.{flagVar, noneVar}
-use Rattle.activations.specs.Defines.{eqn}
-use Rattle.activations.specs.Unlast.{conditionsOf, unlast}
-use Rattle.activations.specs.Flags.{andAlso, flagEquations}
+use Rattle.activation_rules.specs.MadeNames.{flagVar, noneVar}
+use Rattle.activation_rules.specs.Defines.{eqn}
+use Rattle.activation_rules.specs.Unlast.{conditionsOf, unlast}
+use Rattle.activation_rules.specs.Flags.{andAlso, flagEquations}
 use Rattle.activations.specs.Places.{actAt, branchEnd}
 use Rattle.activations.specs.Walks.{LastIs}
 use Rattle.activations.specs.Passes.{passT}

@@ -8,8 +8,8 @@ use Rattle.pack.specs.Names.{Name, eqName, member}
 use Rattle.pack.specs.Report.{firstOf}
 use Rattle.pack.specs.Syntax.{Expr, Exprs, eArray, eArrow, eBinary, eCall, eCast, eConst, eField, eIf, eIndex, eIterate, eMerge, ePre, eStruct, eTuple, eUnary, eVar, eWhen, xCons, xNil}
 use Rattle.pack.proofs.Tables.{eqName-refl, eqName-true}
-use Rattle.activations.specs.LastCalls.{CallKind, badLast, callKind, lastOf, plain}
-use Rattle.activations.specs.Sought.{Sought, found, note, sought, soughtIn}
+use Rattle.activation_rules.specs.LastCalls.{CallKind, badLast, callKind, lastOf, plain}
+use Rattle.activation_rules.specs.Sought.{Sought, found, note, sought, soughtIn}
 use Rattle.activations.specs.Asked.{Asked, AskedIn, ofCall}
 use Rattle.activations.proofs.NumbersKnown.{by-bool}
 use Rattle.activations.proofs.SoughtFound.{call-sought, kindSought}

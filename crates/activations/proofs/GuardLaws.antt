@@ -15,11 +15,11 @@ use Rattle.pack.specs.Intern.{render}
 use Rattle.pack.proofs.Interns.{render-append}
 use Rattle.machines.proofs.RowLaws.{left-same}
 use Rattle.activations.specs.declared.made.Var.the-variants as vr
-use Rattle.activations.specs.MadeNames.{clockVar, flagVar}
+use Rattle.activation_rules.specs.MadeNames.{clockVar, flagVar}
 use Rattle.activations.specs.Vars.{branchVar}
-use Rattle.activations.specs.Defines.{eqn}
-use Rattle.activations.specs.Clocks.{guardEquations, under}
-use Rattle.activations.specs.Lower.{tailOf}
+use Rattle.activation_rules.specs.Defines.{eqn}
+use Rattle.activation_rules.specs.Clocks.{guardEquations, under}
+use Rattle.activation_rules.specs.Lower.{tailOf}
 use Rattle.activations.specs.ByNumber.{guardOf, guardsFrom, underItems}
 use Rattle.activations.proofs.ClockLaws.{under-then}
 

@@ -24,13 +24,13 @@ use Rattle.machines.specs.Emits.{packName}
 use Rattle.activations.specs.declared.base.Base.{Base}
 use Rattle.activations.specs.declared.types.Start.{Start}
 use Rattle.activations.specs.declared.types.Start.the-variants as sr
-use Rattle.activations.specs.Refusals.{lastNeedsInit, lastUnknown}
+use Rattle.activation_rules.specs.Refusals.{lastNeedsInit, lastUnknown}
 use Rattle.activations.specs.Cells.{putT}
-use Rattle.activations.specs.MadeNames.{lastVar}
-use Rattle.activations.specs.Defaults.{startOf}
-use Rattle.activations.specs.Types.{firstTyped, lastTyped, typed}
-use Rattle.activations.specs.Sought.{Sought}
-use Rattle.activations.specs.Holders.{Holding, also, held, hold, holderEquation, holderPort, unheld, withInit, withType}
+use Rattle.activation_rules.specs.MadeNames.{lastVar}
+use Rattle.activation_rules.specs.Defaults.{startOf}
+use Rattle.activation_rules.specs.Types.{firstTyped, lastTyped, typed}
+use Rattle.activation_rules.specs.Sought.{Sought}
+use Rattle.activation_rules.specs.Holders.{Holding, also, held, hold, holderEquation, holderPort, unheld, withInit, withType}
 use Rattle.activations.specs.Ids.{IsId, heldId, holderId, nameOf, oldId}
 use Rattle.activations.specs.Lookups.{MadeIs}
 use Rattle.activations.specs.Walks.{InitAt}

@@ -17,7 +17,7 @@ use Rattle.activations.specs.declared.types.Start.{Start}
 use Rattle.activations.specs.Cells.{putT}
 use Rattle.activations.specs.Ids.{oldOr}
 use Rattle.activations.specs.Lookups.{placeBuilt}
-use Rattle.activations.specs.MadeNames.{lastVar}
+use Rattle.activation_rules.specs.MadeNames.{lastVar}
 use Rattle.activations.specs.TypeCodes.{typedT}
 use Rattle.activations.specs.TypesAt.{isMissing, startT}
 use Rattle.activations.specs.SoughtAt.{wordT}

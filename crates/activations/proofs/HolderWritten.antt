@@ -27,11 +27,11 @@ use Rattle.machines.proofs.SureLaws.{end-to}
 use Rattle.activations.specs.declared.base.Base.{Base}
 use Rattle.activations.specs.declared.types.Start.{Start}
 use Rattle.activations.specs.declared.types.Start.the-variants as sr
-use Rattle.activations.specs.MadeNames.{lastVar}
-use Rattle.activations.specs.Defines.{eqn}
-use Rattle.activations.specs.Defaults.{startOf}
-use Rattle.activations.specs.Sought.{Sought}
-use Rattle.activations.specs.Holders.{holderEquation}
+use Rattle.activation_rules.specs.MadeNames.{lastVar}
+use Rattle.activation_rules.specs.Defines.{eqn}
+use Rattle.activation_rules.specs.Defaults.{startOf}
+use Rattle.activation_rules.specs.Sought.{Sought}
+use Rattle.activation_rules.specs.Holders.{holderEquation}
 use Rattle.activations.specs.Walks.{InitAt}
 use Rattle.activations.specs.TypesAt.{Coded, StartIn, startExpr, startT, zeroOf}
 use Rattle.activations.specs.SoughtAt.{RowInit, RowIs, wordT}

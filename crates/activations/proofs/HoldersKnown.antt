@@ -22,11 +22,11 @@ use Rattle.pack.proofs.Tables.{eqName-false, eqName-ne, eqName-refl, eqName-tru
 use Rattle.machines.specs.Brought.{eachT}
 use Rattle.machines.specs.Emits.{packName}
 use Rattle.activations.specs.declared.base.Base.{Base}
-use Rattle.activations.specs.MadeNames.{lastVar}
-use Rattle.activations.specs.Defaults.{startOf}
-use Rattle.activations.specs.Types.{lastTyped, portNames, typed}
-use Rattle.activations.specs.Sought.{Sought}
-use Rattle.activations.specs.Holders.{Holding, also, held, hold, holderEquation, holderPort, unheld, withInit, withType}
+use Rattle.activation_rules.specs.MadeNames.{lastVar}
+use Rattle.activation_rules.specs.Defaults.{startOf}
+use Rattle.activation_rules.specs.Types.{lastTyped, portNames, typed}
+use Rattle.activation_rules.specs.Sought.{Sought}
+use Rattle.activation_rules.specs.Holders.{Holding, also, held, hold, holderEquation, holderPort, unheld, withInit, withType}
 use Rattle.activations.specs.TypesAt.{Coded}
 use Rattle.activations.specs.SoughtAt.{RowIs, RowsFrom, wordT}
 use Rattle.activations.specs.HoldAt.{Hold}

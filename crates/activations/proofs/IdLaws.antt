@@ -13,7 +13,7 @@ use Rattle.pack.specs.Names.{Name, eqName}
 use Rattle.pack.specs.Forms.{nameAt}
 use Rattle.pack.specs.Legal.{Fresh, place}
 use Rattle.pack.proofs.Tables.{eqName-ne, eqName-refl, name-at-place, place-at-name}
-use Rattle.activations.specs.MadeNames.{Scope, actPrefix, lastInfix, lastVar, madeName, sampleVar, tag}
+use Rattle.activation_rules.specs.MadeNames.{Scope, actPrefix, lastInfix, lastVar, madeName, sampleVar, tag}
 use Rattle.activations.specs.Ids.{IsId, heldId, holderId, nameOf, oldId, oldOr, sampleId}
 
 -- what follows the first

@@ -21,7 +21,7 @@ use Rattle.machines.specs.Emits.{packName}
 use Rattle.activations.specs.declared.base.Base.{Base}
 use Rattle.activations.specs.Ids.{holderId, oldOr}
 use Rattle.activations.specs.Lookups.{MadeIs, isMade, placeBuilt}
-use Rattle.activations.specs.MadeNames.{actPrefix, lastVar}
+use Rattle.activation_rules.specs.MadeNames.{actPrefix, lastVar}
 use Rattle.activations.specs.HoldAt.{holderNumber, holderT}
 use Rattle.activations.proofs.IdLaws.{old-or-other}
 use Rattle.activations.proofs.LookupLaws.{made-place}

@@ -10,10 +10,10 @@ use borrow.Author.Tests.{eq-eqb, ne-eqb}
 use Rattle.pack.specs.Names.{Name, eqName}
 use Rattle.pack.specs.Legal.{place}
 use Rattle.pack.specs.Syntax.{Activation, Enum, Node, Package}
-use Rattle.machines.specs.Machines.{Made, extend, extendIn, nodeNamed, refusing, start}
+use Rattle.machine_rules.specs.Machines.{Made, extend, extendIn, nodeNamed, refusing, start}
 use Rattle.machines.specs.Sections.{nodeNames}
-use Rattle.activations.specs.Lower.{Lowered, lowered, make, refuse}
-use Rattle.activations.specs.Activations.{activateEach, into, madeActivations, owned}
+use Rattle.activation_rules.specs.Lower.{Lowered, lowered, make, refuse}
+use Rattle.activation_rules.specs.Activations.{activateEach, into, madeActivations, owned}
 use Rattle.activations.specs.Joining.{added, eachAt, fateIn, joined, joins, nodeOf, originIn, originsOf, ownerOf, refusalIn, refusalsOf}
 
 -- names stay

@@ -12,9 +12,10 @@ use Rattle.pack.specs.Names.{Name}
 use Rattle.pack.specs.Syntax.{Expr}
 use Rattle.pack.specs.Read.{exprIn}
 use Rattle.machines.proofs.Reading.{many-cut, many-end, many-more, many-over}
+use Rattle.machines.proofs.PackCounts.{fwd-exprIn}
 use Rattle.activations.specs.Met.{metAt, onwardT}
 use Rattle.activations.specs.Walks.{LastIs, through, walkT, walked}
-use Rattle.activations.proofs.NodesRead.{expr-moves, fwd-expr, many-both, many-joined, many-none, many-room}
+use Rattle.activations.proofs.NodesRead.{expr-moves, many-both, many-joined, many-none, many-room}
 use Rattle.activations.proofs.Views.{View, toCome, viewed}
 use Rattle.activations.proofs.Walking.{through-append}
 
@@ -45,7 +46,7 @@ module _ (ns : List Name) (s : List ℕ) (few : length ns < 65536) (by : Bytes s
         let b = expr-moves ns s p x (c .0) (c .1) in
         let g = many-room ns s (length (toCome m x)) (onwardT m) (toCome m x) (c .0) (v .to) in
         let d = many-room ns s n (c .0) xs q (c .2) in
-        let t = fwd-many (length s) (exprIn ns s) (fwd-expr ns s) n (c .0) xs q (c .2) in
+        let t = fwd-many (length s) (exprIn ns s) (fwd-exprIn ns s) n (c .0) xs q (c .2) in
         let o = t .inside (b .1) in
         let u = t .on in
         let r = b .0 in

@@ -18,8 +18,6 @@ pub mod MisusedLaws
 pub mod MisusedFound
 pub mod LookupLaws
 pub mod MetExample
-pub mod Computed
-pub mod Examples
 pub mod UnlastLaws
 pub mod UnlastWritten
 pub mod Joined

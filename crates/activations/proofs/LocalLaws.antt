@@ -17,7 +17,7 @@ use Rattle.machines.specs.Emits.{packName}
 use Rattle.activations.specs.declared.made.Var.{Var}
 use Rattle.activations.specs.declared.made.Var.the-variants as vr
 use Rattle.activations.specs.declared.locals.Passed.{Passed}
-use Rattle.activations.specs.MadeNames.{lastVar}
+use Rattle.activation_rules.specs.MadeNames.{lastVar}
 use Rattle.activations.specs.Vars.{branchVar}
 use Rattle.activations.specs.Cells.{putT}
 use Rattle.activations.specs.Lookups.{placeBuilt}

@@ -27,13 +27,13 @@ use Rattle.machines.specs.Stands.{endOf}
 use Rattle.machines.proofs.LocalLaws.{each-append}
 use Rattle.activations.specs.declared.made.Var.{Var}
 use Rattle.activations.specs.declared.made.Var.the-variants as vr
-use Rattle.activations.specs.MadeNames.{actPrefix, clockVar, flagVar, madeName, noneVar}
+use Rattle.activation_rules.specs.MadeNames.{actPrefix, clockVar, flagVar, madeName, noneVar}
 use Rattle.activations.specs.Vars.{branchVar}
-use Rattle.activations.specs.Defines.{asLocals, eqn, firstLeft}
-use Rattle.activations.specs.Flags.{flagEquations}
-use Rattle.activations.specs.Clocks.{guardEquations}
+use Rattle.activation_rules.specs.Defines.{asLocals, eqn, firstLeft}
+use Rattle.activation_rules.specs.Flags.{flagEquations}
+use Rattle.activation_rules.specs.Clocks.{guardEquations}
 use Rattle.activations.specs.ByNumber.{boolPort}
-use Rattle.activations.specs.Types.{lastTyped}
+use Rattle.activation_rules.specs.Types.{lastTyped}
 use Rattle.activations.specs.Lookups.{MadeIs, isMade, placeBuilt}
 use Rattle.activations.specs.TypesAt.{Coded, TypesAre, typeBytes}
 use Rattle.activations.specs.LocalsAt.{Left, branchLocalT, built, clockLocalsT, flagLocalsT, leaveT, localT, moreT, namedT}

@@ -15,7 +15,7 @@ use Rattle.pack.specs.Legal.{place}
 use Rattle.pack.proofs.Tables.{name-at-place}
 use Rattle.machines.specs.Laid.{sliceOf}
 use Rattle.machines.specs.Emits.{packName}
-use Rattle.activations.specs.MadeNames.{actPrefix}
+use Rattle.activation_rules.specs.MadeNames.{actPrefix}
 use Rattle.activations.specs.Places.{anyT}
 use Rattle.activations.specs.Lookups.{MadeIs, isMade, madeAt, placeBuilt, someMadeT}
 use Rattle.activations.proofs.MisusedLaws.{any-end, any-hit, any-on}

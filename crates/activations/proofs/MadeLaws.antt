@@ -10,7 +10,7 @@ use Rattle.wire.proofs.Writers.{puts-append}
 use Rattle.pack.specs.Names.{Name}
 use Rattle.activations.specs.declared.made.Var.{Var}
 use Rattle.activations.specs.declared.made.Var.the-variants as vr
-use Rattle.activations.specs.MadeNames.{Scope, actPrefix, clockVar, flagVar, lastInfix, lastVar, madeName, noneVar, sampleVar, scopeAt, tag, valueVar}
+use Rattle.activation_rules.specs.MadeNames.{Scope, actPrefix, clockVar, flagVar, lastInfix, lastVar, madeName, noneVar, sampleVar, scopeAt, tag, valueVar}
 use Rattle.activations.specs.Vars.{branchVar}
 
 pub start-text : (a : Name) (s : State) → puts a (puts actPrefix s) ≡ puts (actPrefix ++ a) s

@@ -23,9 +23,9 @@ use Rattle.machines.specs.Emits.{packName}
 use Rattle.machines.proofs.RowLaws.{left-same}
 use Rattle.machines.proofs.SureLaws.{on}
 use Rattle.activations.specs.declared.made.Var.the-variants as vr
-use Rattle.activations.specs.MadeNames.{Scope, branch, clockVar, other, scopeAt, valueVar}
+use Rattle.activation_rules.specs.MadeNames.{Scope, branch, clockVar, other, scopeAt, valueVar}
 use Rattle.activations.specs.Vars.{branchVar}
-use Rattle.activations.specs.Merges.{mergeFrom}
+use Rattle.activation_rules.specs.Merges.{mergeFrom}
 use Rattle.activations.specs.ByNumber.{mergeItems, mergedFrom, mergesT, portMergesT, turnItems}
 
 merged-number : (a o : Name) (k : ℕ) (cs : List Expr) → mergeFrom a o k cs ≡ mergedFrom a o k (length cs)

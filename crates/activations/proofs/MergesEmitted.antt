@@ -19,8 +19,8 @@ use Rattle.machines.specs.Emits.{packName}
 use Rattle.machines.proofs.Reading.{many-cut, many-more, many-over, name-number}
 use Rattle.machines.proofs.SureLaws.{end-to, number-num, number-to}
 use Rattle.machines.proofs.ChainsEmitted.{Alike, alike-append, alike-by}
-use Rattle.activations.specs.Defines.{eqn}
-use Rattle.activations.specs.Merges.{mergeEquations, mergeFrom}
+use Rattle.activation_rules.specs.Defines.{eqn}
+use Rattle.activation_rules.specs.Merges.{mergeEquations, mergeFrom}
 use Rattle.activations.specs.ByNumber.{mergeItems, mergesT, portMergesT}
 
 -- a port that was read: the number of its name

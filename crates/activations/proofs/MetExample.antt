@@ -16,8 +16,8 @@ use Rattle.pack.specs.Syntax.{Expr, eCall, eConst, ePre, eTuple, eVar, lBool, x
 use Rattle.pack.proofs.WrittenBack.{allSmall, small-bytes}
 use Rattle.machines.specs.Stands.{endOf}
 use Rattle.activations.specs.declared.met.Met.the-variants as mt
-use Rattle.activations.specs.LastCalls.{asVar, callKind, lastName, lastRest, lastShape}
-use Rattle.activations.specs.Misused.{misused, misusedIn}
+use Rattle.activation_rules.specs.LastCalls.{asVar, callKind, lastName, lastRest, lastShape}
+use Rattle.activation_rules.specs.Misused.{misused, misusedIn}
 use Rattle.activations.specs.Met.{callT, firstT, lastRestT, lastShapeT, lastTwoT, metAt, metNode, onNode, onVar, plainT}
 use Rattle.activations.specs.Walks.{LastIs}
 use Rattle.activations.specs.MisusedAt.{misusedT}

@@ -13,9 +13,9 @@ use Rattle.pack.specs.Read.{activationIn, branchIn, equationIn, equationsIn, ex
 use Rattle.machines.specs.Sure.{numberIn}
 use Rattle.machines.proofs.Reading.{many-cut, many-more, many-over}
 use Rattle.machines.proofs.SureLaws.{number-to, then-to}
-use Rattle.activations.specs.LastCalls.{CallKind, badLast, callKind, lastOf, plain}
-use Rattle.activations.specs.Misused.{anyMisused, misused, misusedIn}
-use Rattle.activations.specs.Sought.{bodies, conditions, expressions, rightSides}
+use Rattle.activation_rules.specs.LastCalls.{CallKind, badLast, callKind, lastOf, plain}
+use Rattle.activation_rules.specs.Misused.{anyMisused, misused, misusedIn}
+use Rattle.activation_rules.specs.Sought.{bodies, conditions, expressions, rightSides}
 use Rattle.activations.specs.Kids.{kids, listOf}
 use Rattle.activations.specs.Met.{isBad}
 use Rattle.activations.specs.Places.{actAt, anyT, branchEnd, equationEnd}

@@ -13,15 +13,15 @@ use Rattle.pack.specs.Legal.{place}
 use Rattle.pack.specs.Syntax.{Activation, Enum, Node}
 use Rattle.pack.specs.Read.{activationIn}
 use Rattle.machines.specs.Sections.{nodeNames}
-use Rattle.activations.specs.Refusals.{unknownOwner}
+use Rattle.activation_rules.specs.Refusals.{unknownOwner}
 use Rattle.activations.specs.declared.parts.Act.{Act}
 use Rattle.activations.specs.declared.refused.Refused.{Refused}
-use Rattle.activations.specs.Lower.{lowered, refuse}
+use Rattle.activation_rules.specs.Lower.{lowered, refuse}
 use Rattle.activations.specs.Joining.{added, fateIn, joined, joins, nodeOf, ownerOf}
 use Rattle.activations.specs.Places.{actAt}
 use Rattle.activations.specs.ActTable.{goalT, judgedT, madeT, refusalT, spotT}
 use Rattle.activations.specs.declared.base.Base.{Base}
-use Rattle.activations.specs.Types.{lastTyped, variables}
+use Rattle.activation_rules.specs.Types.{lastTyped, variables}
 use Rattle.activations.specs.TypesAt.{TypesAre, variablesT}
 use Rattle.activations.specs.Cells.{clearT}
 use Rattle.activations.proofs.TypesKnown.{variables-typed}

@@ -6,8 +6,7 @@ use mathlib.Core.Path.{_≡_, refl, sym, ap, _∙_}
 use lib.ListN.{length}
 use Rattle.wire.specs.Answer.{Answer, many, mapA, value}
 use Rattle.wire.specs.Preorder.{Trees, cons, nil, node, trees}
-use Rattle.wire.proofs.Answers.{Fwd, bind-value, fwd-many, fwd-map, many-length, map-value}
-use Rattle.wire.proofs.Preorders.{fwd-trees}
+use Rattle.wire.proofs.Answers.{bind-value, fwd-many, many-length, map-value}
 use Rattle.pack.specs.Names.{Name}
 use Rattle.pack.specs.Syntax.{Expr, Exprs, xCons, xNil}
 use Rattle.pack.specs.Forms.{ExprHead, exprArity, exprAt, exprHead, exprOf, exprOver, exprsOf, nth}
@@ -16,6 +15,7 @@ use Rattle.pack.specs.Read.{exprIn}
 use Rattle.pack.specs.Write.{countOf}
 use Rattle.pack.proofs.ExprLaws.{exprMoves}
 use Rattle.machines.proofs.Reading.{bind-is, many-more}
+use Rattle.machines.proofs.PackCounts.{fwd-exprIn}
 use Rattle.activations.specs.Kids.{listOf}
 
 -- no tree takes nothing, whatever the fuel
@@ -151,15 +151,11 @@ module _ (ns : List Name) (s : List ℕ) where
   unfolding exprMore mapA
   head-moves at h p e = (exprMoves (length ns) .on s at (exprArity h) p (ap (mapA exprArity) e), exprMoves (length ns) .inside s at (exprArity h) p (ap (mapA exprArity) e))
 
-  pub fwd-expr : (at : ℕ) → Fwd (length s) at (exprIn ns s at)
-  unfolding exprIn exprAt exprMore
-  fwd-expr at = fwd-map (length s) at _ _ (fwd-trees exprArity (exprHead (length ns)) (exprMoves (length ns)) s (suc (length s)) 1 at (omega arith))
-
   pub expr-moves : (at : ℕ) (e : Expr) (q : ℕ) → exprIn ns s at ≡ value e q → (at < q) × (q ≤ length s)
   expr-moves at e q d =
       let r = head-value at e q d in
       let m = head-moves at (r .h) (r .next) (r .head) in
-      let f = fwd-many (length s) (exprIn ns s) fwd-expr (exprArity (r .h)) (r .next) (listOf (r .xs)) q (r .under) in
+      let f = fwd-many (length s) (exprIn ns s) (fwd-exprIn ns s) (exprArity (r .h)) (r .next) (listOf (r .xs)) q (r .under) in
       let l = m .0 in
       let k = f .on in
       (omega arith, f .inside (m .1))

@@ -23,7 +23,7 @@ use Rattle.pack.proofs.Copies.{Lies, lies-equations-rest, lies-head, lies-ports
 use Rattle.machines.specs.declared.sure.Num.{Num}
 use Rattle.machines.specs.Brought.{nodeEquationsIn, nodeLocalsIn, totalT}
 use Rattle.machines.specs.Laid.{sliceOf}
-use Rattle.machines.specs.Machines.{extend}
+use Rattle.machine_rules.specs.Machines.{extend}
 use Rattle.machines.specs.Sections.{nodeNames}
 use Rattle.machines.specs.Shown.{PackOf}
 use Rattle.machines.specs.Stands.{endOf}
@@ -33,7 +33,7 @@ use Rattle.machines.proofs.ListsShown.{copied, counted-parts}
 use Rattle.machines.proofs.SureLaws.{end-to}
 use Rattle.machines.proofs.ShownCounts.{node-equations-to, node-locals-to, node-value}
 use Rattle.activations.specs.declared.base.Base.{Base}
-use Rattle.activations.specs.Lower.{lowered}
+use Rattle.activation_rules.specs.Lower.{lowered}
 use Rattle.activations.specs.Joining.{eachAt, fateIn, joined, ownerOf}
 use Rattle.activations.specs.Basis.{Basis}
 use Rattle.activations.specs.CountsAt.{bringsEquationsT, bringsLocalsT}

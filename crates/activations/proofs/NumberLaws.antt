@@ -12,7 +12,7 @@ use Rattle.wire.specs.Writer.{State, puts, st}
 use Rattle.pack.specs.Names.{Name}
 use Rattle.pack.specs.Intern.{putItem, putName, render, table}
 use Rattle.machines.specs.Emits.{packName}
-use Rattle.activations.specs.MadeNames.{Scope, actPrefix, lastVar, madeName, sampleVar, scopeAt, tag}
+use Rattle.activation_rules.specs.MadeNames.{Scope, actPrefix, lastVar, madeName, sampleVar, scopeAt, tag}
 use Rattle.activations.specs.Lookups.{placeBuilt}
 use Rattle.activations.specs.Ids.{oldOr}
 use Rattle.activations.specs.NumbersAt.{idItems, lastIdT, lastRowT, nameT, sampleNameT, sampleT}

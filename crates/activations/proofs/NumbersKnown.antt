@@ -21,9 +21,9 @@ use Rattle.pack.proofs.Written.{table-enc}
 use Rattle.machines.specs.Laid.{sliceOf}
 use Rattle.machines.specs.Emits.{packName}
 use Rattle.machines.proofs.MachineEmitted.{numbered}
-use Rattle.activations.specs.MadeNames.{Scope, actPrefix, lastVar, madeName, sampleVar, scopeAt}
+use Rattle.activation_rules.specs.MadeNames.{Scope, actPrefix, lastVar, madeName, sampleVar, scopeAt}
 use Rattle.activations.specs.Lookups.{MadeIs, isMade, placeBuilt}
-use Rattle.activations.specs.Samples.{renamed}
+use Rattle.activation_rules.specs.Samples.{renamed}
 use Rattle.activations.specs.Ids.{IsId, nameOf, namesOf, oldOr, sampleId}
 use Rattle.activations.specs.NumbersAt.{idItems, nameT, sampleNameT, sampleT}
 use Rattle.activations.specs.RewriteAt.{chosenItems, renamedFrom, renamedT}

@@ -18,7 +18,7 @@ use Rattle.machines.specs.Sure.{numberIn}
 use Rattle.machines.proofs.RowLaws.{left-same}
 use Rattle.machines.proofs.SureLaws.{on}
 use Rattle.activations.specs.declared.parts.Act.{Act}
-use Rattle.activations.specs.Checks.{elseName}
+use Rattle.activation_rules.specs.Checks.{elseName}
 use Rattle.activations.specs.Places.{actAt, branchEnd}
 use Rattle.activations.specs.ActTable.{goalT, spotT}
 use Rattle.activations.specs.CountsAt.{bringsEquationsT, equationCountT}

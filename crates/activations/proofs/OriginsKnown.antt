@@ -21,7 +21,7 @@ use Rattle.pack.proofs.Interns.{render-append}
 use Rattle.pack.proofs.Tables.{eqName-true}
 use Rattle.machines.specs.declared.sure.Num.{Num}
 use Rattle.machines.specs.Brought.{eachT, nodeEquationsIn, totalT}
-use Rattle.machines.specs.Machines.{originOf}
+use Rattle.machine_rules.specs.Machines.{originOf}
 use Rattle.machines.specs.Sections.{nodeNames}
 use Rattle.machines.specs.Shown.{PackOf}
 use Rattle.machines.specs.Sure.{numberIn, with}
@@ -30,13 +30,13 @@ use Rattle.machines.proofs.Reading.{many-cut, many-more, many-over, name-number
 use Rattle.machines.proofs.ShownCounts.{equations-number, node-equations-to, node-value}
 use Rattle.machines.proofs.SureLaws.{number-to}
 use Rattle.activations.specs.declared.parts.Act.{Act}
-use Rattle.activations.specs.Checks.{branchNames, elseName}
+use Rattle.activation_rules.specs.Checks.{branchNames, elseName}
 use Rattle.activations.specs.Places.{actAt, branchEnd}
 use Rattle.activations.specs.ActTable.{goalT, spotT}
 use Rattle.activations.specs.CountsAt.{bringsEquationsT, equationCountT}
 use Rattle.activations.specs.Fates.{Drawn, Fates, NodeAt, NodesFrom}
 use Rattle.activations.specs.Joining.{fateIn, joined, nodeOf, originIn, originsOf, ownerOf, refusalsOf}
-use Rattle.activations.specs.Lower.{Lowered}
+use Rattle.activation_rules.specs.Lower.{Lowered}
 use Rattle.activations.specs.OriginsAt.{branchesT, firstT, numbersT, originT, scopeNamesT}
 use Rattle.activations.proofs.ActRead.{act-to, activation-value, branch-end-to, branch-number-to, branch-value}
 use Rattle.activations.proofs.BroughtKnown.{AcceptedIn, accepted-each, row-equations, some-bring, two-more}

@@ -19,11 +19,11 @@ use Rattle.machines.specs.Laid.{sliceOf}
 use Rattle.machines.specs.Emits.{packName}
 use Rattle.activations.specs.declared.met.Met.{Met}
 use Rattle.activations.specs.declared.met.Met.the-variants as mt
-use Rattle.activations.specs.LastCalls.{plain}
-use Rattle.activations.specs.MadeNames.{lastVar, scopeAt}
-use Rattle.activations.specs.Clocks.{onto}
-use Rattle.activations.specs.Unlast.{unlast, unlasts}
-use Rattle.activations.specs.Pins.{hasConst, hasConsts, pin, pinned, pins}
+use Rattle.activation_rules.specs.LastCalls.{plain}
+use Rattle.activation_rules.specs.MadeNames.{lastVar, scopeAt}
+use Rattle.activation_rules.specs.Clocks.{onto}
+use Rattle.activation_rules.specs.Unlast.{unlast, unlasts}
+use Rattle.activation_rules.specs.Pins.{hasConst, hasConsts, pin, pinned, pins}
 use Rattle.activations.specs.Kids.{headItems, kids, listOf}
 use Rattle.activations.specs.Met.{isConst, metAt, onwardT}
 use Rattle.activations.specs.Walks.{LastIs, orStep, through, writeStep}

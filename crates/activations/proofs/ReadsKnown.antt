@@ -23,10 +23,10 @@ use Rattle.machines.specs.Marks.{among}
 use Rattle.machines.proofs.Reading.{many-end}
 use Rattle.activations.specs.declared.met.Met.{Met}
 use Rattle.activations.specs.declared.met.Met.the-variants as mt
-use Rattle.activations.specs.LastCalls.{plain}
-use Rattle.activations.specs.MadeNames.{lastVar}
-use Rattle.activations.specs.Unlast.{unlast, unlasts}
-use Rattle.activations.specs.Reads.{keepIn, push, reads, readsIn, readsOf}
+use Rattle.activation_rules.specs.LastCalls.{plain}
+use Rattle.activation_rules.specs.MadeNames.{lastVar}
+use Rattle.activation_rules.specs.Unlast.{unlast, unlasts}
+use Rattle.activation_rules.specs.Reads.{keepIn, push, reads, readsIn, readsOf}
 use Rattle.activations.specs.Kids.{headItems, kids, listOf}
 use Rattle.activations.specs.Met.{metAt, onwardT}
 use Rattle.activations.specs.Walks.{LastIs, through}

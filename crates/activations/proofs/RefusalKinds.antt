@@ -7,17 +7,17 @@ use mathlib.Core.Option.{Option, none, some}
 use Rattle.pack.specs.Names.{Name}
 use Rattle.pack.specs.Report.{Refusal, asRefusal, firstOf}
 use Rattle.pack.specs.Syntax.{Activation, Branch, Enum, Equation, Expr, Node, Port, Ty}
-use Rattle.machines.specs.Lower.{isSome, ownValue}
-use Rattle.activations.specs.Misused.{anyMisused}
-use Rattle.activations.specs.Refusals.{duplicateBranch, emptyLeft, lastArgs, lastNeedsInit, lastUnknown, noBranches, noOutputs, outputUnassigned, unknownOwner}
-use Rattle.activations.specs.Checks.{branchless, checks, elseName, inBranches, inScopes, misuse, outputless, unlessAssigned}
-use Rattle.activations.specs.EmptyLeft.{leftlessIn}
-use Rattle.activations.specs.Holders.{Holding, also, held, hold, unheld, withInit, withType}
+use Rattle.machine_rules.specs.Lower.{isSome, ownValue}
+use Rattle.activation_rules.specs.Misused.{anyMisused}
+use Rattle.activation_rules.specs.Refusals.{duplicateBranch, emptyLeft, lastArgs, lastNeedsInit, lastUnknown, noBranches, noOutputs, outputUnassigned, unknownOwner}
+use Rattle.activation_rules.specs.Checks.{branchless, checks, elseName, inBranches, inScopes, misuse, outputless, unlessAssigned}
+use Rattle.activation_rules.specs.EmptyLeft.{leftlessIn}
+use Rattle.activation_rules.specs.Holders.{Holding, also, held, hold, unheld, withInit, withType}
 use Rattle.activations.specs.Joining.{fateIn}
-use Rattle.activations.specs.Lower.{Lowered, lowered, make, makes, refuse, unless, withHolders}
-use Rattle.activations.specs.Sought.{Sought, expressions, found}
-use Rattle.activations.specs.Types.{typed, variables}
-use Rattle.activations.specs.Defaults.{startOf}
+use Rattle.activation_rules.specs.Lower.{Lowered, lowered, make, makes, refuse, unless, withHolders}
+use Rattle.activation_rules.specs.Sought.{Sought, expressions, found}
+use Rattle.activation_rules.specs.Types.{typed, variables}
+use Rattle.activation_rules.specs.Defaults.{startOf}
 
 unfoldable KindIn : Option Refusal → Type 0
 KindIn none = Unit {0}

@@ -20,7 +20,7 @@ use Rattle.pack.specs.Outcome.{reported}
 use Rattle.pack.specs.Write.{enc}
 use Rattle.machines.specs.declared.sure.Num.{Num}
 use Rattle.machines.specs.Brought.{totalT}
-use Rattle.machines.specs.Call.{finished}
+use Rattle.machine_rules.specs.Call.{finished}
 use Rattle.machines.specs.Entries.{calledOf, entryBytes, namesOf}
 use Rattle.machines.specs.Judging.{named, noName}
 use Rattle.machines.specs.Laid.{prefixOf, sliceOf}
@@ -31,14 +31,14 @@ use Rattle.machines.proofs.EntryLaws.{entry-is}
 use Rattle.machines.proofs.Reading.{name-number}
 use Rattle.machines.proofs.SureLaws.{number-num}
 use Rattle.activations.specs.declared.refused.Refused.{Refused}
-use Rattle.activations.specs.Checks.{elseName}
+use Rattle.activation_rules.specs.Checks.{elseName}
 use Rattle.activations.specs.ChecksAt.{called, refusalBy}
 use Rattle.activations.specs.ActTable.{madeT, refusalT, spotT}
-use Rattle.activations.specs.Activations.{madeActivations, withoutActivations}
-use Rattle.activations.specs.Call.{activationsOf}
+use Rattle.activation_rules.specs.Activations.{madeActivations, withoutActivations}
+use Rattle.activation_rules.specs.Call.{activationsOf}
 use Rattle.activations.specs.Fates.{Drawn, FateIs, Fates}
 use Rattle.activations.specs.Joining.{fateIn, ownerOf, refusalIn, refusalsOf}
-use Rattle.activations.specs.Lower.{Lowered, make, refuse}
+use Rattle.activation_rules.specs.Lower.{Lowered, make, refuse}
 use Rattle.activations.specs.ReportAt.{calledT, elseCalled, entryT, isRefusedT, judgedAs}
 use Rattle.activations.proofs.ActRead.{activation-value}
 use Rattle.activations.proofs.Joined.{activations-refusals}

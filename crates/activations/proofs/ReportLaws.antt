@@ -14,7 +14,7 @@ use Rattle.machines.specs.Reporting.{bytesT}
 use Rattle.machines.specs.Sure.{numberIn}
 use Rattle.machines.proofs.ReportingLaws.{room-here}
 use Rattle.activations.specs.declared.refused.Refused.{Refused}
-use Rattle.activations.specs.Checks.{elseName}
+use Rattle.activation_rules.specs.Checks.{elseName}
 use Rattle.activations.specs.ActTable.{refusalT, spotT}
 use Rattle.activations.specs.ReportAt.{calledT, elseCalled, entryT, isRefusedT, judgedAs}
 

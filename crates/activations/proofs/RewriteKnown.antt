@@ -23,11 +23,11 @@ use Rattle.machines.specs.Laid.{sliceOf}
 use Rattle.machines.specs.Emits.{packName}
 use Rattle.activations.specs.declared.met.Met.{Met}
 use Rattle.activations.specs.declared.met.Met.the-variants as mt
-use Rattle.activations.specs.LastCalls.{plain}
-use Rattle.activations.specs.MadeNames.{lastVar, scopeAt}
-use Rattle.activations.specs.Unlast.{unlast, unlasts}
-use Rattle.activations.specs.Renames.{rename, renames}
-use Rattle.activations.specs.Samples.{renamed}
+use Rattle.activation_rules.specs.LastCalls.{plain}
+use Rattle.activation_rules.specs.MadeNames.{lastVar, scopeAt}
+use Rattle.activation_rules.specs.Unlast.{unlast, unlasts}
+use Rattle.activation_rules.specs.Renames.{rename, renames}
+use Rattle.activation_rules.specs.Samples.{renamed}
 use Rattle.activations.specs.Lookups.{MadeIs}
 use Rattle.activations.specs.Kids.{headItems, kids, listOf}
 use Rattle.activations.specs.Met.{metAt, onwardT}

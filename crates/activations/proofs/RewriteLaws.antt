@@ -21,7 +21,7 @@ use Rattle.machines.specs.Laid.{sliceOf}
 use Rattle.activations.proofs.met.Met as Met-enum
 use Rattle.activations.specs.declared.met.Met.{Met}
 use Rattle.activations.specs.declared.met.Met.the-variants as mt
-use Rattle.activations.specs.MadeNames.{scopeAt}
+use Rattle.activation_rules.specs.MadeNames.{scopeAt}
 use Rattle.activations.specs.Met.{isConst, onwardT}
 use Rattle.activations.specs.Walks.{orStep, walked, writeStep}
 use Rattle.activations.specs.ByNumber.{ontoItems}

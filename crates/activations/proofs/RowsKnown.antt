@@ -21,9 +21,9 @@ use Rattle.pack.specs.Read.{portIn, portsIn}
 use Rattle.pack.proofs.Tables.{eqName-ne, eqName-true, place-at-name}
 use Rattle.machines.proofs.Reading.{many-cut, many-more}
 use Rattle.machines.proofs.TableLaws.{past-end}
-use Rattle.activations.specs.MadeNames.{lastVar}
-use Rattle.activations.specs.Types.{firstTyped, lastTyped, portNames, readable, typed}
-use Rattle.activations.specs.Sought.{Sought}
+use Rattle.activation_rules.specs.MadeNames.{lastVar}
+use Rattle.activation_rules.specs.Types.{firstTyped, lastTyped, portNames, readable, typed}
+use Rattle.activation_rules.specs.Sought.{Sought}
 use Rattle.activations.specs.Ids.{holderId, nameOf}
 use Rattle.activations.specs.TypeCodes.{codeOr, outT, typedT}
 use Rattle.activations.specs.TypesAt.{Coded, TypesAre}

@@ -19,7 +19,7 @@ use Rattle.pack.specs.Forms.{nameAt}
 use Rattle.pack.specs.Legal.{Fresh}
 use Rattle.machines.proofs.NamesPlaced.{alone}
 use Rattle.activations.specs.Cells.{putT}
-use Rattle.activations.specs.Sought.{Sought, note}
+use Rattle.activation_rules.specs.Sought.{Sought, note}
 use Rattle.activations.specs.Walks.{InitAt}
 use Rattle.activations.specs.SoughtAt.{RowInit, RowIs, Rows, RowsFrom, initT, maxRows, noteRow, noteT, rowMore, rowT, rowsOf, wordT}
 

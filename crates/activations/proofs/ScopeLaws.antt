@@ -22,7 +22,7 @@ use Rattle.machines.specs.Sure.{numberIn, with}
 use Rattle.machines.specs.Marks.{among}
 use Rattle.machines.specs.Emits.{packName}
 use Rattle.machines.proofs.SureLaws.{on}
-use Rattle.activations.specs.MadeNames.{scopeAt, valueVar}
+use Rattle.activation_rules.specs.MadeNames.{scopeAt, valueVar}
 use Rattle.activations.specs.ByNumber.{ontoItems}
 use Rattle.activations.specs.Places.{bodyIn, branchEnd, equationEnd, firstLeftIn, rightSideIn}
 use Rattle.activations.specs.Walks.{writeStep}

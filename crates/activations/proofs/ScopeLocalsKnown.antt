@@ -20,16 +20,15 @@ use Rattle.machines.specs.Marks.{among}
 use Rattle.machines.specs.Emits.{packName}
 use Rattle.machines.proofs.Reading.{many-cut, many-more, many-over}
 use Rattle.machines.proofs.SureLaws.{number-to}
-use Rattle.activations.specs.MadeNames.{Scope, actPrefix, branch, madeName, other, sampleVar, scopeAt, valueVar}
-use Rattle.activations.specs.Defines.{firstLeft}
-use Rattle.activations.specs.Types.{orBool, sampleType, typed, valueType}
-use Rattle.activations.specs.Samples.{dropIn, sampleLocals}
-use Rattle.activations.specs.Scopes.{branchLocals, scopeLocals, scopeReads}
+use Rattle.activation_rules.specs.MadeNames.{Scope, actPrefix, branch, madeName, other, sampleVar, scopeAt, valueVar}
+use Rattle.activation_rules.specs.Defines.{firstLeft}
+use Rattle.activation_rules.specs.Types.{orBool, sampleType, typed, valueType}
+use Rattle.activation_rules.specs.Samples.{dropIn, sampleLocals}
+use Rattle.activation_rules.specs.Scopes.{branchLocals, scopeLocals, scopeReads}
 use Rattle.activations.specs.Lookups.{MadeIs, isMade}
 use Rattle.activations.specs.Places.{bodyIn, branchEnd, equationEnd, firstLeftIn}
 use Rattle.activations.specs.Walks.{LastIs}
 use Rattle.activations.specs.Ids.{IsId, holderId, nameOf, namesOf}
-use Rattle.activations.specs.Asked.{Asked}
 use Rattle.activations.specs.TypeCodes.{typedT, valueTypeT}
 use Rattle.activations.specs.TypesAt.{Coded}
 use Rattle.activations.specs.NumbersAt.{lastIdT, sampleNameT}
@@ -41,7 +40,7 @@ use Rattle.activations.proofs.IdLaws.{id-below}
 use Rattle.activations.proofs.NumbersKnown.{by-bool, sample-made, sample-named}
 use Rattle.activations.proofs.ReadsKnown.{Once, Tells, names-append, reads-known}
 use Rattle.activations.proofs.ReadsEach.{reads-each}
-use Rattle.activations.proofs.ScopesKnown.{first-left-to, fresh-length, freshIn, ids-fresh, joined, names-fresh, names-move, scope-branch, scope-else}
+use Rattle.activations.proofs.ScopesKnown.{Fits, FitsIn, first-left-to, fresh-length, freshIn, ids-fresh, joined, names-fresh, names-move, scope-branch, scope-else}
 use Rattle.activations.proofs.LocalsLeft.{Leaves, leaves-more, leaves-none, leaves-one}
 
 -- a value's name begins as made ones do
@@ -54,10 +53,6 @@ coded-some : (ns : List Name) (s : List ℕ) (c : ℕ) (o : Option Ty) → Coded
 unfolding Coded orBool
 coded-some ns s c none h n = absurd (n h)
 coded-some ns s c (some t) h n = h
-
--- an equation with a left name, whose calls of `last` ask for variables that have rows
-abbrev pub Fits : (Name → Type 0) → Equation → Type 0
-Fits P e = (0 < length (e .lhs)) × Asked P (e .rhs)
 
 -- a pack that was read; an activation's name, its n branches; the holders' rows, the types of variables and outputs by tables, and as
 -- ports; the variables that are known; what holds of the variables that have rows
@@ -210,12 +205,8 @@ module _ (ns : List Name) (fresh : Fresh [] ns) (legal : All LegalName ns) (few 
         subst (Leaves ns s (scopeLocals (sampleType ports outputs) (valueType ports outputs) a vars (scopeAt n k) [] es) z) (sym (number-to s at (length es) (c .0) (λ i p. equationLocalsT ns s (enc ns) made a spots env outs n last held rows k i p [] z) (c .1)))
         (equations-left (length es) (c .0) es q [] z (c .2) f tt (omega arith))
 
-  -- a branch whose equations fit
-  abbrev pub FitsIn : Branch → Type 0
-  FitsIn b = All (Fits P) (b .equations)
-
   -- THE LAW: the scopes of branches
-  pub branches-left : (k c p : ℕ) (bs : List Branch) (q : ℕ) (z : Left) → many (branchIn ns s) c p ≡ value bs q → k + c ≤ n → All FitsIn bs
+  pub branches-left : (k c p : ℕ) (bs : List Branch) (q : ℕ) (z : Left) → many (branchIn ns s) c p ≡ value bs q → k + c ≤ n → All (FitsIn P) bs
       → Leaves ns s (branchLocals (sampleType ports outputs) (valueType ports outputs) a vars k bs) z (branchLocalsT ns s (enc ns) made a spots env outs n last held rows k c p z)
   unfolding branchLocalsT branchLocals All
   branches-left k zero p [] q z e l f = leaves-none ns s z

@@ -28,12 +28,12 @@ use Rattle.machines.specs.Emits.{packName}
 use Rattle.machines.proofs.LocalLaws.{each-append}
 use Rattle.machines.proofs.Reading.{many-cut, many-more, many-over, name-number}
 use Rattle.machines.proofs.SureLaws.{number-num, number-to}
-use Rattle.activations.specs.MadeNames.{Scope, branch, other, sampleVar, scopeAt, valueVar}
-use Rattle.activations.specs.Defines.{eqn, firstLeft}
-use Rattle.activations.specs.Clocks.{onto}
-use Rattle.activations.specs.Unlast.{unlast}
-use Rattle.activations.specs.Samples.{dropIn, overSamples, sampleEquations}
-use Rattle.activations.specs.Scopes.{branchEquations, rewritten, scopeEquations, scopeReads}
+use Rattle.activation_rules.specs.MadeNames.{Scope, branch, other, sampleVar, scopeAt, valueVar}
+use Rattle.activation_rules.specs.Defines.{eqn, firstLeft}
+use Rattle.activation_rules.specs.Clocks.{onto}
+use Rattle.activation_rules.specs.Unlast.{unlast}
+use Rattle.activation_rules.specs.Samples.{dropIn, overSamples, sampleEquations}
+use Rattle.activation_rules.specs.Scopes.{branchEquations, rewritten, scopeEquations, scopeReads}
 use Rattle.activations.specs.Lookups.{MadeIs}
 use Rattle.activations.specs.Places.{equationEnd, firstLeftIn}
 use Rattle.activations.specs.Walks.{LastIs}
@@ -135,6 +135,13 @@ pub scope-else : (n : ℕ) → scopeAt n n ≡ other
 unfolding scopeAt
 scope-else n = ap (λ (b : Bool). cond b (branch n) other) (le-ltb n n (omega arith))
 
+-- an equation with a left name, whose calls of `last` ask for variables that have rows; a branch of such
+abbrev pub Fits : (Name → Type 0) → Equation → Type 0
+Fits P e = (0 < length (e .lhs)) × Asked P (e .rhs)
+
+abbrev pub FitsIn : (Name → Type 0) → Branch → Type 0
+FitsIn P b = All (Fits P) (b .equations)
+
 -- a pack that was read; an activation's name, its n branches; the holders' rows, the types of variables and outputs; the variables
 -- that are known; what holds of the variables that have rows
 module _ (ns : List Name) (fresh : Fresh [] ns) (legal : All LegalName ns) (few : length ns + length ns ≤ 65536) (s : List ℕ) (by : Bytes s) (short : length s ≤ 65536) (last : ℕ) (L : LastIs ns last)
@@ -144,10 +151,6 @@ module _ (ns : List Name) (fresh : Fresh [] ns) (legal : All LegalName ns) (few 
     (old-told : (x : ℕ) → x < length ns → Tells ns fresh few s by short last L a held rows env outs vars P x)
     (held-told : (v : ℕ) → v < length ns → P (nameAt ns v) → Tells ns fresh few s by short last L a held rows env outs vars P (holderId ns a v))
     (none-told : typedT env outs (length ns) 65536 ≡ 0) where
-  -- an equation with a left name, whose calls of `last` ask for variables that have rows
-  abbrev pub Fit : Equation → Type 0
-  Fit e = (0 < length (e .lhs)) × Asked P (e .rhs)
-
   few-names : length ns < 65536
   few-names = omega arith
 
@@ -189,7 +192,7 @@ module _ (ns : List Name) (fresh : Fresh [] ns) (legal : All LegalName ns) (few 
         ∙ ap (λ (is : List Item). render (enc ns) is z) (sym (equation-parts (valueVar a (scopeAt n k) (firstLeft x)) e))
 
     -- an equation: its new samples, then its value
-    equation-known : (p : ℕ) (x : Equation) (q : ℕ) (ids seen : List ℕ) (z : State) → EquationRead ns s p x q → Fit x → All (IsId ns a) ids
+    equation-known : (p : ℕ) (x : Equation) (q : ℕ) (ids seen : List ℕ) (z : State) → EquationRead ns s p x q → Fits P x → All (IsId ns a) ids
         → equationT (enc ns) s spots (length ns) made ns last held rows a n k ids seen p z
         ≡ render (enc ns) (equationItems (eqn (valueVar a (scopeAt n k) (firstLeft (x .lhs))) (overSamples a n (scopeAt n k) (namesOf ns a ids) (unlast a (x .rhs))))) (render (enc ns) (each equationItems (sampleEquations a n (scopeAt n k) (namesOf ns a (freshIn seen ids)))) z)
     unfolding equationT
@@ -211,7 +214,7 @@ module _ (ns : List Name) (fresh : Fresh [] ns) (legal : All LegalName ns) (few 
         ∙ render-append (enc ns) (each equationItems (sampleEquations a n (scopeAt n k) new)) (each equationItems (rest new)) z
         ∙ render-append (enc ns) (equationItems (eqn (valueVar a (scopeAt n k) (firstLeft (e .lhs))) (rewritten a n vars (scopeAt n k) e))) (each equationItems (scopeEquations a n vars (scopeAt n k) (old ++ new) es)) (render (enc ns) (each equationItems (sampleEquations a n (scopeAt n k) new)) z)
 
-    reads-at : (p : ℕ) (x : Equation) (q : ℕ) → EquationRead ns s p x q → Fit x
+    reads-at : (p : ℕ) (x : Equation) (q : ℕ) → EquationRead ns s p x q → Fits P x
         → (ids : List ℕ) × (readsAt (enc ns) s spots (length ns) made ns last held rows env outs a n p ≡ ids) × All (IsId ns a) ids × (namesOf ns a ids ≡ scopeReads a vars x) × (p + 3 * length ids ≤ q) × Once ids
     unfolding readsAt scopeReads
     reads-at p x q r f =
@@ -231,7 +234,7 @@ module _ (ns : List Name) (fresh : Fresh [] ns) (legal : All LegalName ns) (few 
     unfolding rewritten
     same-rest x xs old new now ids z g h = λ j. render (enc ns) (each equationItems (scopeEquations a n vars (scopeAt n k) (g j) xs)) (render (enc ns) (equationItems (eqn (valueVar a (scopeAt n k) (firstLeft (x .lhs))) (overSamples a n (scopeAt n k) (h j) (unlast a (x .rhs))))) (render (enc ns) (each equationItems (sampleEquations a n (scopeAt n k) new)) z))
 
-    equations-known : (c p : ℕ) (es : List Equation) (q : ℕ) (seen : List ℕ) (z : State) → many (equationIn ns s) c p ≡ value es q → All Fit es → All (IsId ns a) seen → 3 * length seen ≤ p
+    equations-known : (c p : ℕ) (es : List Equation) (q : ℕ) (seen : List ℕ) (z : State) → many (equationIn ns s) c p ≡ value es q → All (Fits P) es → All (IsId ns a) seen → 3 * length seen ≤ p
         → equationsT (enc ns) s spots (length ns) made ns last held rows env outs a n k c p seen z ≡ render (enc ns) (each equationItems (scopeEquations a n vars (scopeAt n k) (namesOf ns a seen) es)) z
     unfolding equationsT All
     equations-known zero p [] q seen z e f all l = none-left seen z
@@ -256,18 +259,14 @@ module _ (ns : List Name) (fresh : Fresh [] ns) (legal : All LegalName ns) (few 
         ∙ sym (scope-step (namesOf ns a seen) (namesOf ns a (freshIn seen (d .0))) x xs z g)
 
     -- THE LAW: a scope, whose count of equations stands at an offset
-    pub scope-known : (at : ℕ) (es : List Equation) (q : ℕ) (z : State) → equationsIn ns s at ≡ value es q → All Fit es
+    pub scope-known : (at : ℕ) (es : List Equation) (q : ℕ) (z : State) → equationsIn ns s at ≡ value es q → All (Fits P) es
         → scopeT (enc ns) s spots (length ns) made ns last held rows env outs a n k at z ≡ render (enc ns) (each equationItems (scopeEquations a n vars (scopeAt n k) [] es)) z
     unfolding scopeT equationsIn namesOf All
     scope-known at es q z e f =
         let c = counted-value (equationIn ns s) s at es q e in
         number-to s at (length es) (c .0) _ (c .1) ∙ equations-known (length es) (c .0) es q [] z (c .2) f tt (omega arith)
 
-  -- a branch whose equations fit
-  abbrev pub FitBranch : Branch → Type 0
-  FitBranch b = All Fit (b .equations)
-
-  branches-known : (k c p : ℕ) (bs : List Branch) (q : ℕ) (z : State) → many (branchIn ns s) c p ≡ value bs q → k + c ≤ n → All FitBranch bs
+  branches-known : (k c p : ℕ) (bs : List Branch) (q : ℕ) (z : State) → many (branchIn ns s) c p ≡ value bs q → k + c ≤ n → All (FitsIn P) bs
       → branchesT (enc ns) s spots (length ns) made ns last held rows env outs a n k c p z ≡ render (enc ns) (each equationItems (branchEquations a n vars k bs)) z
   unfolding branchesT branchEquations each render All
   branches-known k zero p [] q z e l f = refl
@@ -283,7 +282,7 @@ module _ (ns : List Name) (fresh : Fresh [] ns) (legal : All LegalName ns) (few 
       ∙ ap (λ (is : List Item). render (enc ns) is z) (sym (each-append equationItems (scopeEquations a n vars (branch k) [] (x .equations)) (branchEquations a n vars (suc k) xs)))
 
   -- THE LAW: all scopes of an activation that was read
-  pub scopes-known : (branches b : ℕ) (bs : List Branch) (to : ℕ) (es : List Equation) (q : ℕ) (z : State) → u16 s branches ≡ value n b → many (branchIn ns s) n b ≡ value bs to → equationsIn ns s to ≡ value es q → All FitBranch bs → All Fit es
+  pub scopes-known : (branches b : ℕ) (bs : List Branch) (to : ℕ) (es : List Equation) (q : ℕ) (z : State) → u16 s branches ≡ value n b → many (branchIn ns s) n b ≡ value bs to → equationsIn ns s to ≡ value es q → All (FitsIn P) bs → All (Fits P) es
       → scopesT (enc ns) s spots (length ns) made ns last held rows env outs a n branches to z ≡ render (enc ns) (each equationItems (branchEquations a n vars 0 bs ++ scopeEquations a n vars other [] es)) z
   unfolding scopesT
   scopes-known branches b bs to es q z c d e f g =

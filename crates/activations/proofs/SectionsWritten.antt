@@ -29,7 +29,7 @@ use Rattle.machines.specs.Shown.{PackOf}
 use Rattle.machines.specs.Sure.{num, numberIn}
 use Rattle.machines.proofs.ListsShown.{copied, counted-parts}
 use Rattle.activations.specs.declared.base.Base.{Base}
-use Rattle.activations.specs.Activations.{madeActivations, withoutActivations}
+use Rattle.activation_rules.specs.Activations.{madeActivations, withoutActivations}
 use Rattle.activations.specs.Joining.{eachAt, fateIn, joined, originIn as originFor, originsOf, ownerOf}
 use Rattle.activations.proofs.Joined.{activations-enums, activations-nodes, activations-origins}
 use Rattle.activations.specs.Basis.{Basis}

@@ -23,8 +23,8 @@ use Rattle.pack.proofs.Tables.{code, code-append}
 use Rattle.machines.specs.Sure.{numberIn}
 use Rattle.machines.proofs.Reading.{many-cut, many-end, many-more, many-over, name-number}
 use Rattle.machines.proofs.SureLaws.{number-to, then-to}
-use Rattle.activations.specs.LastCalls.{CallKind, asVar, badLast, callKind, lastName, lastOf, lastRest, lastShape, plain}
-use Rattle.activations.specs.Sought.{Sought, bodies, conditions, expressions, found, note, rightSides, sought, soughtIn}
+use Rattle.activation_rules.specs.LastCalls.{CallKind, asVar, badLast, callKind, lastName, lastOf, lastRest, lastShape, plain}
+use Rattle.activation_rules.specs.Sought.{Sought, bodies, conditions, expressions, found, note, rightSides, sought, soughtIn}
 use Rattle.activations.specs.Kids.{kids, listOf}
 use Rattle.activations.specs.Met.{metAt, onwardT}
 use Rattle.activations.specs.Places.{actAt, branchEnd, eachOf, equationEnd, rightSideIn}

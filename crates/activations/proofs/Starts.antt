@@ -32,7 +32,7 @@ use Rattle.machines.proofs.SureLaws.{byte-to, end-to, number-num, number-to}
 use Rattle.activations.specs.declared.types.Start.{Start}
 use Rattle.activations.specs.declared.types.Start.the-variants as sr
 use Rattle.activations.specs.Places.{eachOf}
-use Rattle.activations.specs.Defaults.{asVariable, firstName, firstVariant, startOf}
+use Rattle.activation_rules.specs.Defaults.{asVariable, firstName, firstVariant, startOf}
 use Rattle.activations.specs.TypesAt.{Coded, StartIn, enumEnd, firstVariantT, plainStart, startAt, startExpr, startT, variantAt, variantOr, zeroOf}
 use Rattle.activations.proofs.ActRead.{counted-value}
 use Rattle.activations.proofs.TypesKnown.{coded-one, coded-read, lies-type}

@@ -38,7 +38,7 @@ use Rattle.machines.proofs.ShownCounts.{NodeRead, node-value}
 use Rattle.machines.proofs.TablesFilled.{fill-at, fill-length}
 use Rattle.activations.specs.Cells.{clearT, putT}
 use Rattle.activations.specs.Places.{along, eachOf}
-use Rattle.activations.specs.Types.{firstTyped, lastTyped, orBool, typed, valueType, variables}
+use Rattle.activation_rules.specs.Types.{firstTyped, lastTyped, orBool, typed, valueType, variables}
 use Rattle.activations.specs.TypeCodes.{codeOr, outT, readTy, typeAt, typedT, valueTypeT}
 use Rattle.activations.specs.TypesAt.{Coded, TypesAre, firstPortT, firstPortsT, inputsIn, portEnd, portT, portsEnd, portsT, threePortsT, typeBytes, variablesT}
 use Rattle.activations.proofs.ActRead.{counted-value}

@@ -20,7 +20,7 @@ use Rattle.machines.specs.Emits.{packName}
 use Rattle.activations.proofs.met.Met as Met-enum
 use Rattle.activations.specs.declared.met.Met.{Met}
 use Rattle.activations.specs.declared.met.Met.the-variants as mt
-use Rattle.activations.specs.MadeNames.{lastVar}
+use Rattle.activation_rules.specs.MadeNames.{lastVar}
 use Rattle.activations.specs.Met.{metAt, onwardT, openT}
 use Rattle.activations.specs.Walks.{leftT, walkT, walked}
 use Rattle.activations.specs.UnlastAt.{copyItems, metItems, metStep, unlastT}

@@ -21,9 +21,9 @@ use Rattle.machines.specs.Laid.{sliceOf}
 use Rattle.machines.specs.Emits.{packName}
 use Rattle.activations.specs.declared.met.Met.{Met}
 use Rattle.activations.specs.declared.met.Met.the-variants as mt
-use Rattle.activations.specs.LastCalls.{CallKind, badLast, callKind, lastOf, plain}
-use Rattle.activations.specs.MadeNames.{lastVar}
-use Rattle.activations.specs.Unlast.{unlast, unlasts}
+use Rattle.activation_rules.specs.LastCalls.{CallKind, badLast, callKind, lastOf, plain}
+use Rattle.activation_rules.specs.MadeNames.{lastVar}
+use Rattle.activation_rules.specs.Unlast.{unlast, unlasts}
 use Rattle.activations.specs.Kids.{headItems, kids, listOf}
 use Rattle.activations.specs.Met.{metAt, onwardT}
 use Rattle.activations.specs.Walks.{LastIs, through}

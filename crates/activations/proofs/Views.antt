@@ -22,7 +22,7 @@ use Rattle.pack.specs.Write.{countOf}
 use Rattle.pack.proofs.HeadFormats.{OkHead, encHead, formatHead}
 use Rattle.machines.proofs.Reading.{many-end, many-more}
 use Rattle.machines.proofs.SureLaws.{end-to, no}
-use Rattle.activations.specs.LastCalls.{asVar, badLast, callKind, lastName, lastOf, lastRest, lastShape, plain}
+use Rattle.activation_rules.specs.LastCalls.{asVar, badLast, callKind, lastName, lastOf, lastRest, lastShape, plain}
 use Rattle.activations.specs.Kids.{kids, listOf}
 use Rattle.activations.specs.Met.{callT, firstT, lastRestT, lastShapeT, metAt, metNode, onNode, onVar, onwardT, openT}
 use Rattle.activations.specs.Walks.{InitAt, LastIs}

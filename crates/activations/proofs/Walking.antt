@@ -13,9 +13,10 @@ use Rattle.pack.specs.Syntax.{Expr}
 use Rattle.pack.specs.Read.{exprIn}
 use Rattle.pack.proofs.Tables.{all-append}
 use Rattle.machines.proofs.Reading.{many-cut, many-end, many-more, many-over}
+use Rattle.machines.proofs.PackCounts.{fwd-exprIn}
 use Rattle.activations.specs.Met.{metAt, onwardT}
 use Rattle.activations.specs.Walks.{LastIs, through, walkT, walked}
-use Rattle.activations.proofs.NodesRead.{expr-moves, fwd-expr, many-both, many-joined, many-none, many-room}
+use Rattle.activations.proofs.NodesRead.{expr-moves, many-both, many-joined, many-none, many-room}
 use Rattle.activations.proofs.Views.{View, toCome, viewed}
 
 pub through-append : {S : Type 0} (T : Expr → S → S) (es us : List Expr) (z : S) → through T (es ++ us) z ≡ through T us (through T es z)
@@ -52,7 +53,7 @@ module _ (ns : List Name) (s : List ℕ) (few : length ns < 65536) (by : Bytes s
           let b = expr-moves ns s p x (a .0) (a .1) in
           let c = many-room ns s (length (toCome m x)) (onwardT m) (toCome m x) (a .0) (v .to) in
           let d = many-room ns s n (a .0) xs q (a .2) in
-          let g = fwd-many (length s) (exprIn ns s) (fwd-expr ns s) n (a .0) xs q (a .2) .inside (b .1) in
+          let g = fwd-many (length s) (exprIn ns s) (fwd-exprIn ns s) n (a .0) xs q (a .2) .inside (b .1) in
           let u = b .0 in
           let l = b .1 in
           let o = follows p x (a .0) m z y (a .1) refl (v .view) (k .0) r in

@@ -1,7 +1,7 @@
 -- What holds of every variable that the calls of `last` in an expression ask for.
 use Rattle.pack.specs.Names.{Name}
 use Rattle.pack.specs.Syntax.{Expr, Exprs, eArray, eArrow, eBinary, eCall, eCast, eConst, eField, eIf, eIndex, eIterate, eMerge, ePre, eStruct, eTuple, eUnary, eVar, eWhen, xCons, xNil}
-use Rattle.activations.specs.LastCalls.{CallKind, badLast, callKind, lastOf, plain}
+use Rattle.activation_rules.specs.LastCalls.{CallKind, badLast, callKind, lastOf, plain}
 
 -- of a call: the variable where it is replaced, else what holds of its arguments
 unfoldable pub ofCall : (Name → Type 0) → Type 0 → CallKind → Type 0

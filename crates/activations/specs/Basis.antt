@@ -13,7 +13,7 @@ use Rattle.activations.specs.declared.base.Base.{Base}
 use Rattle.activations.specs.declared.parts.Act.{Act}
 use Rattle.activations.specs.Lookups.{MadeIs}
 use Rattle.activations.specs.Places.{actAt}
-use Rattle.activations.specs.Types.{lastTyped, variables}
+use Rattle.activation_rules.specs.Types.{lastTyped, variables}
 use Rattle.activations.specs.Walks.{LastIs}
 use Rattle.activations.specs.TypesAt.{TypesAre}
 

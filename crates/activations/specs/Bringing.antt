@@ -14,7 +14,7 @@ use Rattle.pack.specs.Write.{Item, equationItems, kindByte, list, nm, portItems
 use Rattle.pack.specs.Intern.{render}
 use Rattle.machines.specs.Brought.{totalT}
 use Rattle.machines.specs.Sections.{nodeNames}
-use Rattle.activations.specs.Lower.{Lowered, lowered, make, refuse}
+use Rattle.activation_rules.specs.Lower.{Lowered, lowered, make, refuse}
 use Rattle.activations.specs.Joining.{added, joined, joins, refusalsOf}
 use Rattle.activations.specs.CountsAt.{bringsEquationsT, bringsLocalsT}
 use Rattle.activations.specs.Basis.{Types}

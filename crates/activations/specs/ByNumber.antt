@@ -9,10 +9,10 @@ use Rattle.pack.specs.Read.{portIn}
 use Rattle.machines.specs.Stands.{endOf}
 use Rattle.machines.specs.Sure.{numberIn, with}
 use Rattle.machines.specs.Emits.{packName}
-use Rattle.activations.specs.MadeNames.{Scope, branch, clockVar, flagVar, other, scopeAt, valueVar}
-use Rattle.activations.specs.Defines.{eqn}
-use Rattle.activations.specs.Clocks.{under}
-use Rattle.activations.specs.Merges.{mergeFrom}
+use Rattle.activation_rules.specs.MadeNames.{Scope, branch, clockVar, flagVar, other, scopeAt, valueVar}
+use Rattle.activation_rules.specs.Defines.{eqn}
+use Rattle.activation_rules.specs.Clocks.{under}
+use Rattle.activation_rules.specs.Merges.{mergeFrom}
 
 -- a `when` on the clock of branch k, up to its argument
 unfoldable pub whenItems : Name → ℕ → ℕ → List Item

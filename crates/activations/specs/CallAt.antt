@@ -6,7 +6,7 @@ use Rattle.pack.specs.Legal.{place}
 use Rattle.pack.specs.Intern.{table}
 use Rattle.pack.specs.declared.record.Pack.{Pack}
 use Rattle.activations.specs.declared.base.Base.{Base}
-use Rattle.activations.specs.LastCalls.{lastName}
+use Rattle.activation_rules.specs.LastCalls.{lastName}
 use Rattle.activations.specs.Lookups.{someMadeT}
 
 -- what is known of the pack as a whole

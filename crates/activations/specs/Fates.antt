@@ -11,8 +11,8 @@ use Rattle.pack.specs.Syntax.{Activation, Enum, Node}
 use Rattle.pack.specs.Read.{activationIn, nodeIn}
 use Rattle.machines.specs.Sections.{nodeNames}
 use Rattle.activations.specs.declared.refused.Refused.{Refused}
-use Rattle.activations.specs.Refusals.{unknownOwner}
-use Rattle.activations.specs.Lower.{Lowered, make, refuse}
+use Rattle.activation_rules.specs.Refusals.{unknownOwner}
+use Rattle.activation_rules.specs.Lower.{Lowered, make, refuse}
 use Rattle.activations.specs.ChecksAt.{refusalBy}
 use Rattle.activations.specs.ActTable.{goalT, madeT, refusalT, spotT}
 use Rattle.activations.specs.Joining.{fateIn, ownerOf}

@@ -10,7 +10,7 @@ use Rattle.pack.specs.Syntax.{Expr, eVar}
 use Rattle.pack.specs.Write.{Item, exprItems, list, nameItems, raw}
 use Rattle.pack.specs.Intern.{render}
 use Rattle.machines.specs.Sure.{numberIn, with}
-use Rattle.activations.specs.MadeNames.{flagVar, noneVar}
+use Rattle.activation_rules.specs.MadeNames.{flagVar, noneVar}
 use Rattle.activations.specs.Places.{branchEnd}
 use Rattle.activations.specs.Passes.{passT}
 use Rattle.activations.specs.UnlastAt.{unlastT}

@@ -7,11 +7,11 @@ use Rattle.pack.specs.Names.{Name}
 use Rattle.pack.specs.Report.{Refusal}
 use Rattle.pack.specs.Syntax.{Equation, Port}
 use Rattle.pack.specs.Forms.{nameAt}
-use Rattle.activations.specs.Refusals.{lastNeedsInit, lastUnknown}
-use Rattle.activations.specs.MadeNames.{lastVar}
-use Rattle.activations.specs.Types.{lastTyped}
-use Rattle.activations.specs.Sought.{Sought}
-use Rattle.activations.specs.Holders.{Holding, held, unheld}
+use Rattle.activation_rules.specs.Refusals.{lastNeedsInit, lastUnknown}
+use Rattle.activation_rules.specs.MadeNames.{lastVar}
+use Rattle.activation_rules.specs.Types.{lastTyped}
+use Rattle.activation_rules.specs.Sought.{Sought}
+use Rattle.activation_rules.specs.Holders.{Holding, held, unheld}
 use Rattle.activations.specs.Ids.{holderId}
 use Rattle.activations.specs.TypesAt.{Coded, TypesAre}
 use Rattle.activations.specs.SoughtAt.{RowsFrom, wordT}

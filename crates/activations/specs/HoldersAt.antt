@@ -14,7 +14,7 @@ use Rattle.machines.specs.Emits.{packName}
 use Rattle.activations.specs.declared.base.Base.{Base}
 use Rattle.activations.specs.declared.types.Start.{Start}
 use Rattle.activations.specs.declared.types.Start.the-variants as sr
-use Rattle.activations.specs.MadeNames.{lastVar}
+use Rattle.activation_rules.specs.MadeNames.{lastVar}
 use Rattle.activations.specs.TypesAt.{startT, zeroOf}
 use Rattle.activations.specs.SoughtAt.{wordT}
 

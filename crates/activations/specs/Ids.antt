@@ -9,7 +9,7 @@ use lib.Dec.{ltb}
 use Rattle.pack.specs.Names.{Name}
 use Rattle.pack.specs.Forms.{nameAt}
 use Rattle.pack.specs.Legal.{place}
-use Rattle.activations.specs.MadeNames.{Scope, lastVar, sampleVar}
+use Rattle.activation_rules.specs.MadeNames.{Scope, lastVar, sampleVar}
 
 -- i where it is below the number of names, else another number
 unfoldable pub oldOr : ℕ → ℕ → ℕ → ℕ

@@ -8,11 +8,11 @@ use Rattle.pack.specs.Names.{Name}
 use Rattle.pack.specs.Legal.{place}
 use Rattle.pack.specs.Report.{Refusal}
 use Rattle.pack.specs.Syntax.{Activation, Enum, Node, Origin, ofActivation}
-use Rattle.machines.specs.Machines.{extend, originOf}
+use Rattle.machine_rules.specs.Machines.{extend, originOf}
 use Rattle.machines.specs.Sections.{nodeNames}
-use Rattle.activations.specs.Refusals.{unknownOwner}
-use Rattle.activations.specs.Checks.{branchNames, elseName}
-use Rattle.activations.specs.Lower.{Lowered, lowered, make, refuse}
+use Rattle.activation_rules.specs.Refusals.{unknownOwner}
+use Rattle.activation_rules.specs.Checks.{branchNames, elseName}
+use Rattle.activation_rules.specs.Lower.{Lowered, lowered, make, refuse}
 
 -- a node with what was made of an activation
 unfoldable pub added : Lowered → Node → Node

@@ -11,7 +11,7 @@ use Rattle.pack.specs.Legal.{place}
 use Rattle.pack.specs.Syntax.{Activation, Enum, Node}
 use Rattle.machines.specs.Sections.{nodeNames}
 use Rattle.activations.specs.declared.refused.Refused.{Refused}
-use Rattle.activations.specs.Lower.{lowered}
+use Rattle.activation_rules.specs.Lower.{lowered}
 use Rattle.activations.specs.Joining.{added, joined}
 use Rattle.activations.specs.LocalsAt.{Left}
 use Rattle.activations.specs.ChecksAt.{refusedT}

@@ -14,7 +14,7 @@ use Rattle.activations.specs.declared.made.Var.{Var}
 use Rattle.activations.specs.declared.made.Var.the-variants as vr
 use Rattle.activations.specs.declared.parts.Act.{Act}
 use Rattle.activations.specs.declared.locals.Passed.{Passed}
-use Rattle.activations.specs.MadeNames.{lastVar, scopeAt, valueVar}
+use Rattle.activation_rules.specs.MadeNames.{lastVar, scopeAt, valueVar}
 use Rattle.activations.specs.Vars.{branchVar}
 use Rattle.activations.specs.Cells.{putT}
 use Rattle.activations.specs.Places.{bodyIn, branchEnd, equationEnd, firstLeftIn, rightSideIn}

@@ -10,7 +10,7 @@ use Rattle.pack.specs.Forms.{nameAt}
 use Rattle.pack.specs.Legal.{place}
 use Rattle.machines.specs.Laid.{sliceOf}
 use Rattle.machines.specs.Emits.{packName}
-use Rattle.activations.specs.MadeNames.{actPrefix}
+use Rattle.activation_rules.specs.MadeNames.{actPrefix}
 use Rattle.activations.specs.Places.{anyT}
 
 -- whether a name begins as made ones do

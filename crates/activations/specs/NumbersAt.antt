@@ -10,7 +10,7 @@ use Rattle.pack.specs.Names.{Name}
 use Rattle.pack.specs.Write.{Item, nm, raw}
 use Rattle.pack.specs.Intern.{table}
 use Rattle.machines.specs.Emits.{packName}
-use Rattle.activations.specs.MadeNames.{lastVar, sampleVar, scopeAt}
+use Rattle.activation_rules.specs.MadeNames.{lastVar, sampleVar, scopeAt}
 use Rattle.activations.specs.Lookups.{placeBuilt}
 use Rattle.activations.specs.Ids.{oldOr}
 

@@ -8,7 +8,7 @@ use Rattle.pack.specs.Write.{Item, nm, raw}
 use Rattle.machines.specs.Brought.{nodeEquationsIn, totalT}
 use Rattle.machines.specs.Sure.{numberIn, with}
 use Rattle.activations.specs.declared.parts.Act.{Act}
-use Rattle.activations.specs.Checks.{elseName}
+use Rattle.activation_rules.specs.Checks.{elseName}
 use Rattle.activations.specs.Places.{actAt, branchEnd}
 use Rattle.activations.specs.ActTable.{goalT, spotT}
 use Rattle.activations.specs.CountsAt.{bringsEquationsT, equationCountT}

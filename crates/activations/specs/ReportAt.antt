@@ -9,7 +9,7 @@ use Rattle.machines.specs.Entries.{entryBytes}
 use Rattle.machines.specs.Judging.{named, noName, refusedBy}
 use Rattle.machines.specs.Sure.{numberIn}
 use Rattle.activations.specs.declared.refused.Refused.{Refused}
-use Rattle.activations.specs.Checks.{elseName}
+use Rattle.activation_rules.specs.Checks.{elseName}
 use Rattle.activations.specs.ActTable.{refusalT, spotT}
 
 -- a name by its number, where there are so many names: that number is none, past it is `else`

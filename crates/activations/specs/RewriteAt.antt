@@ -10,7 +10,7 @@ use Rattle.pack.specs.Intern.{render}
 use Rattle.machines.specs.Laid.{sliceOf}
 use Rattle.activations.specs.declared.met.Met.{Met}
 use Rattle.activations.specs.declared.met.Met.the-variants as mt
-use Rattle.activations.specs.MadeNames.{scopeAt}
+use Rattle.activation_rules.specs.MadeNames.{scopeAt}
 use Rattle.activations.specs.Met.{isConst}
 use Rattle.activations.specs.Walks.{orStep, walked, writeStep}
 use Rattle.activations.specs.ByNumber.{ontoItems}

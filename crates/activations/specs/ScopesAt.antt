@@ -10,7 +10,7 @@ use Rattle.pack.specs.Intern.{render}
 use Rattle.machines.specs.Sure.{numberIn, with}
 use Rattle.machines.specs.Marks.{among}
 use Rattle.machines.specs.Emits.{packName}
-use Rattle.activations.specs.MadeNames.{scopeAt, valueVar}
+use Rattle.activation_rules.specs.MadeNames.{scopeAt, valueVar}
 use Rattle.activations.specs.ByNumber.{ontoItems}
 use Rattle.activations.specs.Places.{bodyIn, branchEnd, equationEnd, firstLeftIn, rightSideIn}
 use Rattle.activations.specs.NumbersAt.{idItems, sampleNameT}

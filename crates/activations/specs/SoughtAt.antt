@@ -16,7 +16,7 @@ use Rattle.activations.specs.declared.met.Met.the-variants as mt
 use Rattle.activations.specs.declared.parts.Act.{Act}
 use Rattle.activations.specs.Cells.{putT}
 use Rattle.activations.specs.Places.{bodyIn, branchEnd, eachOf, equationEnd, rightSideIn}
-use Rattle.activations.specs.Sought.{Sought}
+use Rattle.activation_rules.specs.Sought.{Sought}
 use Rattle.activations.specs.Walks.{InitAt, walked}
 
 -- the table, and how many rows it has

@@ -9,7 +9,7 @@ use Rattle.machines.specs.Laid.{sliceOf}
 use Rattle.machines.specs.Emits.{packName}
 use Rattle.activations.specs.declared.met.Met.{Met}
 use Rattle.activations.specs.declared.met.Met.the-variants as mt
-use Rattle.activations.specs.MadeNames.{lastVar}
+use Rattle.activation_rules.specs.MadeNames.{lastVar}
 use Rattle.activations.specs.Walks.{walked}
 
 -- the bytes from p up to q

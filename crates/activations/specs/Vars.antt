@@ -3,7 +3,7 @@ use Prim.Native.Nat.{ℕ}
 use Rattle.pack.specs.Names.{Name}
 use Rattle.activations.specs.declared.made.Var.{Var}
 use Rattle.activations.specs.declared.made.Var.the-variants as vr
-use Rattle.activations.specs.MadeNames.{clockVar, flagVar, noneVar}
+use Rattle.activation_rules.specs.MadeNames.{clockVar, flagVar, noneVar}
 
 -- the name of a branch's flag, of the flag that none up to it is taken, and of its clock
 unfoldable pub branchVar : Var → Name → ℕ → Name

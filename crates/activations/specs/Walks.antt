@@ -15,7 +15,7 @@ use Rattle.pack.specs.Syntax.{Expr}
 use Rattle.pack.specs.Write.{Item}
 use Rattle.pack.specs.Intern.{render}
 use Rattle.activations.specs.declared.met.Met.{Met}
-use Rattle.activations.specs.LastCalls.{lastName}
+use Rattle.activation_rules.specs.LastCalls.{lastName}
 use Rattle.activations.specs.Met.{metAt, onwardT, openT}
 
 module _ (ns : List Name) (s : List ℕ) (last : ℕ) where

@@ -20,7 +20,7 @@ ghost use Rattle.pack.specs.Syntax.{Activation, Enum, Node};
 ghost use Rattle.pack.specs.Write.{each, equationItems, portItems};
 ghost use Rattle.pack.specs.Intern.{render};
 ghost use Rattle.machines.specs.Sections.{nodeNames};
-ghost use Rattle.activations.specs.Lower.{lowered};
+ghost use Rattle.activation_rules.specs.Lower.{lowered};
 ghost use Rattle.activations.specs.Places.{actAt};
 ghost use Rattle.activations.specs.ActTable.{goalT, spotT};
 ghost use Rattle.activations.specs.Basis.{Basis, ReadAt, Scratch, Types};

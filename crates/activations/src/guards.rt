@@ -13,8 +13,8 @@ ghost use Rattle.wire.specs.Writer.{stateOf};
 ghost use Rattle.pack.specs.Syntax.{Expr};
 ghost use Rattle.pack.specs.Write.{each, equationItems};
 ghost use Rattle.pack.specs.Intern.{render};
-ghost use Rattle.activations.specs.Clocks.{guardEquations};
-ghost use Rattle.activations.specs.Lower.{tailOf};
+ghost use Rattle.activation_rules.specs.Clocks.{guardEquations};
+ghost use Rattle.activation_rules.specs.Lower.{tailOf};
 ghost use Rattle.activations.specs.ByNumber.{guardOf};
 
 // The guard of the branch k.

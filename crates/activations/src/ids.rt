@@ -7,7 +7,7 @@ use wire::writer::Writer;
 ghost use mathlib.Core.Path.{_≡_};
 ghost use Prim.Native.Nat.{_+_, _≤_};
 ghost use Rattle.activations.specs.Ids.{oldOr};
-ghost use Rattle.activations.specs.MadeNames.{lastVar};
+ghost use Rattle.activation_rules.specs.MadeNames.{lastVar};
 ghost use Rattle.activations.specs.HoldAt.{holderNumber, holderT};
 
 // x where it is an old name's index, else v more than the number of names.

@@ -4,8 +4,8 @@ use machines::call::lower_state_machines_word;
 ghost use mathlib.Core.Path.{_≡_};
 ghost use lib.ListN.{length};
 ghost use Rattle.pack.specs.Outcome.{check, outputOf, reportOf, returned};
-ghost use Rattle.machines.specs.Call.{lowerMachines};
-ghost use Rattle.activations.specs.Call.{lowerActivations};
+ghost use Rattle.machine_rules.specs.Call.{lowerMachines};
+ghost use Rattle.activation_rules.specs.Call.{lowerActivations};
 
 // Checks a pack.
 #[no_mangle]

@@ -9,7 +9,7 @@ ghost use Prim.Native.Nat.{ℕ, suc, _<_, _^_};
 ghost use Rattle.wire.specs.Decimal.{decimal};
 ghost use Rattle.wire.specs.Writer.{stateOf, puts};
 ghost use Rattle.pack.specs.Intern.{putName};
-ghost use Rattle.activations.specs.MadeNames.{actPrefix, lastVar, sampleVar, scopeAt, tag, valueVar};
+ghost use Rattle.activation_rules.specs.MadeNames.{actPrefix, lastVar, sampleVar, scopeAt, tag, valueVar};
 ghost use Rattle.activations.specs.Vars.{branchVar};
 
 // A variable made for a branch.

@@ -18,8 +18,8 @@ ghost use Rattle.pack.specs.Names.{Name};
 ghost use Rattle.pack.specs.Syntax.{Expr, eVar};
 ghost use Rattle.pack.specs.Write.{exprItems};
 ghost use Rattle.pack.specs.Intern.{render};
-ghost use Rattle.activations.specs.MadeNames.{scopeAt, valueVar};
-ghost use Rattle.activations.specs.Merges.{mergeFrom};
+ghost use Rattle.activation_rules.specs.MadeNames.{scopeAt, valueVar};
+ghost use Rattle.activation_rules.specs.Merges.{mergeFrom};
 ghost use Rattle.activations.specs.ByNumber.{mergeItems, portMergesT, turnItems};
 
 // What the scope k of n branches gives o, as an expression.

@@ -17,7 +17,7 @@ ghost use Rattle.pack.specs.Syntax.{Package};
 ghost use Rattle.pack.specs.Verdict.{Stands};
 ghost use Rattle.pack.specs.Write.{packageItems};
 ghost use Rattle.pack.specs.Intern.{render};
-ghost use Rattle.activations.specs.Activations.{madeActivations, withoutActivations};
+ghost use Rattle.activation_rules.specs.Activations.{madeActivations, withoutActivations};
 ghost use Rattle.activations.specs.Basis.{Basis, Scratch};
 ghost use Rattle.activations.specs.Bringing.{Settled};
 

@@ -12,7 +12,7 @@ ghost use Rattle.wire.specs.Writer.{stateOf};
 ghost use Rattle.pack.specs.Syntax.{eVar};
 ghost use Rattle.pack.specs.Write.{exprItems, list, nameItems};
 ghost use Rattle.pack.specs.Intern.{render};
-ghost use Rattle.activations.specs.MadeNames.{scopeAt};
+ghost use Rattle.activation_rules.specs.MadeNames.{scopeAt};
 ghost use Rattle.activations.specs.Vars.{branchVar};
 ghost use Rattle.activations.specs.ByNumber.{ontoItems, underItems, whenItems};
 

@@ -14,8 +14,8 @@ use Rattle.pack.specs.Report.{Refusal, reportBytes}
 use Rattle.pack.specs.Write.{encode, packageItems, shorts}
 use Rattle.pack.specs.Outcome.{Outcome, answers, numberOf, onPackage, reported, reports, sized, valueOf, writes, written}
 use Rattle.machines.specs.Filled.{Answers}
-use Rattle.machines.specs.Machines.{madeMachines, withoutMachines}
-use Rattle.machines.specs.Call.{finished, lowerMachines, machinesOf}
+use Rattle.machine_rules.specs.Machines.{madeMachines, withoutMachines}
+use Rattle.machine_rules.specs.Call.{finished, lowerMachines, machinesOf}
 
 -- 0 comes with a value that a buffer of this length has room for
 abbrev Fits : ℕ → Outcome → Type 0

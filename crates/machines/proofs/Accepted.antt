@@ -6,11 +6,12 @@ use mathlib.Core.Path.{_≡_, refl, sym, ap, _∙_}
 use Prim.Native.Nat.{ℕ}
 use native.Mathlib.Omega.{arith}
 use Rattle.pack.specs.Names.{Name, member}
-use Rattle.pack.specs.Syntax.{Machine, Port, Regions, States, rCons, rNil, sCons, sNil}
+use Rattle.pack.specs.Syntax.{Port}
+use Rattle.machine_rules.specs.Resolved.{Machine, Regions, States, rCons, rNil, sCons, sNil}
 use Rattle.pack.specs.Report.{Refusal, asRefusal, firstOf}
-use Rattle.machines.specs.Refusals.{unassigned}
-use Rattle.machines.specs.Lower.{coversS, namesOf}
-use Rattle.machines.specs.Checks.{badInitial, badR, badS, badTarget, emptyTop, refusalOf, uncovered, uncoveredS}
+use Rattle.machine_rules.specs.Refusals.{unassigned}
+use Rattle.machine_rules.specs.Lower.{coversS, namesOf}
+use Rattle.machine_rules.specs.Checks.{badInitial, badR, badS, badTarget, emptyTop, refusalOf, uncovered, uncoveredS}
 use Rattle.machines.specs.Values.{Peopled, WholeR, WholeS}
 use Rattle.machines.proofs.Covered.{isNone, none-states}
 

@@ -11,15 +11,16 @@ use borrow.Author.Tests.{eq-eqb, ne-eqb}
 use Rattle.wire.specs.Answer.{many, value}
 use Rattle.pack.specs.Limits.{absent, maxLevel, maxName}
 use Rattle.pack.specs.Names.{Name, member}
-use Rattle.pack.specs.Syntax.{Drawing, Regions, rCons, sCons}
+use Rattle.pack.specs.Syntax.{Drawing}
+use Rattle.machine_rules.specs.Resolved.{Regions, rCons, sCons}
 use Rattle.pack.specs.Forms.{nameAt}
 use Rattle.pack.specs.Legal.{Fresh}
 use Rattle.pack.specs.Read.{OneRegion, OneState, drawnOf, optionalIn, regionAt, regionsOf, stateWith}
 use Rattle.machines.specs.declared.path.Path.{Path}
 use Rattle.machines.specs.declared.walk.Walked.{Walked}
 use Rattle.machines.specs.declared.walk.Walked.the-variants as wk
-use Rattle.machines.specs.Refusals.{refineCycle, tooLarge, unknownRefine}
-use Rattle.machines.specs.Resolve.{Target, Walk, deeper, machineOf, refineAt, refineWith, resolveR, resolveS, shortR, shortS, stop, walkOn, withRefine, withTarget}
+use Rattle.machine_rules.specs.Refusals.{refineCycle, tooLarge, unknownRefine}
+use Rattle.machine_rules.specs.Resolve.{Target, Walk, deeper, machineOf, refineAt, refineWith, resolveR, resolveS, shortR, shortS, stop, walkOn, withRefine, withTarget}
 use Rattle.machines.specs.Sure.{machineFrom, numberIn, regionIn, with}
 use Rattle.machines.specs.Tables.{lenOf}
 use Rattle.machines.specs.Paths.{pushedOf}

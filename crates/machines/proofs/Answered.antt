@@ -22,7 +22,7 @@ use Rattle.pack.proofs.Finished.{carried}
 use Rattle.machines.specs.declared.sure.Num.{Num}
 use Rattle.machines.specs.Laid.{sliceOf}
 use Rattle.machines.specs.Sure.{numberIn}
-use Rattle.machines.specs.Machines.{madeMachines, withoutMachines}
+use Rattle.machine_rules.specs.Machines.{madeMachines, withoutMachines}
 use Rattle.machines.specs.Brought.{smallOf, totalT}
 use Rattle.machines.specs.Relaid.{AllWrite, Long, enumsAt, equationsAt}
 use Rattle.machines.specs.Parts.{sectionsT}
@@ -30,7 +30,7 @@ use Rattle.machines.specs.Settling.{refusedT}
 use Rattle.machines.specs.Reporting.{EntersAll, bytesT, ofRefused}
 use Rattle.machines.specs.Verdicts.{SettledPack, entryAt, verdictsOf}
 use Rattle.machines.specs.Filled.{Answers, Empty, Filled, Reports, machineCount}
-use Rattle.machines.specs.Call.{finished, machinesOf}
+use Rattle.machine_rules.specs.Call.{finished, machinesOf}
 use Rattle.machines.proofs.Walked.{Ready}
 use Rattle.machines.proofs.PackSettled.{pack-refused}
 use Rattle.machines.proofs.TablesKnown.{machines-here, tables-ready, tables-settled}

@@ -21,7 +21,7 @@ use Rattle.machines.specs.declared.sure.Num.{Num}
 use Rattle.machines.specs.Stands.{endOf}
 use Rattle.machines.specs.Sure.{byteIn, numberIn}
 use Rattle.machines.specs.Laid.{sliceOf}
-use Rattle.machines.specs.Lower.{regionLocals}
+use Rattle.machine_rules.specs.Lower.{regionLocals}
 use Rattle.machines.specs.Locals.{innerLocals}
 use Rattle.machines.specs.Emits.{packName}
 use Rattle.machines.specs.Brought.{bringsEquationsT, broughtLocalsT, equationCountT, firstT, localsIn, localsT, nodeEquationsIn, nodeLocalsIn, oldT, originT, ownOriginT, smallOf, totalT}

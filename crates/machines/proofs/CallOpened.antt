@@ -17,7 +17,7 @@ use Rattle.pack.proofs.RoundTrip.{read-value}
 use Rattle.machines.specs.Ends.{EndsRight}
 use Rattle.machines.specs.Relaid.{Long}
 use Rattle.machines.specs.Filled.{Answers, Empty, OpenedAs}
-use Rattle.machines.specs.Call.{lowerMachines, machinesOf}
+use Rattle.machine_rules.specs.Call.{lowerMachines, machinesOf}
 use Rattle.machines.proofs.Answered.{answers-as}
 
 -- the tables that a call starts with are long enough, and where machines are sought nothing stands

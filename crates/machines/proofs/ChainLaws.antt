@@ -15,12 +15,12 @@ use Rattle.pack.specs.Intern.{putItem, putName, render}
 use Rattle.pack.proofs.Interns.{render-append}
 use Rattle.machines.specs.declared.made.Var.the-variants as vr
 use Rattle.machines.specs.declared.sure.Num.{Num}
-use Rattle.machines.specs.MadeNames.{stateVar}
+use Rattle.machine_rules.specs.MadeNames.{stateVar}
 use Rattle.machines.specs.Vars.{varName}
 use Rattle.machines.specs.Stands.{endOf}
 use Rattle.machines.specs.Sure.{numberIn, with}
 use Rattle.machines.specs.Laid.{sliceOf}
-use Rattle.machines.specs.Lower.{isName}
+use Rattle.machine_rules.specs.Lower.{isName}
 use Rattle.machines.specs.Emits.{chainT, inRegion, lastOr, lettersAt, moveT, movesT, testT, transitionsT}
 use Rattle.machines.proofs.SureLaws.{on}
 use Rattle.machines.proofs.RowLaws.{left-same}

@@ -8,18 +8,19 @@ use Rattle.wire.specs.Answer.{counted, many, u16, value}
 use Rattle.wire.specs.Writer.{State, puts}
 use Rattle.wire.proofs.Answers.{bind-value, map-value}
 use Rattle.pack.specs.Names.{Name}
-use Rattle.pack.specs.Syntax.{Equation, Expr, Regions, States, Transition, eVar, sCons, sNil}
+use Rattle.pack.specs.Syntax.{Equation, Expr, Transition, eVar}
+use Rattle.machine_rules.specs.Resolved.{Regions, States, sCons, sNil}
 use Rattle.pack.specs.Forms.{nameAt}
 use Rattle.pack.specs.Read.{exprIn, nameIn, transitionIn}
 use Rattle.pack.specs.Write.{Item, exprItems, raw}
 use Rattle.pack.specs.Intern.{putItem, putName, render}
 use Rattle.pack.proofs.Interns.{render-append}
-use Rattle.machines.specs.MadeNames.{stateVar}
-use Rattle.machines.specs.Resolve.{prefixTransitions}
+use Rattle.machine_rules.specs.MadeNames.{stateVar}
+use Rattle.machine_rules.specs.Resolve.{prefixTransitions}
 use Rattle.machines.specs.Stands.{StateAt, endOf}
 use Rattle.machines.specs.Sure.{numberIn, with}
 use Rattle.machines.specs.Laid.{HeldS, StateRow, hEnd, hMore, prefixOf, sliceOf}
-use Rattle.machines.specs.Lower.{isName, nextChain, orElse, transitionsOf}
+use Rattle.machine_rules.specs.Lower.{isName, nextChain, orElse, transitionsOf}
 use Rattle.machines.specs.Emits.{chainT, inRegion, lastOr, lettersAt, moveT, movesT, packName, testT, transitionsT}
 use Rattle.machines.proofs.Reading.{many-cut, many-more, many-over, name-number}
 use Rattle.machines.proofs.SureLaws.{end-to, number-to}

@@ -9,12 +9,13 @@ use lib.Dec.{leb}
 use borrow.Author.Tests.{leb-true}
 use Rattle.pack.specs.Limits.{maxName}
 use Rattle.pack.specs.Names.{Name}
-use Rattle.pack.specs.Syntax.{Equation, Regions, States, Transition, rCons, rNil, sCons, sNil}
+use Rattle.pack.specs.Syntax.{Equation, Transition}
+use Rattle.machine_rules.specs.Resolved.{Regions, States, rCons, rNil, sCons, sNil}
 use Rattle.pack.specs.Write.{enc}
 use Rattle.pack.proofs.Tables.{enc-append}
-use Rattle.machines.specs.Checks.{allNamesR, allNamesS}
+use Rattle.machine_rules.specs.Checks.{allNamesR, allNamesS}
 use Rattle.machines.specs.Counts.{anyS, countR, countS, filledR, filledS}
-use Rattle.machines.specs.Resolve.{shortName, shortR, shortS, shortTargets}
+use Rattle.machine_rules.specs.Resolve.{shortName, shortR, shortS, shortTargets}
 
 -- names that stay short, part by part
 pub record ShortS (s : Name) (rs : Regions) (rest : States) : Type 0 where

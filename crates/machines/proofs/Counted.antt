@@ -10,10 +10,11 @@ use lib.Dec.{ltb}
 use borrow.Author.Tests.{ltb-true}
 use Rattle.pack.specs.Limits.{maxLevel, maxStates}
 use Rattle.pack.specs.Names.{Name}
-use Rattle.pack.specs.Syntax.{Drawing, Drawn, DrawnRegions, Equation, Regions, States, Transition, dCons, dNil, qCons, qNil, rCons, rNil, sCons, sNil}
+use Rattle.pack.specs.Syntax.{Drawing, Drawn, DrawnRegions, Equation, Transition, dCons, dNil, qCons, qNil}
+use Rattle.machine_rules.specs.Resolved.{Regions, States, rCons, rNil, sCons, sNil}
 use Rattle.machines.specs.Counts.{countR, countS}
-use Rattle.machines.specs.Refusals.{tooLarge}
-use Rattle.machines.specs.Resolve.{Target, Walk, arrive, prefixR, prefixS, refineAt, resolveR, resolveS, resolvedStates, shortName, shortS, snoc, stop, went, withRefine, withTarget}
+use Rattle.machine_rules.specs.Refusals.{tooLarge}
+use Rattle.machine_rules.specs.Resolve.{Target, Walk, arrive, prefixR, prefixS, refineAt, resolveR, resolveS, resolvedStates, shortName, shortS, snoc, stop, went, withRefine, withTarget}
 use Rattle.machines.proofs.Standing.{deeper-went, refine-went, target-went, walkOn-went}
 
 -- prefixes do not count, and a refinement adds its states

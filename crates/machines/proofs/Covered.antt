@@ -11,14 +11,15 @@ use borrow.Author.Tests.{eq-eqb, eqb-false, eqb-true, ne-eqb}
 use Rattle.wire.specs.Answer.{counted, many, u16, value}
 use Rattle.wire.proofs.Answers.{bind-value, map-value}
 use Rattle.pack.specs.Names.{Name, eqName}
-use Rattle.pack.specs.Syntax.{Equation, Machine, Regions, States, Transition, rCons, rNil, sCons, sNil}
+use Rattle.pack.specs.Syntax.{Equation, Transition}
+use Rattle.machine_rules.specs.Resolved.{Machine, Regions, States, rCons, rNil, sCons, sNil}
 use Rattle.pack.specs.Forms.{nameAt}
 use Rattle.pack.specs.Legal.{Fresh}
 use Rattle.pack.specs.Report.{firstOf}
 use Rattle.pack.specs.Read.{equationIn, equationsIn, exprIn, nameIn, namesIn}
 use Rattle.machines.specs.declared.cover.Told.{Told}
-use Rattle.machines.specs.Lower.{coversR, coversS, isOnly, isSome, ownValue}
-use Rattle.machines.specs.Checks.{uncoveredR, uncoveredS, unlessCovered, unlessOther}
+use Rattle.machine_rules.specs.Lower.{coversR, coversS, isOnly, isSome, ownValue}
+use Rattle.machine_rules.specs.Checks.{uncoveredR, uncoveredS, unlessCovered, unlessOther}
 use Rattle.machines.specs.Stands.{StateAt, endOf}
 use Rattle.machines.specs.Sure.{numberIn, with}
 use Rattle.machines.specs.Laid.{HeldR, HeldS, RegionRow, StateRow, gEnd, gMore, hEnd, hMore}

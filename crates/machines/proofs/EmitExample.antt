@@ -14,19 +14,20 @@ use Rattle.wire.specs.Writer.{put, puts, st, swapped}
 use Rattle.pack.specs.Limits.{maxName, maxLevel}
 use Rattle.pack.specs.Names.{Name, eqName, member}
 use Rattle.pack.specs.RawNames.{rawName}
-use Rattle.pack.specs.Syntax.{Machine, Regions, Transition, eConst, eVar, lBool, rCons, rNil, sCons, sNil, Equation, tBool}
+use Rattle.pack.specs.Syntax.{Transition, eConst, eVar, lBool, Equation, tBool}
+use Rattle.machine_rules.specs.Resolved.{Machine, Regions, rCons, rNil, sCons, sNil}
 use Rattle.pack.specs.Forms.{exprArity, exprAt, exprFields, exprHead, exprOf, exprOver, exprRows, exprsOf, flagOf, literal, literalOf, nameAt, nth, firstType, plainTypes, typeArity, typeAt, typeFields, typeHead, typeOf, typeOver}
 use Rattle.pack.specs.Read.{equationsIn, exprIn, nameIn, transitionIn, equationIn, nameByte, namesIn, portIn, portsIn, typeIn}
 use Rattle.pack.specs.Write.{binByte, each, enc, enumItems, equationItems, exprItems, flagByte, list, litBytes, lookup, nameItems, unByte}
 use Rattle.pack.specs.Intern.{putAdded, putEntry, putFound, putItem, putName, putNew, render, table, tableF}
 use Rattle.pack.proofs.WrittenBack.{allSmall, small-bytes}
-use Rattle.machines.specs.MadeNames.{activeVar, nextVar, smPrefix, stateVar}
-use Rattle.machines.specs.Resolve.{prefixTransitions}
+use Rattle.machine_rules.specs.MadeNames.{activeVar, nextVar, smPrefix, stateVar}
+use Rattle.machine_rules.specs.Resolve.{prefixTransitions}
 use Rattle.machines.specs.Stands.{StateAt, endOf}
 use Rattle.machines.specs.Sure.{numberIn, sureOf, with}
 use Rattle.machines.specs.Laid.{HeldR, HeldS, RegionRow, StateRow, gEnd, gMore, hEnd, hMore, prefixOf, sliceOf}
 use Rattle.machines.specs.Equations.{activeEquation, stateEquation}
-use Rattle.machines.specs.Lower.{activeIn, enumsOf, equationsR, equationsS, held, isName, justEntered, nextChain, orElse, regionEquations, sizeR, sizeS, stateRhs, topEquations, transitionsOf, coversR, coversS, equationsOf, fromOption, isOnly, isSome, namesOf, outputEquations, ownValue, valueR, valueS}
+use Rattle.machine_rules.specs.Lower.{activeIn, enumsOf, equationsR, equationsS, held, isName, justEntered, nextChain, orElse, regionEquations, sizeR, sizeS, stateRhs, topEquations, transitionsOf, coversR, coversS, equationsOf, fromOption, isOnly, isSome, namesOf, outputEquations, ownValue, valueR, valueS}
 use Rattle.machines.specs.Emits.{activeT, chainT, enumsT, inRegion, lastOr, lettersAt, moveT, movesT, nextRhsT, nextT, packName, regionT, regionsT, stateT, testT, transitionsT}
 use Rattle.machines.proofs.EnumsEmitted.{enums-machine}
 use mathlib.Core.Option.{none, some}
@@ -34,7 +35,7 @@ use lib.ListN.{length, getD}
 use Rattle.wire.specs.Lists.{All, Bytes}
 use Rattle.pack.specs.Legal.{Fresh, LegalName}
 use Rattle.pack.specs.Report.{asRefusal, firstOf}
-use Rattle.machines.specs.Checks.{allNamesS, badInitial, badS, badTarget, emptyTop, refusalOf, repeated, uncovered, uncoveredR, uncoveredS, unlessCovered, unlessOther}
+use Rattle.machine_rules.specs.Checks.{allNamesS, badInitial, badS, badTarget, emptyTop, refusalOf, repeated, uncovered, uncoveredR, uncoveredS, unlessCovered, unlessOther}
 use Rattle.machines.specs.Covers.{allMiss, asked, firstMiss, givesT, missT, missed, orNext, ownT, tells, uncoveredT}
 use Rattle.machines.specs.Values.{enteredT, givingFrom, inStateT, outputT, outputsT, portOutputsT, sideBytes, sideFrom, sideT, valueT, valuesT}
 use Rattle.machines.proofs.NamesPlaced.{SpotAt}

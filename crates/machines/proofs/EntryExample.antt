@@ -7,7 +7,7 @@ use Rattle.pack.specs.Report.{entries}
 use Rattle.pack.specs.Write.{enc}
 use Rattle.machines.specs.declared.refusal.Called.{Called}
 use Rattle.machines.specs.declared.refusal.Judged.{Judged}
-use Rattle.machines.specs.Refusals.{noStates, unassigned, unknownTarget}
+use Rattle.machine_rules.specs.Refusals.{noStates, unassigned, unknownTarget}
 use Rattle.machines.specs.Laid.{prefixOf, sliceOf}
 use Rattle.machines.specs.Emits.{packName}
 use Rattle.machines.specs.Entries.{calledOf, entryBytes, nameBytes, namesBytes, namesOf}

@@ -13,7 +13,7 @@ use Rattle.pack.specs.Names.{Name}
 use Rattle.pack.specs.Write.{Item}
 use Rattle.pack.specs.Intern.{putItem, putName, render}
 use Rattle.pack.proofs.Interns.{render-append}
-use Rattle.machines.specs.MadeNames.{enumName}
+use Rattle.machine_rules.specs.MadeNames.{enumName}
 use Rattle.machines.specs.Emits.{enumT, enumsT, lettersAt, variantsT}
 use Rattle.machines.proofs.RowLaws.{left-same}
 

@@ -11,14 +11,15 @@ use borrow.Author.Tests.{eq-eqb, ne-eqb}
 use Rattle.wire.specs.Answer.{value}
 use Rattle.wire.specs.Writer.{State}
 use Rattle.pack.specs.Names.{Name}
-use Rattle.pack.specs.Syntax.{Equation, Expr, Machine, Regions, States, eIf, eVar, rCons, rNil, sCons, sNil}
+use Rattle.pack.specs.Syntax.{Equation, Expr, eIf, eVar}
+use Rattle.machine_rules.specs.Resolved.{Machine, Regions, States, rCons, rNil, sCons, sNil}
 use Rattle.pack.specs.Forms.{flagOf, nameAt}
 use Rattle.pack.specs.Read.{exprIn}
 use Rattle.pack.specs.Write.{Item, each, equationItems, exprItems, list, nameItems, raw}
 use Rattle.pack.specs.Intern.{render}
-use Rattle.machines.specs.MadeNames.{activeVar, nextVar, stateVar}
+use Rattle.machine_rules.specs.MadeNames.{activeVar, nextVar, stateVar}
 use Rattle.machines.specs.Laid.{HeldR, HeldS, RegionRow, gEnd, gMore, hEnd, hMore, prefixOf, sliceOf}
-use Rattle.machines.specs.Lower.{activeIn, equationsR, equationsS, nextChain, regionEquations, sizeR, sizeS, stateRhs, topEquations}
+use Rattle.machine_rules.specs.Lower.{activeIn, equationsR, equationsS, nextChain, regionEquations, sizeR, sizeS, stateRhs, topEquations}
 use Rattle.machines.specs.Equations.{activeEquation, stateEquation}
 use Rattle.machines.specs.Emits.{activeT, chainT, inRegion, lettersAt, nextRhsT, nextT, packName, regionT, regionsT, stateT}
 use Rattle.machines.proofs.LocalLaws.{each-append}

@@ -9,9 +9,10 @@ use lib.ListN.{length, length-append}
 use Rattle.wire.specs.Lists.{All}
 use Rattle.pack.specs.Names.{Name, eqName}
 use Rattle.pack.specs.Legal.{Known, place}
-use Rattle.pack.specs.Syntax.{Drawing, Enum, Equation, Machine, Node, Origin, Package, Port}
-use Rattle.machines.specs.Lower.{enumsOf, equationsOf, localsOf}
-use Rattle.machines.specs.Machines.{Judged, Made, accept, extend, extendIn, judge, lowerEach, madeMachines, merged, nodeFrom, nodeNamed, placed, refuse, refusing, standalone, start}
+use Rattle.pack.specs.Syntax.{Drawing, Enum, Equation, Node, Origin, Package, Port}
+use Rattle.machine_rules.specs.Resolved.{Machine}
+use Rattle.machine_rules.specs.Lower.{enumsOf, equationsOf, localsOf}
+use Rattle.machine_rules.specs.Machines.{Judged, Made, accept, extend, extendIn, judge, lowerEach, madeMachines, merged, nodeFrom, nodeNamed, placed, refuse, refusing, standalone, start}
 use Rattle.machines.specs.Sections.{Accepted, Fate, Owned, OwnedAll, alone, enumsMade, fateMachine, fateOf, fateThen, fates, fatesOf, into, namesWith, nodeNames, nodesAfter, nodesWith, originFound, originWith, originsAfter}
 
 not-snoc : {A : Type 0} (xs : List A) (x : A) → xs ++ (x ∷ []) ≡ [] → ⊥

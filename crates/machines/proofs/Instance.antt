@@ -11,17 +11,18 @@ use Rattle.wire.specs.Code.{next, onward, readOf, skip, skips}
 use Rattle.wire.specs.Preorder.{trees}
 use Rattle.pack.specs.Limits.{absent, maxLevel, maxName, maxStates}
 use Rattle.pack.specs.Names.{Name, eqName, member}
-use Rattle.pack.specs.Syntax.{Drawing, dCons, dNil, eBinary, eConst, lBool, lChar, oAnd, qNil, rCons, rNil, sCons, sNil, tBool, States}
+use Rattle.pack.specs.Syntax.{Drawing, dCons, dNil, eBinary, eConst, lBool, lChar, oAnd, qNil, tBool}
+use Rattle.machine_rules.specs.Resolved.{rCons, rNil, sCons, sNil, States}
 use Rattle.pack.specs.Forms.{binOps, exprArity, exprAt, exprFields, exprHead, exprOf, exprOver, exprRows, exprsOf, firstType, flagOf, literal, literalOf, nameAt, nth, plainTypes, typeArity, typeAt, typeFields, typeHead, typeOf, typeOver}
 use Rattle.pack.specs.Read.{char, drawnOf, equationIn, equationsIn, exprIn, machineIn, name, nameByte, nameIn, nameSection, namesAfter, namesIn, optional, optionalIn, portIn, portsIn, regionAt, regionsOf, size, stateAt, stateWith, transitionIn, typeIn}
 use Rattle.pack.specs.Report.{asRefusal, firstOf}
 use Rattle.pack.specs.Verdict.{offsetOf}
 use Rattle.pack.proofs.WrittenBack.{allSmall, small-bytes}
 use Rattle.machines.specs.declared.walk.Walked.the-variants as wk
-use Rattle.machines.specs.Resolve.{arrive, asMachine, asTarget, deeper, machineOf, prefixR, prefixS, prefixTransitions, refineAt, refineWith, resolveR, resolveS, resolvedStates, shortName, shortR, shortS, shortTargets, snoc, walkOn, went, withRefine, withTarget}
-use Rattle.machines.specs.Lower.{coversR, coversS, isOnly, isSome, namesOf, ownValue}
-use Rattle.machines.specs.Checks.{allNamesR, allNamesS, badInitial, badR, badS, badTarget, emptyTop, refusalOf, repeated, uncovered, uncoveredR, uncoveredS, unlessCovered, unlessOther}
-use Rattle.machines.specs.Machines.{accept, checked, judge, resolved}
+use Rattle.machine_rules.specs.Resolve.{arrive, asMachine, asTarget, deeper, machineOf, prefixR, prefixS, prefixTransitions, refineAt, refineWith, resolveR, resolveS, resolvedStates, shortName, shortR, shortS, shortTargets, snoc, walkOn, went, withRefine, withTarget}
+use Rattle.machine_rules.specs.Lower.{coversR, coversS, isOnly, isSome, namesOf, ownValue}
+use Rattle.machine_rules.specs.Checks.{allNamesR, allNamesS, badInitial, badR, badS, badTarget, emptyTop, refusalOf, repeated, uncovered, uncoveredR, uncoveredS, unlessCovered, unlessOther}
+use Rattle.machine_rules.specs.Machines.{accept, checked, judge, resolved}
 use Rattle.machines.specs.Judging.{boardAt, judgeAt}
 use Rattle.machines.specs.Verdicts.{AcceptedAs}
 use Rattle.machines.specs.JudgedAs.{JudgedAs}

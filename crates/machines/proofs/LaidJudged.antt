@@ -13,7 +13,8 @@ use Rattle.wire.specs.Answer.{counted, many, u16, value}
 use Rattle.wire.specs.Lists.{All}
 use Rattle.wire.proofs.Answers.{bind-value, map-value}
 use Rattle.pack.specs.Names.{Name}
-use Rattle.pack.specs.Syntax.{Machine, Port, States, rCons, rNil, sCons, sNil}
+use Rattle.pack.specs.Syntax.{Port}
+use Rattle.machine_rules.specs.Resolved.{Machine, States, rCons, rNil, sCons, sNil}
 use Rattle.pack.specs.Forms.{nameAt}
 use Rattle.pack.specs.Legal.{Fresh}
 use Rattle.pack.specs.Read.{nameIn, portIn, portsIn, typeIn}
@@ -23,14 +24,14 @@ use Rattle.pack.proofs.Tables.{enc-append}
 use Rattle.machines.specs.declared.refusal.Judged.{Judged}
 use Rattle.machines.specs.declared.valid.Checked.{Checked}
 use Rattle.machines.specs.declared.valid.Checked.the-variants as ck
-use Rattle.machines.specs.Refusals.{duplicateState, noStates, unassigned, unknownInitial, unknownTarget}
-use Rattle.machines.specs.Resolve.{shortS}
+use Rattle.machine_rules.specs.Refusals.{duplicateState, noStates, unassigned, unknownInitial, unknownTarget}
+use Rattle.machine_rules.specs.Resolve.{shortS}
 use Rattle.machines.specs.Stands.{endOf}
 use Rattle.machines.specs.Sure.{num, numberIn}
 use Rattle.machines.specs.Laid.{HeldR, LaidR, lEnd, lMore, rMore}
 use Rattle.machines.specs.Lays.{Board}
-use Rattle.machines.specs.Lower.{namesOf, sizeS}
-use Rattle.machines.specs.Checks.{allNamesS, badInitial, badS, emptyTop, refusalOf, repeated, uncovered, uncoveredS}
+use Rattle.machine_rules.specs.Lower.{namesOf, sizeS}
+use Rattle.machine_rules.specs.Checks.{allNamesS, badInitial, badS, emptyTop, refusalOf, repeated, uncovered, uncoveredS}
 use Rattle.machines.specs.Covers.{missed, uncoveredT}
 use Rattle.machines.specs.Emits.{lettersAt}
 use Rattle.machines.specs.Repeats.{againAt}

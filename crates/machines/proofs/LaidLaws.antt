@@ -5,9 +5,9 @@ use mathlib.Core.List.{List}
 use mathlib.Core.Bool.{Bool, false}
 use mathlib.Core.Path.{_≡_, _∙_}
 use Rattle.pack.specs.Names.{Name}
-use Rattle.pack.specs.Syntax.{Regions, States}
+use Rattle.machine_rules.specs.Resolved.{Regions, States}
 use Rattle.machines.specs.Laid.{HeldR, HeldS, LaidR, LaidS, gEnd, gMore, hEnd, hMore, holed, lEnd, lMore, rEnd, rLeft, rMore}
-use Rattle.machines.specs.Lower.{sizeR, sizeS}
+use Rattle.machine_rules.specs.Lower.{sizeR, sizeS}
 
 holed-not : (g : Bool) (n : ℕ) → holed g n ≡ false → g ≡ false
 unfolding holed

@@ -7,16 +7,17 @@ use mathlib.Core.Path.{_≡_, refl, sym, subst, _∙_}
 use lib.ListN.{length, getD, take}
 use Rattle.pack.specs.Limits.{maxLevel}
 use Rattle.pack.specs.Names.{Name}
-use Rattle.pack.specs.Syntax.{Drawing, States, rCons, rNil}
+use Rattle.pack.specs.Syntax.{Drawing}
+use Rattle.machine_rules.specs.Resolved.{States, rCons, rNil}
 use Rattle.pack.specs.Forms.{flagOf}
 use Rattle.pack.specs.Write.{enc}
 use Rattle.machines.specs.declared.opening.Opening.{Opening}
-use Rattle.machines.specs.Checks.{allNamesS}
+use Rattle.machine_rules.specs.Checks.{allNamesS}
 use Rattle.machines.specs.Counts.{anyS, countS, filledS}
 use Rattle.machines.specs.Laid.{HeldR, LaidR, prefixOf, rEnd, sliceOf}
 use Rattle.machines.specs.Lays.{Board, board, lay, layMachine, layRegion, opening}
-use Rattle.machines.specs.Lower.{sizeR, sizeS}
-use Rattle.machines.specs.Resolve.{shortS}
+use Rattle.machine_rules.specs.Lower.{sizeR, sizeS}
+use Rattle.machine_rules.specs.Resolve.{shortS}
 use Rattle.machines.specs.Stands.{MachineAt, StandsS}
 use Rattle.machines.proofs.Reading.{name-number}
 use Rattle.machines.proofs.Walked.{Ready}

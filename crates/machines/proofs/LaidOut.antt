@@ -8,15 +8,16 @@ use lib.ListN.{length, getD, length-append}
 use Rattle.wire.specs.Answer.{byte, u16, value}
 use Rattle.pack.specs.Limits.{absent}
 use Rattle.pack.specs.Names.{Name}
-use Rattle.pack.specs.Syntax.{Equation, Regions, States, Transition, rCons, rNil, sCons, sNil}
+use Rattle.pack.specs.Syntax.{Equation, Transition}
+use Rattle.machine_rules.specs.Resolved.{Regions, States, rCons, rNil, sCons, sNil}
 use Rattle.pack.specs.Forms.{flagOf, nameAt}
 use Rattle.pack.specs.Write.{enc}
 use Rattle.machines.specs.declared.opening.Opening.{Opening}
-use Rattle.machines.specs.Checks.{allNamesR, allNamesS}
+use Rattle.machine_rules.specs.Checks.{allNamesR, allNamesS}
 use Rattle.machines.specs.Counts.{anyS, countR, countS, filledR, filledS}
 use Rattle.machines.specs.Laid.{LaidR, lEnd, lMore, prefixOf, rEnd}
 use Rattle.machines.specs.Lays.{Board, closeState, layRegion, layState, movedTo, opening, sum, times}
-use Rattle.machines.specs.Resolve.{prefixTransitions, shortR}
+use Rattle.machine_rules.specs.Resolve.{prefixTransitions, shortR}
 use Rattle.machines.specs.Stands.{MachineAt, RegionAt, StandsR, StandsS, StateAt, rInto, rMore, rPlain, sEnd, sMore}
 use Rattle.machines.proofs.Reading.{name-number}
 use Rattle.machines.proofs.NamesPlaced.{SpotAt, spot-length}

@@ -10,8 +10,9 @@ use lib.Dec.{ltb, leb}
 use borrow.Author.Tests.{ltb-true, ltb-false, leb-true, leb-false, le-leb, lt-leb}
 use Rattle.pack.specs.Limits.{maxName}
 use Rattle.pack.specs.Names.{Name}
-use Rattle.pack.specs.Syntax.{Equation, Regions, States, Transition, rCons, rNil, sCons, sNil}
-use Rattle.machines.specs.Resolve.{prefixR, prefixS, prefixTransitions, shortName, shortR, shortS, shortTargets, snoc}
+use Rattle.pack.specs.Syntax.{Equation, Transition}
+use Rattle.machine_rules.specs.Resolved.{Regions, States, rCons, rNil, sCons, sNil}
+use Rattle.machine_rules.specs.Resolve.{prefixR, prefixS, prefixTransitions, shortName, shortR, shortS, shortTargets, snoc}
 use Rattle.machines.specs.Walks.{maxOf}
 use Rattle.machines.specs.Same.{fitR, fitS}
 

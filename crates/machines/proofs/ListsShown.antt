@@ -17,7 +17,7 @@ use Rattle.pack.specs.Intern.{render}
 use Rattle.pack.proofs.Tables.{code}
 use Rattle.pack.proofs.Interns.{render-append}
 use Rattle.pack.proofs.Copies.{Lies, lies-copied}
-use Rattle.machines.specs.Lower.{equationsOf}
+use Rattle.machine_rules.specs.Lower.{equationsOf}
 use Rattle.machines.specs.Laid.{sliceOf}
 use Rattle.machines.specs.Sections.{Share, bringsItems, continued}
 use Rattle.machines.specs.Sure.{num, numberIn}

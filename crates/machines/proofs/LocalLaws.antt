@@ -9,13 +9,14 @@ use Rattle.machines.specs.declared.made.Var.{Var}
 use Rattle.machines.specs.declared.made.Var.the-variants as vr
 use Rattle.wire.specs.Writer.{State, put, puts}
 use Rattle.pack.specs.Names.{Name}
-use Rattle.pack.specs.Syntax.{Port, Regions, States, rCons, rNil, sCons, sNil}
+use Rattle.pack.specs.Syntax.{Port}
+use Rattle.machine_rules.specs.Resolved.{Regions, States, rCons, rNil, sCons, sNil}
 use Rattle.pack.specs.Write.{Item, each, one, portItems, tyItems}
 use Rattle.pack.specs.Intern.{putItem, putName, render}
 use Rattle.pack.proofs.Interns.{render-append}
-use Rattle.machines.specs.MadeNames.{enumName}
+use Rattle.machine_rules.specs.MadeNames.{enumName}
 use Rattle.machines.specs.Vars.{varName}
-use Rattle.machines.specs.Lower.{localsR, localsS, regionLocals, sizeR, sizeS}
+use Rattle.machine_rules.specs.Lower.{localsR, localsS, regionLocals, sizeR, sizeS}
 use Rattle.machines.specs.Locals.{activePort, innerLocals, statePort}
 
 pub state-port : (old : List ℕ) (v : Var) (m : Name) (id : ℕ) (s : State) → putName old (enumName m id) (put 13 (putName old (varName v id) s)) ≡ render old (portItems (statePort v m id)) s

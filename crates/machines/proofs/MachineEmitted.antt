@@ -10,7 +10,8 @@ use Rattle.wire.specs.Bytes.{two}
 use Rattle.wire.specs.Lists.{All, Bytes}
 use Rattle.wire.specs.Writer.{State, puts}
 use Rattle.pack.specs.Names.{Name}
-use Rattle.pack.specs.Syntax.{Expr, Machine, rCons, rNil}
+use Rattle.pack.specs.Syntax.{Expr}
+use Rattle.machine_rules.specs.Resolved.{Machine, rCons, rNil}
 use Rattle.pack.specs.Forms.{nameAt}
 use Rattle.pack.specs.Legal.{Each, Fresh, LegalName, place}
 use Rattle.pack.specs.Read.{exprIn, portsIn}
@@ -19,8 +20,8 @@ use Rattle.pack.specs.Intern.{putItem, putName, render}
 use Rattle.pack.proofs.Copies.{copied-expr, render-known}
 use Rattle.pack.proofs.Tables.{code, place-at-name}
 use Rattle.machines.specs.Laid.{HeldR, sliceOf}
-use Rattle.machines.specs.Lower.{equationsOf, equationsS, outputEquations, sizeS, topEquations}
-use Rattle.machines.specs.Checks.{refusalOf}
+use Rattle.machine_rules.specs.Lower.{equationsOf, equationsS, outputEquations, sizeS, topEquations}
+use Rattle.machine_rules.specs.Checks.{refusalOf}
 use Rattle.machines.specs.Emits.{packName, regionsT}
 use Rattle.machines.specs.Values.{portOutputsT}
 use Rattle.machines.proofs.NamesPlaced.{SpotAt}

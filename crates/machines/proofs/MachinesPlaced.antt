@@ -21,7 +21,7 @@ use Rattle.pack.specs.Legal.{Fresh}
 use Rattle.pack.specs.Read.{machineIn, optionalIn, portsIn, stateAt}
 use Rattle.pack.specs.Report.{firstOf}
 use Rattle.pack.specs.Verdict.{offsetOf}
-use Rattle.machines.specs.Resolve.{machineOf}
+use Rattle.machine_rules.specs.Resolve.{machineOf}
 use Rattle.machines.specs.Stands.{MachineAt}
 use Rattle.machines.specs.Tables.{initialIn, machinesPlaced, outputsIn, placedFrom, statesEnd}
 use Rattle.machines.proofs.Reading.{MachineRead, bind-is, machine-value, many-cut, many-more, many-over, name-number}

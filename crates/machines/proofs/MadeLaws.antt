@@ -8,7 +8,7 @@ use Rattle.wire.specs.Writer.{State, puts}
 use Rattle.wire.specs.Decimal.{decimal}
 use Rattle.wire.proofs.Writers.{puts-append}
 use Rattle.pack.specs.Names.{Name}
-use Rattle.machines.specs.MadeNames.{activeVar, enumName, nextVar, regionPrefix, smPrefix, stateVar}
+use Rattle.machine_rules.specs.MadeNames.{activeVar, enumName, nextVar, regionPrefix, smPrefix, stateVar}
 use Rattle.machines.specs.Vars.{varName}
 
 pub region-text : (id : ℕ) (tail : List ℕ) (s : State) → puts tail (puts (decimal id) (puts regionPrefix s)) ≡ puts (regionPrefix ++ (decimal id ++ tail)) s

@@ -19,7 +19,7 @@ use Rattle.pack.proofs.TypeFormats.{fmtCounted}
 use Rattle.pack.proofs.PartFormats.{ShapedNode, fmtNode}
 use Rattle.pack.proofs.Interns.{render-append}
 use Rattle.pack.proofs.Copies.{lies-equations-rest}
-use Rattle.machines.specs.Lower.{equationsOf}
+use Rattle.machine_rules.specs.Lower.{equationsOf}
 use Rattle.machines.specs.Sections.{Fate, Share, alone, begunItems, bringsItems, broughtCount, continued, equationCount, fateMachine, filledItems, headCount, headItems, headOf, holdingItems, into, originCount, shareMachine, total}
 use Rattle.machines.specs.Stands.{endOf}
 use Rattle.machines.specs.Sure.{numberIn, with}

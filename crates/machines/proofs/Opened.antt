@@ -28,8 +28,8 @@ use Rattle.pack.proofs.Written.{finished-is}
 use Rattle.machines.specs.declared.sure.Num.{Num}
 use Rattle.machines.specs.Laid.{sliceOf}
 use Rattle.machines.specs.Sure.{num, numberIn}
-use Rattle.machines.specs.Refusals.{unknownOwner}
-use Rattle.machines.specs.Machines.{judge, madeMachines, refuse, withoutMachines}
+use Rattle.machine_rules.specs.Refusals.{unknownOwner}
+use Rattle.machine_rules.specs.Machines.{judge, madeMachines, refuse, withoutMachines}
 use Rattle.machines.specs.Sections.{Share, nodeNames, sharesOf}
 use Rattle.machines.specs.Entries.{entryBytes}
 use Rattle.machines.specs.Judging.{boardAt, judgeAt, named, noName, refusedBy}
@@ -39,7 +39,7 @@ use Rattle.machines.specs.Parts.{sectionsT}
 use Rattle.machines.specs.Shown.{PackOf}
 use Rattle.machines.specs.Reporting.{EntersAll, bytesT, entryT, lettersT, ofRefused, refusalT}
 use Rattle.machines.specs.Verdicts.{SettledPack, Why, allGo, entryAt, judged as judgedSo, unowned, verdicts, verdictsOf}
-use Rattle.machines.specs.Call.{finished, machinesOf}
+use Rattle.machine_rules.specs.Call.{finished, machinesOf}
 use Rattle.machines.proofs.Reading.{machine-value, name-number, optional-some}
 use Rattle.machines.proofs.SureLaws.{number-num}
 use Rattle.machines.proofs.NamesPlaced.{right-name}

@@ -14,7 +14,8 @@ use Rattle.wire.specs.Bytes.{two}
 use Rattle.wire.specs.Lists.{Bytes}
 use Rattle.pack.specs.Limits.{maxBytes}
 use Rattle.pack.specs.Names.{Name, member}
-use Rattle.pack.specs.Syntax.{Drawing, Machine, Package}
+use Rattle.pack.specs.Syntax.{Drawing, Package}
+use Rattle.machine_rules.specs.Resolved.{Machine}
 use Rattle.pack.specs.Forms.{nameAt}
 use Rattle.pack.specs.Read.{Reading, bytesAfter, deepAt, endsEarly, illegalAt, machineIn, read, tooLong, whole}
 use Rattle.pack.specs.Report.{Refusal, entries, reportBytes}
@@ -26,10 +27,10 @@ use Rattle.pack.proofs.CheckLaws.{check-small, record-stands}
 use Rattle.pack.proofs.RoundTrip.{read-value}
 use Rattle.machines.specs.declared.refusal.Judged.{Judged}
 use Rattle.machines.specs.Sure.{numberIn}
-use Rattle.machines.specs.Refusals.{unknownOwner}
-use Rattle.machines.specs.Resolve.{asMachine}
-use Rattle.machines.specs.Machines as definition
-use Rattle.machines.specs.Machines.{accept, judge, madeMachines, refuse, withoutMachines}
+use Rattle.machine_rules.specs.Refusals.{unknownOwner}
+use Rattle.machine_rules.specs.Resolve.{asMachine}
+use Rattle.machine_rules.specs.Machines as definition
+use Rattle.machine_rules.specs.Machines.{accept, judge, madeMachines, refuse, withoutMachines}
 use Rattle.machines.specs.Sections.{nodeNames}
 use Rattle.machines.specs.Judges.{namesThen, refusals, refusedIn}
 use Rattle.machines.specs.Entries.{entryBytes}
@@ -37,7 +38,7 @@ use Rattle.machines.specs.Judging.{boardAt, judgeAt}
 use Rattle.machines.specs.JudgedAs.{JudgedAs}
 use Rattle.machines.specs.Relaid.{Long}
 use Rattle.machines.specs.Filled.{Answers}
-use Rattle.machines.specs.Call.{finished, lowerMachines, machinesOf}
+use Rattle.machine_rules.specs.Call.{finished, lowerMachines, machinesOf}
 use Rattle.machines.proofs.Reading.{many-cut, many-more, machine-value, name-number, optional-some}
 use Rattle.machines.proofs.NamesPlaced.{names-few, section-read}
 use Rattle.machines.proofs.Walked.{Ready, ready}

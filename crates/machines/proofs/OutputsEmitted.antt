@@ -11,7 +11,8 @@ use Rattle.wire.specs.Writer.{State, puts}
 use Rattle.wire.proofs.Answers.{bind-value, map-value}
 use Rattle.pack.specs.Limits.{maxLevel}
 use Rattle.pack.specs.Names.{Name}
-use Rattle.pack.specs.Syntax.{Equation, Expr, Machine, Port, rCons, rNil}
+use Rattle.pack.specs.Syntax.{Equation, Expr, Port}
+use Rattle.machine_rules.specs.Resolved.{Machine, rCons, rNil}
 use Rattle.pack.specs.Forms.{nameAt}
 use Rattle.pack.specs.Legal.{Fresh}
 use Rattle.pack.specs.Read.{exprIn, nameIn, portIn, portsIn, typeIn}
@@ -20,8 +21,8 @@ use Rattle.pack.specs.Intern.{putItem, putName, render}
 use Rattle.machines.specs.Stands.{endOf}
 use Rattle.machines.specs.Sure.{numberIn}
 use Rattle.machines.specs.Laid.{HeldR, gMore, sliceOf}
-use Rattle.machines.specs.Lower.{coversS, defaultOf, outputEquations, valueS}
-use Rattle.machines.specs.Checks.{uncovered}
+use Rattle.machine_rules.specs.Lower.{coversS, defaultOf, outputEquations, valueS}
+use Rattle.machine_rules.specs.Checks.{uncovered}
 use Rattle.machines.specs.Emits.{packName}
 use Rattle.machines.specs.Values.{Peopled, WholeS, outputT, outputsT, portOutputsT, valueT}
 use Rattle.machines.proofs.Reading.{many-cut, many-more, many-over, name-number}

@@ -36,7 +36,7 @@ counted-many r s at xs q e =
     (b .2 ∙ (λ j. value (sym n j) (v .to j)), (λ j. many r (n j) (sym (v .to) j)) ∙ b .3)
 
 -- things of k bytes or more
-many-takes : {A : Type 0} (r : ℕ → Answer A) (k : ℕ) → ((at : ℕ) (x : A) (q : ℕ) → r at ≡ value x q → at + k ≤ q) → (n at : ℕ) (xs : List A) (q : ℕ) → many r n at ≡ value xs q → at + k * n ≤ q
+pub many-takes : {A : Type 0} (r : ℕ → Answer A) (k : ℕ) → ((at : ℕ) (x : A) (q : ℕ) → r at ≡ value x q → at + k ≤ q) → (n at : ℕ) (xs : List A) (q : ℕ) → many r n at ≡ value xs q → at + k * n ≤ q
 many-takes r k h zero at [] q e = let j = many-end r at q e in omega arith
 many-takes r k h zero at (x ∷ xs) q e = absurd (many-cut r at x xs q e)
 many-takes r k h (suc n) at [] q e = absurd (many-over r n at q e)
@@ -47,7 +47,7 @@ many-takes r k h (suc n) at (x ∷ xs) q e =
     omega (arith, mul-suc k n)
 
 module _ (s : List ℕ) where
-  fwd-counted : {A : Type 0} (r : ℕ → Answer A) → ((p : ℕ) → Fwd (length s) p (r p)) → (at : ℕ) → Fwd (length s) at (counted r s at)
+  pub fwd-counted : {A : Type 0} (r : ℕ → Answer A) → ((p : ℕ) → Fwd (length s) p (r p)) → (at : ℕ) → Fwd (length s) at (counted r s at)
   unfolding counted
   fwd-counted r f at = fwd-bind (length s) at (u16 s at) _ (fwd-u16 s at) (λ n p. fwd-many (length s) r f n p)
 
@@ -57,7 +57,7 @@ module _ (s : List ℕ) where
 
 -- what is read goes forward
 module _ (ns : List Name) (s : List ℕ) where
-  fwd-name : (at : ℕ) → Fwd (length s) at (nameIn ns s at)
+  pub fwd-name : (at : ℕ) → Fwd (length s) at (nameIn ns s at)
   unfolding nameIn
   fwd-name at = fwd-map (length s) at _ _ (fwd-index (length ns) s at)
 
@@ -65,15 +65,15 @@ module _ (ns : List Name) (s : List ℕ) where
   unfolding optionalIn
   fwd-optional at = fwd-map (length s) at _ _ (fwd-guard (length s) at at (λ i. ltb i (length ns) || eqb i absent) (u16 s at) (fwd-u16 s at))
 
-  fwd-port : (at : ℕ) → Fwd (length s) at (portIn ns s at)
+  pub fwd-port : (at : ℕ) → Fwd (length s) at (portIn ns s at)
   unfolding portIn typeIn
   fwd-port at = fwd-bind (length s) at (nameIn ns s at) _ (fwd-name at) (λ n p. fwd-map (length s) p _ _ (fwd-map (length s) p _ _ (fwd-type (length ns) s p)))
 
-  fwd-exprIn : (at : ℕ) → Fwd (length s) at (exprIn ns s at)
+  pub fwd-exprIn : (at : ℕ) → Fwd (length s) at (exprIn ns s at)
   unfolding exprIn
   fwd-exprIn at = fwd-map (length s) at _ _ (fwd-expr s (length ns) at)
 
-  fwd-equation : (at : ℕ) → Fwd (length s) at (equationIn ns s at)
+  pub fwd-equation : (at : ℕ) → Fwd (length s) at (equationIn ns s at)
   unfolding equationIn namesIn
   fwd-equation at = fwd-bind (length s) at (namesIn ns s at) _ (fwd-counted s (nameIn ns s) fwd-name at) (λ l p. fwd-map (length s) p _ _ (fwd-exprIn p))
 
@@ -105,7 +105,7 @@ module _ (ns : List Name) (s : List ℕ) where
       fwd-map n q _ _ (fwd-counted s (stateWith (regionAt levels ns s) ns s) (fwd-state (regionAt levels ns s) (fwd-region levels)) q)))
 
   -- the bytes of a name, of a count with what it counts, of an optional name
-  name-takes : (at : ℕ) (n : Name) (q : ℕ) → nameIn ns s at ≡ value n q → at + 2 ≤ q
+  pub name-takes : (at : ℕ) (n : Name) (q : ℕ) → nameIn ns s at ≡ value n q → at + 2 ≤ q
   name-takes at n q e =
       let i = name-number ns s at n q e in
       let v = u16-value s at (i .i) q (i .is) in
@@ -121,7 +121,7 @@ module _ (ns : List Name) (s : List ℕ) where
       let to = v .to in
       omega arith
 
-  counted-takes : {A : Type 0} (r : ℕ → Answer A) → ((p : ℕ) → Fwd (length s) p (r p)) → (at : ℕ) (xs : List A) (q : ℕ) → counted r s at ≡ value xs q → at + 2 ≤ q
+  pub counted-takes : {A : Type 0} (r : ℕ → Answer A) → ((p : ℕ) → Fwd (length s) p (r p)) → (at : ℕ) (xs : List A) (q : ℕ) → counted r s at ≡ value xs q → at + 2 ≤ q
   counted-takes r f at xs q e = fwd-many (length s) r f (length xs) (at + 2) xs q (counted-many r s at xs q e .1) .on
 
   node-takes : (at : ℕ) (x : Node) (q : ℕ) → nodeIn ns s at ≡ value x q → at + 11 ≤ q

@@ -11,7 +11,7 @@ use Rattle.pack.specs.Syntax.{Drawing, Package}
 use Rattle.pack.specs.Read.{machineIn, nodeIn}
 use Rattle.pack.specs.Report.{entries}
 use Rattle.pack.specs.Verdict.{Stands}
-use Rattle.machines.specs.Machines.{madeMachines}
+use Rattle.machine_rules.specs.Machines.{madeMachines}
 use Rattle.machines.specs.Sections.{nodeNames, sharesOf}
 use Rattle.machines.specs.Shown.{Lowered}
 use Rattle.machines.specs.Brought.{totalT}

@@ -10,14 +10,15 @@ use borrow.Author.Tests.{leb-true}
 use Rattle.wire.specs.Lists.{All}
 use Rattle.pack.specs.Limits.{maxName}
 use Rattle.pack.specs.Names.{Name, member}
-use Rattle.pack.specs.Syntax.{Equation, Regions, States, Transition, rCons, rNil, sCons, sNil}
+use Rattle.pack.specs.Syntax.{Equation, Transition}
+use Rattle.machine_rules.specs.Resolved.{Regions, States, rCons, rNil, sCons, sNil}
 use Rattle.pack.specs.Forms.{nameAt}
 use Rattle.pack.specs.Report.{Refusal, firstOf}
 use Rattle.pack.proofs.Tables.{all-append}
-use Rattle.machines.specs.Refusals.{unknownInitial, unknownTarget}
-use Rattle.machines.specs.Resolve.{shortName, shortR, shortS, shortTargets}
-use Rattle.machines.specs.Lower.{coversR, isSome, namesOf, ownValue}
-use Rattle.machines.specs.Checks.{allNamesR, allNamesS, badInitial, badR, badS, badTarget, repeated, uncoveredR, uncoveredS, unlessCovered, unlessOther}
+use Rattle.machine_rules.specs.Refusals.{unknownInitial, unknownTarget}
+use Rattle.machine_rules.specs.Resolve.{shortName, shortR, shortS, shortTargets}
+use Rattle.machine_rules.specs.Lower.{coversR, isSome, namesOf, ownValue}
+use Rattle.machine_rules.specs.Checks.{allNamesR, allNamesS, badInitial, badR, badS, badTarget, repeated, uncoveredR, uncoveredS, unlessCovered, unlessOther}
 use Rattle.machines.specs.Laid.{LaidR, LaidS, lEnd, lMore, rEnd, rLeft, rMore}
 use Rattle.machines.proofs.Reading.{name-number}
 use Rattle.machines.proofs.CountLaws.{short-regions, short-states}

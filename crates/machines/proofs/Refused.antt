@@ -9,9 +9,9 @@ use Rattle.pack.specs.Names.{Name, eqName, member}
 use Rattle.pack.specs.Syntax.{Drawing, Node, Package}
 use Rattle.pack.specs.Report.{Refusal}
 use Rattle.pack.proofs.Tables.{eqName-ne, eqName-refl, eqName-true, eqName-false}
-use Rattle.machines.specs.Refusals.{unknownOwner}
-use Rattle.machines.specs.Machines.{Judged, Made, accept, judge, lowerEach, madeMachines, merged, nodeFrom, nodeNamed, placed, refuse, refusing, standalone, start}
-use Rattle.machines.specs.Lower.{equationsOf, localsOf}
+use Rattle.machine_rules.specs.Refusals.{unknownOwner}
+use Rattle.machine_rules.specs.Machines.{Judged, Made, accept, judge, lowerEach, madeMachines, merged, nodeFrom, nodeNamed, placed, refuse, refusing, standalone, start}
+use Rattle.machine_rules.specs.Lower.{equationsOf, localsOf}
 use Rattle.machines.specs.Sections.{nodeNames}
 use Rattle.machines.specs.Judges.{namesThen, refusals, refusedIn}
 use Rattle.machines.proofs.Fates.{names-append, names-extend}

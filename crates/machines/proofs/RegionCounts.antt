@@ -6,8 +6,9 @@ use mathlib.Core.Bool.{Bool, true, false}
 use mathlib.Core.Path.{_≡_, refl, ap}
 use lib.ListN.{length, length-append}
 use Rattle.pack.specs.Names.{Name}
-use Rattle.pack.specs.Syntax.{Expr, Machine, Port, Regions, States, rCons, rNil, sCons, sNil}
-use Rattle.machines.specs.Lower.{activeIn, enumsOf, enumsR, enumsS, equationsOf, equationsR, equationsS, localsOf, localsS, outputEquations, regionEquations, regionLocals, sizeR, sizeS, topEquations}
+use Rattle.pack.specs.Syntax.{Expr, Port}
+use Rattle.machine_rules.specs.Resolved.{Machine, Regions, States, rCons, rNil, sCons, sNil}
+use Rattle.machine_rules.specs.Lower.{activeIn, enumsOf, enumsR, enumsS, equationsOf, equationsR, equationsS, localsOf, localsS, outputEquations, regionEquations, regionLocals, sizeR, sizeS, topEquations}
 use Rattle.machines.specs.Locals.{innerLocals}
 use Rattle.machines.specs.Sections.{enumCount, equationCount, localCount}
 use Rattle.machines.proofs.LocalLaws.{locals-states}

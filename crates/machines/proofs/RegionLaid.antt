@@ -8,14 +8,15 @@ use lib.ListN.{length, getD}
 use lib.Dec.{eqb}
 use borrow.Author.Tests.{eq-eqb, ne-eqb}
 use Rattle.pack.specs.Names.{Name}
-use Rattle.pack.specs.Syntax.{Equation, Regions, States, Transition, rCons, sCons, sNil}
+use Rattle.pack.specs.Syntax.{Equation, Transition}
+use Rattle.machine_rules.specs.Resolved.{Regions, States, rCons, sCons, sNil}
 use Rattle.pack.specs.Forms.{flagOf, nameAt}
 use Rattle.pack.specs.Write.{enc}
-use Rattle.machines.specs.Checks.{allNamesS}
+use Rattle.machine_rules.specs.Checks.{allNamesS}
 use Rattle.machines.specs.Counts.{anyS, countS, filledS}
 use Rattle.machines.specs.Laid.{LaidR, LaidS, holed, rLeft, rMore as rLaid}
 use Rattle.machines.specs.Lays.{Board, closeRegion, layRegion, layState, movedTo, opening, openRegion, passed, sum, tally, times}
-use Rattle.machines.specs.Resolve.{shortS}
+use Rattle.machine_rules.specs.Resolve.{shortS}
 use Rattle.machines.specs.Stands.{StandsS, sEnd, sMore}
 use Rattle.machines.proofs.Boards.{Agrees, Room, Step, Under, room-first, room-then, spare, step-none, step-then, under-agrees, under-then}
 use Rattle.machines.proofs.Openings.{agrees-close-region, open-region-is, openedRegion, region-place, region-row, step-close-region, step-region}

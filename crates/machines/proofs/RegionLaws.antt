@@ -21,9 +21,9 @@ use Rattle.pack.specs.Intern.{putItem, render}
 use Rattle.pack.proofs.Interns.{name-long, render-append}
 use Rattle.pack.proofs.Written.{render-full}
 use Rattle.machines.specs.declared.made.Var.the-variants as vr
-use Rattle.machines.specs.MadeNames.{activeVar, nextVar, stateVar}
+use Rattle.machine_rules.specs.MadeNames.{activeVar, nextVar, stateVar}
 use Rattle.machines.specs.Vars.{varName}
-use Rattle.machines.specs.Lower.{held, stateRhs}
+use Rattle.machine_rules.specs.Lower.{held, stateRhs}
 use Rattle.machines.specs.Equations.{activeEquation, stateEquation}
 use Rattle.machines.specs.Emits.{activeT, chainT, inRegion, lettersAt, nextRhsT, nextT, regionT, regionsT, stateT}
 use Rattle.machines.proofs.TermLaws.{held-term, state-equation, state-history, state-restart, var-term}

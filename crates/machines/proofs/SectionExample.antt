@@ -9,10 +9,10 @@ use Rattle.pack.specs.Names.{Name, eqName, member}
 use Rattle.pack.specs.Report.{asRefusal, firstOf}
 use Rattle.pack.specs.Syntax.{Drawing, Package, dCons, dNil, eVar, kFunction, ofMachine, qNil}
 use Rattle.pack.specs.Write.{packageItems}
-use Rattle.machines.specs.Checks.{allNamesR, allNamesS, badInitial, badR, badS, badTarget, emptyTop, refusalOf, repeated, uncovered}
-use Rattle.machines.specs.Lower.{namesOf, sizeR, sizeS}
-use Rattle.machines.specs.Machines.{checked, extend, extendIn, judge, lowerEach, madeMachines, merged, nodeFrom, nodeNamed, placed, resolved, standalone, start, withoutMachines}
-use Rattle.machines.specs.Resolve.{arrive, asMachine, deeper, resolveR, resolveS, resolvedStates, walkOn, withRefine}
+use Rattle.machine_rules.specs.Checks.{allNamesR, allNamesS, badInitial, badR, badS, badTarget, emptyTop, refusalOf, repeated, uncovered}
+use Rattle.machine_rules.specs.Lower.{namesOf, sizeR, sizeS}
+use Rattle.machine_rules.specs.Machines.{checked, extend, extendIn, judge, lowerEach, madeMachines, merged, nodeFrom, nodeNamed, placed, resolved, standalone, start, withoutMachines}
+use Rattle.machine_rules.specs.Resolve.{arrive, asMachine, deeper, resolveR, resolveS, resolvedStates, walkOn, withRefine}
 use Rattle.machines.specs.Sections.{Share, bringsCount, broughtCount, equationCount, equationsBefore, fateMachine, fateOf, fateThen, fates, indexOf, namesWith, nodeNames, oldCount, originFor, originsIn, sectionItems, shareMachine, shareOf, shares, sharesOf, total}
 use Rattle.machines.proofs.SectionLaws.{section-items}
 

@@ -9,10 +9,11 @@ use lib.Dec.{eqb}
 use Rattle.wire.specs.Bytes.{two}
 use Rattle.wire.specs.Lists.{All}
 use Rattle.pack.specs.Names.{Name}
-use Rattle.pack.specs.Syntax.{Machine, Node, Origin, Package}
+use Rattle.pack.specs.Syntax.{Node, Origin, Package}
+use Rattle.machine_rules.specs.Resolved.{Machine}
 use Rattle.pack.specs.Write.{Item, activationItems, each, enumItems, equationItems, kindByte, list, nm, nodeItems, originItems, packageItems, portItems, raw}
-use Rattle.machines.specs.Lower.{enumsOf, equationsOf, localsOf}
-use Rattle.machines.specs.Machines.{extend, madeMachines, start, withoutMachines}
+use Rattle.machine_rules.specs.Lower.{enumsOf, equationsOf, localsOf}
+use Rattle.machine_rules.specs.Machines.{extend, madeMachines, start, withoutMachines}
 use Rattle.machines.specs.Sections.{Accepted, Fate, OwnedAll, Share, alone, begunItems, brings, bringsItems, brought, continued, enumCount, enumsMade, equationCount, equationsBefore, fateMachine, fatesOf, filled, filledItems, firstForms, headCount, headIn, headItems, headOf, heads, holding, holdingItems, indexOf, into, localCount, madeEnumItems, namesWith, nodeNames, nodesAfter, originCount, originFor, originsAfter, originsIn, originsItems, sectionItems, shareMachine, shareOf, shares, sharesOf, total}
 use Rattle.machines.proofs.LocalLaws.{each-append}
 use Rattle.machines.proofs.Fates.{machines-folds}

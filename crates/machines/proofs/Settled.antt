@@ -12,17 +12,18 @@ use borrow.Author.Tests.{eq-eqb, eqb-false, eqb-true, ne-eqb}
 use Rattle.wire.specs.Answer.{value}
 use Rattle.pack.specs.Limits.{absent}
 use Rattle.pack.specs.Names.{Name, eqName, member}
-use Rattle.pack.specs.Syntax.{Drawing, Machine}
+use Rattle.pack.specs.Syntax.{Drawing}
+use Rattle.machine_rules.specs.Resolved.{Machine}
 use Rattle.pack.specs.Forms.{nameAt}
 use Rattle.pack.specs.Legal.{Fresh, place}
 use Rattle.pack.specs.Read.{machineIn, optionalIn}
 use Rattle.pack.specs.Report.{Refusal}
 use Rattle.pack.proofs.Tables.{Either, either, known, place-out, unknown}
 use Rattle.machines.specs.declared.sure.Num.{Num}
-use Rattle.machines.specs.Refusals.{unknownOwner}
-use Rattle.machines.specs.Resolve.{asMachine}
-use Rattle.machines.specs.Checks.{refusalOf}
-use Rattle.machines.specs.Machines.{Judged, accept, judge, refuse}
+use Rattle.machine_rules.specs.Refusals.{unknownOwner}
+use Rattle.machine_rules.specs.Resolve.{asMachine}
+use Rattle.machine_rules.specs.Checks.{refusalOf}
+use Rattle.machine_rules.specs.Machines.{Judged, accept, judge, refuse}
 use Rattle.machines.specs.Sections.{fateOf, indexOf, shareOf}
 use Rattle.machines.specs.Judges.{namesThen}
 use Rattle.machines.specs.Shown.{LoweredAt}

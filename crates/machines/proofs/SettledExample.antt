@@ -8,16 +8,17 @@ use Rattle.wire.specs.Answer.{bind, byte, counted, guard, index, many, mapA, u1
 use Rattle.pack.specs.declared.record.Pack.{Pack}
 use Rattle.pack.specs.Limits.{absent, maxLevel, maxStates}
 use Rattle.pack.specs.Names.{Name, eqName, member}
-use Rattle.pack.specs.Syntax.{Drawing, Package, States, dCons, dNil, qNil, rNil, sCons, sNil}
+use Rattle.pack.specs.Syntax.{Drawing, Package, dCons, dNil, qNil}
+use Rattle.machine_rules.specs.Resolved.{States, rNil, sCons, sNil}
 use Rattle.pack.specs.Forms.{nameAt}
 use Rattle.pack.specs.Read.{char, drawnOf, equationsIn, machineIn, name, nameByte, nameIn, nameSection, namesAfter, optional, optionalIn, portsIn, regionAt, regionsOf, size, stateAt, stateWith}
 use Rattle.pack.specs.Report.{asRefusal, firstOf}
 use Rattle.pack.specs.Verdict.{Stands}
-use Rattle.machines.specs.Refusals.{unknownOwner}
-use Rattle.machines.specs.Resolve.{arrive, asMachine, deeper, resolveR, resolveS, resolvedStates, walkOn, withRefine}
-use Rattle.machines.specs.Checks.{allNamesR, allNamesS, badInitial, badR, badS, badTarget, emptyTop, refusalOf, repeated, uncovered}
-use Rattle.machines.specs.Lower.{namesOf, sizeR, sizeS}
-use Rattle.machines.specs.Machines.{accept, checked, judge, resolved}
+use Rattle.machine_rules.specs.Refusals.{unknownOwner}
+use Rattle.machine_rules.specs.Resolve.{arrive, asMachine, deeper, resolveR, resolveS, resolvedStates, walkOn, withRefine}
+use Rattle.machine_rules.specs.Checks.{allNamesR, allNamesS, badInitial, badR, badS, badTarget, emptyTop, refusalOf, repeated, uncovered}
+use Rattle.machine_rules.specs.Lower.{namesOf, sizeR, sizeS}
+use Rattle.machine_rules.specs.Machines.{accept, checked, judge, resolved}
 use Rattle.machines.specs.Sections.{alone, indexOf, nodeNames, shareOf}
 use Rattle.machines.specs.Judges.{namesThen}
 use Rattle.machines.specs.Settling.{fillT, machineEnd, nodeNameT, nodesOf, nth, settleT}

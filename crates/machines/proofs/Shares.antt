@@ -11,10 +11,11 @@ use borrow.Author.Tests.{eq-eqb, ne-eqb}
 use Rattle.wire.specs.Lists.{All}
 use Rattle.pack.specs.Names.{Name, eqName}
 use Rattle.pack.specs.Legal.{Known, place}
-use Rattle.pack.specs.Syntax.{Equation, Machine, Node, Port, ofMachine}
+use Rattle.pack.specs.Syntax.{Equation, Node, Port, ofMachine}
+use Rattle.machine_rules.specs.Resolved.{Machine}
 use Rattle.pack.proofs.Tables.{eqName-true, place-in}
-use Rattle.machines.specs.Lower.{equationsOf, localsOf}
-use Rattle.machines.specs.Machines.{extend, extendIn, nodeFrom, nodeNamed, originOf}
+use Rattle.machine_rules.specs.Lower.{equationsOf, localsOf}
+use Rattle.machine_rules.specs.Machines.{extend, extendIn, nodeFrom, nodeNamed, originOf}
 use Rattle.machines.specs.Sections.{Fate, Owned, OwnedAll, Share, alone, brings, bringsCount, brought, broughtCount, equationCount, equationsBefore, fateMachine, filled, headIn, headOf, heads, holding, indexOf, into, namesWith, nodeNames, nodesAfter, nodesWith, oldCount, originFor, originFound, originWith, originsAfter, originsIn, shareMachine, shareOf, shares, total}
 use Rattle.machines.proofs.Fates.{names-append}
 use Rattle.machines.proofs.RegionCounts.{equation-count}

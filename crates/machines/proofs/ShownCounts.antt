@@ -13,12 +13,13 @@ use Rattle.wire.specs.Code.{onward}
 use Rattle.wire.proofs.Answers.{bind-value, guard-value, many-length, map-value, u16-value}
 use Rattle.pack.specs.Limits.{absent}
 use Rattle.pack.specs.Names.{Name}
-use Rattle.pack.specs.Syntax.{Drawing, Equation, Machine, Node, Port}
+use Rattle.pack.specs.Syntax.{Drawing, Equation, Node, Port}
+use Rattle.machine_rules.specs.Resolved.{Machine}
 use Rattle.pack.specs.Read.{equationIn, equationsIn, kindOf, nameIn, nodeIn, optionalIn, portIn, portsIn}
 use Rattle.pack.specs.Verdict.{offsetOf}
 use Rattle.pack.proofs.PartFormats.{fmtEquations, fmtPorts}
-use Rattle.machines.specs.Resolve.{asMachine}
-use Rattle.machines.specs.Lower.{sizeS}
+use Rattle.machine_rules.specs.Resolve.{asMachine}
+use Rattle.machine_rules.specs.Lower.{sizeS}
 use Rattle.machines.specs.Sections.{Fate, Share, alone, bringsCount, broughtCount, enumCount, equationCount, fateMachine, fateOf, headCount, into, localCount, oldCount, originCount, shareMachine, total}
 use Rattle.machines.specs.Stands.{endOf}
 use Rattle.machines.specs.Sure.{num, numberIn, with}

@@ -9,7 +9,8 @@ use Rattle.wire.specs.Answer.{bind, byte, counted, guard, index, many, mapA, u1
 use Rattle.wire.specs.Lists.{All, Bytes}
 use Rattle.pack.specs.Limits.{absent, maxLevel, maxStates}
 use Rattle.pack.specs.Names.{Name, eqName, member}
-use Rattle.pack.specs.Syntax.{Drawing, Package, States, dCons, dNil, qNil, rNil, sCons, sNil}
+use Rattle.pack.specs.Syntax.{Drawing, Package, dCons, dNil, qNil}
+use Rattle.machine_rules.specs.Resolved.{States, rNil, sCons, sNil}
 use Rattle.pack.specs.Forms.{nameAt}
 use Rattle.pack.specs.Legal.{Fresh}
 use Rattle.pack.specs.RawNames.{rawName}
@@ -18,9 +19,9 @@ use Rattle.pack.specs.Report.{asRefusal, firstOf}
 use Rattle.pack.specs.Verdict.{Stands}
 use Rattle.pack.specs.declared.record.Pack.{Pack}
 use Rattle.pack.specs.Write.{enc}
-use Rattle.machines.specs.Checks.{allNamesR, allNamesS, badInitial, badR, badS, badTarget, emptyTop, refusalOf, repeated, uncovered}
-use Rattle.machines.specs.Resolve.{arrive, asMachine, resolveR, resolveS, resolvedStates, walkOn, withRefine}
-use Rattle.machines.specs.Lower.{namesOf, sizeR, sizeS}
+use Rattle.machine_rules.specs.Checks.{allNamesR, allNamesS, badInitial, badR, badS, badTarget, emptyTop, refusalOf, repeated, uncovered}
+use Rattle.machine_rules.specs.Resolve.{arrive, asMachine, resolveR, resolveS, resolvedStates, walkOn, withRefine}
+use Rattle.machine_rules.specs.Lower.{namesOf, sizeR, sizeS}
 use Rattle.machines.specs.Emits.{packName}
 use Rattle.machines.specs.Sections.{Share, alone, fateOf}
 use Rattle.machines.specs.Shown.{Lowered, PackOf, Shown}

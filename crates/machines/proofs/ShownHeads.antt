@@ -11,7 +11,8 @@ use Rattle.wire.specs.Lists.{All}
 use Rattle.wire.specs.Writer.{State, puts}
 use Rattle.pack.specs.Limits.{absent}
 use Rattle.pack.specs.Names.{Name}
-use Rattle.pack.specs.Syntax.{Machine, Node, NodeKind, Port}
+use Rattle.pack.specs.Syntax.{Node, NodeKind, Port}
+use Rattle.machine_rules.specs.Resolved.{Machine}
 use Rattle.pack.specs.Forms.{nameAt}
 use Rattle.pack.specs.Legal.{Each, Known, LegalName, place}
 use Rattle.pack.specs.Read.{kindOf, nodeIn, optionalIn, portsIn}
@@ -20,8 +21,8 @@ use Rattle.pack.specs.Intern.{render}
 use Rattle.pack.proofs.Tables.{code, place-at-name}
 use Rattle.pack.proofs.Interns.{render-append}
 use Rattle.pack.proofs.Copies.{lies-both, lies-head, lies-ports, lies-ports-rest, render-known}
-use Rattle.machines.specs.Lower.{equationsOf, localsOf}
-use Rattle.machines.specs.Resolve.{asMachine}
+use Rattle.machine_rules.specs.Lower.{equationsOf, localsOf}
+use Rattle.machine_rules.specs.Resolve.{asMachine}
 use Rattle.machines.specs.Laid.{sliceOf}
 use Rattle.machines.specs.Sections.{Share, bringsItems, broughtCount, continued, equationCount, headOf, holdingItems, localCount, shareMachine}
 use Rattle.machines.specs.Sure.{numberIn, with}

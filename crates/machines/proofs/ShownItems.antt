@@ -8,14 +8,15 @@ use lib.ListN.{length, getD}
 use lib.Dec.{eqb}
 use Rattle.wire.specs.Writer.{State, puts}
 use Rattle.pack.specs.Names.{Name}
-use Rattle.pack.specs.Syntax.{Machine, Port}
+use Rattle.pack.specs.Syntax.{Port}
+use Rattle.machine_rules.specs.Resolved.{Machine}
 use Rattle.pack.specs.Read.{portsIn}
 use Rattle.pack.specs.Write.{Item, each, portItems, raw}
 use Rattle.pack.specs.Intern.{putItem, render}
 use Rattle.pack.proofs.Interns.{render-append}
 use Rattle.pack.proofs.Copies.{lies-copied, lies-ports-rest}
-use Rattle.machines.specs.Resolve.{asMachine}
-use Rattle.machines.specs.Lower.{localsOf, localsS, regionLocals, sizeS}
+use Rattle.machine_rules.specs.Resolve.{asMachine}
+use Rattle.machine_rules.specs.Lower.{localsOf, localsS, regionLocals, sizeS}
 use Rattle.machines.specs.Locals.{innerLocals}
 use Rattle.machines.specs.Laid.{sliceOf}
 use Rattle.machines.specs.Sections.{Share, bringsItems, shareMachine}

@@ -15,7 +15,8 @@ use Rattle.wire.specs.Lists.{All}
 use Rattle.wire.specs.Writer.{State, puts}
 use Rattle.pack.specs.Limits.{absent}
 use Rattle.pack.specs.Names.{Name}
-use Rattle.pack.specs.Syntax.{Machine, Node, Origin, ofMachine}
+use Rattle.pack.specs.Syntax.{Node, Origin, ofMachine}
+use Rattle.machine_rules.specs.Resolved.{Machine}
 use Rattle.pack.specs.Forms.{nameAt}
 use Rattle.pack.specs.Legal.{Each, Fresh, Known, LegalName, place}
 use Rattle.pack.specs.Read.{nodeIn, optionalIn}
@@ -24,7 +25,7 @@ use Rattle.pack.specs.Intern.{render}
 use Rattle.pack.proofs.Tables.{code, place-at-name}
 use Rattle.pack.proofs.Interns.{render-append}
 use Rattle.pack.proofs.Copies.{render-known}
-use Rattle.machines.specs.Resolve.{asMachine}
+use Rattle.machine_rules.specs.Resolve.{asMachine}
 use Rattle.machines.specs.Sections.{Share, bringsCount, broughtCount, equationCount, equationsBefore, fateOf, originFor, originsItems, total}
 use Rattle.machines.specs.Sure.{numberIn, with}
 use Rattle.machines.specs.Shown.{PackOf, Shown, ShownAt}

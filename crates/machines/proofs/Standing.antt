@@ -10,12 +10,13 @@ use lib.Dec.{ltb}
 use Rattle.wire.specs.Answer.{many, value}
 use Rattle.pack.specs.Limits.{maxLevel, maxStates}
 use Rattle.pack.specs.Names.{Name, member}
-use Rattle.pack.specs.Syntax.{Drawing, Regions, States, Transition, rCons, rNil, sCons, sNil}
+use Rattle.pack.specs.Syntax.{Drawing, Transition}
+use Rattle.machine_rules.specs.Resolved.{Regions, States, rCons, rNil, sCons, sNil}
 use Rattle.pack.specs.Forms.{nameAt}
 use Rattle.pack.specs.Read.{OneRegion, OneState, drawnOf, optionalIn, regionAt, regionsOf, stateWith}
 use Rattle.pack.specs.Report.{Refusal}
-use Rattle.machines.specs.Refusals.{tooLarge, unknownRefine}
-use Rattle.machines.specs.Resolve.{Target, Walk, arrive, asTarget, deeper, machineOf, prefixR, prefixS, prefixTransitions, refineAt, refineWith, resolveR, resolveS, shortName, shortS, snoc, stop, walkOn, went, withRefine, withTarget}
+use Rattle.machine_rules.specs.Refusals.{tooLarge, unknownRefine}
+use Rattle.machine_rules.specs.Resolve.{Target, Walk, arrive, asTarget, deeper, machineOf, prefixR, prefixS, prefixTransitions, refineAt, refineWith, resolveR, resolveS, shortName, shortS, snoc, stop, walkOn, went, withRefine, withTarget}
 use Rattle.machines.specs.Stands.{MachineAt, StandsR, StandsS, rInto, rMore, rPlain, sEnd, sMore}
 use Rattle.machines.proofs.Reading.{many-cut, many-end, many-more, many-over, optional-none, optional-some, overs, region-none, region-value, state-value}
 

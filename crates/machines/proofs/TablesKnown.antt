@@ -6,7 +6,8 @@ use mathlib.Core.Path.{_≡_, refl, sym, ap, subst, _∙_}
 use lib.ListN.{length}
 use Rattle.wire.specs.Answer.{value}
 use Rattle.wire.specs.Lists.{Bytes}
-use Rattle.pack.specs.Syntax.{Drawing, Machine, Package}
+use Rattle.pack.specs.Syntax.{Drawing, Package}
+use Rattle.machine_rules.specs.Resolved.{Machine}
 use Rattle.pack.specs.Read.{machineIn, nodeIn}
 use Rattle.pack.specs.Verdict.{Stands}
 use Rattle.pack.specs.declared.record.Pack.{Pack}
@@ -14,10 +15,10 @@ use Rattle.machines.specs.declared.sure.Num.{Num}
 use Rattle.machines.specs.declared.refusal.Judged.{Judged}
 use Rattle.machines.specs.Sure.{num, numberIn}
 use Rattle.machines.specs.Tables.{namesPlaced}
-use Rattle.machines.specs.Resolve.{asMachine}
-use Rattle.machines.specs.Lower.{sizeS}
-use Rattle.machines.specs.Machines as definition
-use Rattle.machines.specs.Machines.{accept, judge, refuse}
+use Rattle.machine_rules.specs.Resolve.{asMachine}
+use Rattle.machine_rules.specs.Lower.{sizeS}
+use Rattle.machine_rules.specs.Machines as definition
+use Rattle.machine_rules.specs.Machines.{accept, judge, refuse}
 use Rattle.machines.specs.Judging.{judgeAt}
 use Rattle.machines.specs.JudgedAs.{JudgedAs}
 use Rattle.machines.specs.Brought.{smallOf}

@@ -11,9 +11,9 @@ use Rattle.wire.specs.Writer.{State, put, puts}
 use Rattle.pack.specs.Syntax.{eVar}
 use Rattle.pack.specs.Intern.{putItem, putName, render}
 use Rattle.pack.proofs.Interns.{render-append}
-use Rattle.machines.specs.MadeNames.{activeVar, stateVar}
+use Rattle.machine_rules.specs.MadeNames.{activeVar, stateVar}
 use Rattle.machines.specs.Vars.{varName}
-use Rattle.machines.specs.Lower.{activeIn, held, isName, justEntered, stateRhs}
+use Rattle.machine_rules.specs.Lower.{activeIn, held, isName, justEntered, stateRhs}
 
 pub var-term : (old n : List ℕ) (s : State) → putName old n (put 1 s) ≡ render old (exprItems (eVar n)) s
 unfolding exprItems render putItem puts

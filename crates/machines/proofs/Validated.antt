@@ -12,20 +12,21 @@ use borrow.Author.Tests.{eq-eqb}
 use Rattle.wire.specs.Answer.{counted, many, u16, value}
 use Rattle.wire.proofs.Answers.{bind-value, map-value}
 use Rattle.pack.specs.Names.{Name, eqName, member}
-use Rattle.pack.specs.Syntax.{Regions, States, Transition, rCons, rNil, sCons, sNil}
+use Rattle.pack.specs.Syntax.{Transition}
+use Rattle.machine_rules.specs.Resolved.{Regions, States, rCons, rNil, sCons, sNil}
 use Rattle.pack.specs.Forms.{nameAt}
 use Rattle.pack.specs.Legal.{Fresh}
 use Rattle.pack.specs.Read.{exprIn, nameIn, transitionIn}
 use Rattle.pack.specs.Report.{Refusal, firstOf}
 use Rattle.machines.specs.declared.valid.Checked.{Checked}
 use Rattle.machines.specs.declared.valid.Checked.the-variants as ck
-use Rattle.machines.specs.Refusals.{unknownInitial, unknownTarget}
-use Rattle.machines.specs.Resolve.{prefixTransitions}
+use Rattle.machine_rules.specs.Refusals.{unknownInitial, unknownTarget}
+use Rattle.machine_rules.specs.Resolve.{prefixTransitions}
 use Rattle.machines.specs.Sure.{numberIn, with}
 use Rattle.machines.specs.Laid.{LaidR, LaidS, RegionRow, holed, lEnd, lMore, prefixOf, rEnd, rLeft, rMore, sliceOf}
 use Rattle.machines.specs.Emits.{lettersAt}
-use Rattle.machines.specs.Lower.{namesOf}
-use Rattle.machines.specs.Checks.{badInitial, badR, badS, badTarget}
+use Rattle.machine_rules.specs.Lower.{namesOf}
+use Rattle.machine_rules.specs.Checks.{badInitial, badR, badS, badTarget}
 use Rattle.machines.specs.Valid.{amongT, checkedRegion, checkedState, eachRow, hasT, movesChecked, orThen, targetsT}
 use Rattle.machines.proofs.Reading.{many-cut, many-more, many-over, name-number}
 use Rattle.machines.proofs.SureLaws.{end-to, number-num, number-to}

@@ -12,17 +12,18 @@ use Rattle.wire.specs.Answer.{counted, many, u16, value}
 use Rattle.wire.specs.Writer.{State}
 use Rattle.wire.proofs.Answers.{bind-value, map-value}
 use Rattle.pack.specs.Names.{Name}
-use Rattle.pack.specs.Syntax.{Equation, Expr, Regions, States, Transition, rCons, rNil, sCons, sNil}
+use Rattle.pack.specs.Syntax.{Equation, Expr, Transition}
+use Rattle.machine_rules.specs.Resolved.{Regions, States, rCons, rNil, sCons, sNil}
 use Rattle.pack.specs.Forms.{nameAt}
 use Rattle.pack.specs.Legal.{Fresh}
 use Rattle.pack.specs.Read.{equationIn, equationsIn, exprIn, nameIn, namesIn}
 use Rattle.pack.specs.Write.{Item, exprItems, raw}
 use Rattle.pack.specs.Intern.{render}
-use Rattle.machines.specs.MadeNames.{stateVar}
+use Rattle.machine_rules.specs.MadeNames.{stateVar}
 use Rattle.machines.specs.Stands.{StateAt, endOf}
 use Rattle.machines.specs.Sure.{numberIn, with}
 use Rattle.machines.specs.Laid.{HeldR, HeldS, RegionRow, StateRow, gEnd, gMore, hEnd, hMore, sliceOf}
-use Rattle.machines.specs.Lower.{coversR, coversS, fromOption, isName, isOnly, isSome, orElse, ownValue, sizeR, sizeS, valueR, valueS}
+use Rattle.machine_rules.specs.Lower.{coversR, coversS, fromOption, isName, isOnly, isSome, orElse, ownValue, sizeR, sizeS, valueR, valueS}
 use Rattle.machines.specs.Covers.{uncoveredT}
 use Rattle.machines.specs.Emits.{lastOr, packName, testT}
 use Rattle.machines.specs.Values.{Peopled, WholeR, WholeS, enteredT, givingFrom, inStateT, sideBytes, sideFrom, sideT, valueT, valuesT}

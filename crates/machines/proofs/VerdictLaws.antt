@@ -7,10 +7,11 @@ use Prim.Native.Nat.{ℕ}
 use native.Mathlib.Omega.{arith}
 use lib.ListN.{length}
 use Rattle.pack.specs.Names.{Name, member}
-use Rattle.pack.specs.Syntax.{Drawing, Machine, Package}
+use Rattle.pack.specs.Syntax.{Drawing, Package}
+use Rattle.machine_rules.specs.Resolved.{Machine}
 use Rattle.pack.specs.Report.{Refusal}
-use Rattle.machines.specs.Refusals.{unknownOwner}
-use Rattle.machines.specs.Machines.{Judged, accept, judge, madeMachines, refuse}
+use Rattle.machine_rules.specs.Refusals.{unknownOwner}
+use Rattle.machine_rules.specs.Machines.{Judged, accept, judge, madeMachines, refuse}
 use Rattle.machines.specs.Sections.{fateOf, fateThen, fates, into, namesWith, nodeNames, shareOf, shares, sharesOf}
 use Rattle.machines.specs.Judges.{namesThen, refusals, refusedIn}
 use Rattle.machines.specs.Verdicts.{AcceptedAs, Told, ToldOf, Verdict, allGo, goesAs, refusedFor, refusedOnly, verdictIn, verdicts}

@@ -12,7 +12,8 @@ use Rattle.wire.specs.Answer.{counted, many, u16, value}
 use Rattle.wire.proofs.Answers.{bind-value, map-value}
 use Rattle.pack.specs.Limits.{absent, maxName, maxStates}
 use Rattle.pack.specs.Names.{Name, eqName, member}
-use Rattle.pack.specs.Syntax.{Drawing, Equation, Regions, States, Transition}
+use Rattle.pack.specs.Syntax.{Drawing, Equation, Transition}
+use Rattle.machine_rules.specs.Resolved.{Regions, States}
 use Rattle.pack.specs.Forms.{nameAt}
 use Rattle.pack.specs.Legal.{Fresh}
 use Rattle.pack.specs.Read.{equationsIn, exprIn, nameIn, transitionIn}
@@ -21,8 +22,8 @@ use Rattle.pack.proofs.Tables.{eqName-true}
 use Rattle.machines.specs.declared.path.Path.{Path}
 use Rattle.machines.specs.declared.walk.Walked.{Walked}
 use Rattle.machines.specs.declared.walk.Walked.the-variants as wk
-use Rattle.machines.specs.Refusals.{tooLarge}
-use Rattle.machines.specs.Resolve.{Target, Walk, arrive, asTarget, machineOf, prefixS, shortName, shortR, shortS, shortTargets, snoc, stop, walkOn, went, withTarget}
+use Rattle.machine_rules.specs.Refusals.{tooLarge}
+use Rattle.machine_rules.specs.Resolve.{Target, Walk, arrive, asTarget, machineOf, prefixS, shortName, shortR, shortS, shortTargets, snoc, stop, walkOn, went, withTarget}
 use Rattle.machines.specs.Stands.{StateAt}
 use Rattle.machines.specs.Sure.{num, numberIn, turns, with}
 use Rattle.machines.specs.Tables.{lenOf}

@@ -10,7 +10,8 @@ use lib.Dec.{leb}
 use borrow.Author.Tests.{le-leb}
 use Rattle.pack.specs.Limits.{maxLevel, maxName}
 use Rattle.pack.specs.Names.{Name}
-use Rattle.pack.specs.Syntax.{Drawing, Package, States}
+use Rattle.pack.specs.Syntax.{Drawing, Package}
+use Rattle.machine_rules.specs.Resolved.{States}
 use Rattle.pack.specs.Forms.{nameAt}
 use Rattle.pack.specs.Read.{stateAt}
 use Rattle.pack.specs.Report.{Refusal}
@@ -18,7 +19,7 @@ use Rattle.pack.specs.Verdict.{Stands}
 use Rattle.pack.specs.declared.record.Pack.{Pack}
 use Rattle.machines.specs.declared.walk.Walked.{Walked}
 use Rattle.machines.specs.declared.walk.Walked.the-variants as wk
-use Rattle.machines.specs.Resolve.{Walk, refineAt, resolveS, resolvedStates, shortS, stop, went}
+use Rattle.machine_rules.specs.Resolve.{Walk, refineAt, resolveS, resolvedStates, shortS, stop, went}
 use Rattle.machines.specs.Stands.{StandsS}
 use Rattle.machines.specs.Sure.{machineFrom}
 use Rattle.machines.specs.Tables.{lenOf, machinesPlaced, namesPlaced}

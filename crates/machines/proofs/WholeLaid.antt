@@ -4,7 +4,7 @@ use mathlib.Core.List.{List}
 use mathlib.Core.Bool.{Bool}
 use mathlib.Core.Path.{_≡_, refl, sym, _∙_}
 use Rattle.pack.specs.Names.{Name}
-use Rattle.pack.specs.Syntax.{Regions, States, rCons, rNil, sCons, sNil}
+use Rattle.machine_rules.specs.Resolved.{Regions, States, rCons, rNil, sCons, sNil}
 use Rattle.machines.specs.Laid.{LaidR, LaidS, holed, lEnd, lMore, rEnd, rLeft, rMore}
 use Rattle.machines.specs.Values.{Peopled, WholeR, WholeS}
 

@@ -16,7 +16,7 @@ use Rattle.machines.specs.Stands.{endOf}
 use Rattle.machines.specs.Sure.{byteIn, numberIn, with}
 use Rattle.machines.specs.Tables.{outputsIn}
 use Rattle.machines.specs.Laid.{sliceOf}
-use Rattle.machines.specs.Lower.{regionLocals}
+use Rattle.machine_rules.specs.Lower.{regionLocals}
 use Rattle.machines.specs.Locals.{innerLocals}
 use Rattle.machines.specs.Emits.{packName}
 

@@ -1,6 +1,6 @@
 -- How much room the layout of a resolved machine takes.
 use Prim.Native.Nat.{ℕ, suc, _+_}
-use Rattle.pack.specs.Syntax.{Regions, States, rCons, rNil, sCons, sNil}
+use Rattle.machine_rules.specs.Resolved.{Regions, States, rCons, rNil, sCons, sNil}
 
 -- how many states, those in regions among them: what the limit of 512 counts
 unfoldable mutual

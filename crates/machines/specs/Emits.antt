@@ -12,11 +12,11 @@ use Rattle.pack.specs.Syntax.{eVar}
 use Rattle.pack.specs.Forms.{flagOf}
 use Rattle.pack.specs.Read.{exprIn}
 use Rattle.pack.specs.Write.{Item, equationItems, exprItems, list, nameItems, nm, raw}
-use Rattle.machines.specs.MadeNames.{activeVar, enumName, nextVar, stateVar}
+use Rattle.machine_rules.specs.MadeNames.{activeVar, enumName, nextVar, stateVar}
 use Rattle.machines.specs.Stands.{endOf}
 use Rattle.machines.specs.Sure.{numberIn, with}
 use Rattle.machines.specs.Laid.{prefixOf, sliceOf}
-use Rattle.machines.specs.Lower.{isName}
+use Rattle.machine_rules.specs.Lower.{isName}
 use Rattle.machines.specs.Equations.{activeEquation, stateEquation}
 
 -- the name of an index, where the table says that it stands

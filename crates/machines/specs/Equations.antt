@@ -4,8 +4,8 @@ use mathlib.Core.List.{[], _∷_}
 use mathlib.Core.Bool.{Bool}
 use Rattle.pack.specs.Names.{Name}
 use Rattle.pack.specs.Syntax.{Equation}
-use Rattle.machines.specs.MadeNames.{activeVar, stateVar}
-use Rattle.machines.specs.Lower.{activeIn, stateRhs}
+use Rattle.machine_rules.specs.MadeNames.{activeVar, stateVar}
+use Rattle.machine_rules.specs.Lower.{activeIn, stateRhs}
 
 -- the first of an inner region
 unfoldable pub activeEquation : ℕ → Bool → ℕ → Name → Equation

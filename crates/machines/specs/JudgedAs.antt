@@ -5,8 +5,8 @@ use mathlib.Core.Path.{_≡_}
 use Rattle.pack.specs.Syntax.{Drawing}
 use Rattle.pack.specs.Report.{Refusal, entries}
 use Rattle.machines.specs.declared.refusal.Judged.{Judged}
-use Rattle.machines.specs.Machines as definition
-use Rattle.machines.specs.Machines.{accept, refuse}
+use Rattle.machine_rules.specs.Machines as definition
+use Rattle.machine_rules.specs.Machines.{accept, refuse}
 use Rattle.machines.specs.Entries.{entryBytes}
 use Rattle.machines.specs.Verdicts.{AcceptedAs}
 

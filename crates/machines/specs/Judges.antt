@@ -5,8 +5,8 @@ use mathlib.Core.Option.{Option, none, some}
 use Rattle.pack.specs.Names.{Name, member}
 use Rattle.pack.specs.Syntax.{Drawing}
 use Rattle.pack.specs.Report.{Refusal}
-use Rattle.machines.specs.Refusals.{unknownOwner}
-use Rattle.machines.specs.Machines.{Judged, accept, judge, refuse}
+use Rattle.machine_rules.specs.Refusals.{unknownOwner}
+use Rattle.machine_rules.specs.Machines.{Judged, accept, judge, refuse}
 
 -- of one machine, where nodes of these names have been made: an owner is looked for after lowering
 unfoldable pub refusedIn : List Name → Option Name → Judged → List Refusal

@@ -1,7 +1,4 @@
-pub mod Refusals
-pub mod MadeNames
 pub mod Vars
-pub mod Resolve
 pub mod Stands
 pub mod Sure
 pub mod Tables
@@ -16,14 +13,11 @@ pub mod Valid
 pub mod Repeats
 pub mod Marks
 pub mod Counts
-pub mod Lower
 pub mod Locals
 pub mod Equations
 pub mod Emits
 pub mod Values
 pub mod Entries
-pub mod Checks
-pub mod Machines
 pub mod Sections
 pub mod Judging
 pub mod Verdicts
@@ -37,4 +31,3 @@ pub mod Reporting
 pub mod Filled
 pub mod Parts
 pub mod Judges
-pub mod Call

@@ -4,8 +4,8 @@ use mathlib.Core.List.{List, [], _∷_, _++_}
 use Rattle.machines.specs.declared.made.Var.{Var}
 use Rattle.pack.specs.Names.{Name}
 use Rattle.pack.specs.Syntax.{Port, tBool, tNamed}
-use Rattle.machines.specs.MadeNames.{activeVar, enumName}
-use Rattle.machines.specs.Lower.{regionLocals}
+use Rattle.machine_rules.specs.MadeNames.{activeVar, enumName}
+use Rattle.machine_rules.specs.Lower.{regionLocals}
 use Rattle.machines.specs.Vars.{varName}
 
 -- a region's state or next state, of the region's enum

@@ -6,7 +6,7 @@ use Rattle.pack.specs.Names.{Name}
 use Rattle.pack.specs.Syntax.{Node}
 use Rattle.pack.specs.Write.{Item, each, kindByte, list, nm, portItems, raw}
 use Rattle.machines.specs.Sure.{numberIn, with}
-use Rattle.machines.specs.Lower.{localsOf}
+use Rattle.machine_rules.specs.Lower.{localsOf}
 use Rattle.machines.specs.Sections.{Share, bringsItems, broughtCount, continued, localCount}
 use Rattle.machines.specs.Laid.{sliceOf}
 use Rattle.machines.specs.Brought.{bringsLocalsT, broughtLocalsT, eachT, localsIn, nodeEquationsIn, nodeLocalsIn, smallOf, totalT}

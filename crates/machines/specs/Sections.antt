@@ -9,10 +9,11 @@ use lib.Dec.{eqb}
 use Rattle.wire.specs.Bytes.{two}
 use Rattle.pack.specs.Names.{Name}
 use Rattle.pack.specs.Legal.{Known, place}
-use Rattle.pack.specs.Syntax.{Drawing, Enum, Machine, Node, Origin, Package, kOperator, ofMachine}
+use Rattle.pack.specs.Syntax.{Drawing, Enum, Node, Origin, Package, kOperator, ofMachine}
+use Rattle.machine_rules.specs.Resolved.{Machine}
 use Rattle.pack.specs.Write.{Item, activationItems, each, enumItems, equationItems, kindByte, list, nm, originItems, portItems, raw}
-use Rattle.machines.specs.Lower.{enumsOf, equationsOf, localsOf, sizeS}
-use Rattle.machines.specs.Machines.{Judged, accept, extend, extendIn, judge, nodeFrom, nodeNamed, originOf, refuse}
+use Rattle.machine_rules.specs.Lower.{enumsOf, equationsOf, localsOf, sizeS}
+use Rattle.machine_rules.specs.Machines.{Judged, accept, extend, extendIn, judge, nodeFrom, nodeNamed, originOf, refuse}
 
 -- what becomes of a machine: a node of its own, or a part of the owner of that name
 pub data Fate : Type 0 where

@@ -7,14 +7,15 @@ use lib.ListN.{length, getD}
 use Rattle.wire.specs.Answer.{value}
 use Rattle.wire.specs.Lists.{All, Bytes}
 use Rattle.pack.specs.Names.{Name}
-use Rattle.pack.specs.Syntax.{Drawing, States}
+use Rattle.pack.specs.Syntax.{Drawing}
+use Rattle.machine_rules.specs.Resolved.{States}
 use Rattle.pack.specs.Forms.{nameAt}
 use Rattle.pack.specs.Legal.{Fresh, LegalName}
 use Rattle.pack.specs.Read.{machineIn}
 use Rattle.pack.specs.Write.{enc}
-use Rattle.machines.specs.Resolve.{asMachine, resolvedStates, went}
-use Rattle.machines.specs.Lower.{sizeS}
-use Rattle.machines.specs.Checks.{refusalOf}
+use Rattle.machine_rules.specs.Resolve.{asMachine, resolvedStates, went}
+use Rattle.machine_rules.specs.Lower.{sizeS}
+use Rattle.machine_rules.specs.Checks.{refusalOf}
 use Rattle.machines.specs.Emits.{packName}
 use Rattle.machines.specs.Sections.{Share, fateOf}
 

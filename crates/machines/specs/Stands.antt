@@ -7,10 +7,11 @@ use lib.ListN.{length}
 use Rattle.wire.specs.Answer.{Answer, below, counted, deep, early, illegal, u16, value}
 use Rattle.pack.specs.Limits.{absent}
 use Rattle.pack.specs.Names.{Name}
-use Rattle.pack.specs.Syntax.{Equation, Regions, States, Transition, rCons, rNil, sCons, sNil}
+use Rattle.pack.specs.Syntax.{Equation, Transition}
+use Rattle.machine_rules.specs.Resolved.{Regions, States, rCons, rNil, sCons, sNil}
 use Rattle.pack.specs.Forms.{flagOf}
 use Rattle.pack.specs.Read.{equationsIn, nameIn, stateAt, transitionIn}
-use Rattle.machines.specs.Resolve.{prefixTransitions}
+use Rattle.machine_rules.specs.Resolve.{prefixTransitions}
 
 -- a state's fields up to its regions: k of them, from b on
 pub record StateAt (ns : List Name) (s : List ℕ) (at : ℕ) (nm : Name) (es : List Equation) (ts : List Transition) (k b : ℕ) : Type 0 where

@@ -8,7 +8,7 @@ use lib.Dec.{eqb}
 use Rattle.wire.specs.Bytes.{two}
 use Rattle.pack.specs.Limits.{maxLevel}
 use Rattle.pack.specs.Names.{Name}
-use Rattle.pack.specs.Syntax.{Regions, States, rCons, rNil, sCons, sNil}
+use Rattle.machine_rules.specs.Resolved.{Regions, States, rCons, rNil, sCons, sNil}
 use Rattle.pack.specs.Read.{equationIn, exprIn, portIn}
 use Rattle.pack.specs.Write.{Item, raw}
 use Rattle.machines.specs.Stands.{endOf}

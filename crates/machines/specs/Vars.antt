@@ -3,7 +3,7 @@ use Prim.Native.Nat.{ℕ}
 use Rattle.pack.specs.Names.{Name}
 use Rattle.machines.specs.declared.made.Var.{Var}
 use Rattle.machines.specs.declared.made.Var.the-variants as vr
-use Rattle.machines.specs.MadeNames.{stateVar, nextVar, activeVar}
+use Rattle.machine_rules.specs.MadeNames.{stateVar, nextVar, activeVar}
 
 unfoldable pub varName : Var → ℕ → Name
 varName vr.State id = stateVar id

@@ -8,16 +8,17 @@ use lib.ListN.{length, getD}
 use Rattle.wire.specs.Answer.{value}
 use Rattle.pack.specs.Limits.{absent}
 use Rattle.pack.specs.Names.{Name, member}
-use Rattle.pack.specs.Syntax.{Drawing, Machine, Package, States}
+use Rattle.pack.specs.Syntax.{Drawing, Package}
+use Rattle.machine_rules.specs.Resolved.{Machine, States}
 use Rattle.pack.specs.Forms.{nameAt}
 use Rattle.pack.specs.Read.{machineIn}
 use Rattle.pack.specs.Report.{Refusal}
 use Rattle.pack.specs.Write.{enc}
-use Rattle.machines.specs.Refusals.{unknownOwner}
-use Rattle.machines.specs.Resolve.{asMachine, resolvedStates, went}
-use Rattle.machines.specs.Lower.{sizeS}
-use Rattle.machines.specs.Checks.{refusalOf}
-use Rattle.machines.specs.Machines.{Judged, accept, judge, refuse}
+use Rattle.machine_rules.specs.Refusals.{unknownOwner}
+use Rattle.machine_rules.specs.Resolve.{asMachine, resolvedStates, went}
+use Rattle.machine_rules.specs.Lower.{sizeS}
+use Rattle.machine_rules.specs.Checks.{refusalOf}
+use Rattle.machine_rules.specs.Machines.{Judged, accept, judge, refuse}
 use Rattle.machines.specs.Sections.{Share, alone, into, nodeNames, shareOf}
 use Rattle.machines.specs.Judges.{namesThen}
 use Rattle.machines.specs.Shown.{LoweredAt}

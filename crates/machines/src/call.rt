@@ -38,7 +38,7 @@ ghost use Rattle.machines.specs.Parts.{sectionsT};
 ghost use Rattle.machines.specs.Settling.{refusedT};
 ghost use Rattle.machines.specs.Reporting.{EntersAll, bytesT, ofRefused};
 ghost use Rattle.machines.specs.Filled.{Answers, Empty, Filled, OpenedAs, Reports, machineCount};
-ghost use Rattle.machines.specs.Call.{lowerMachines, machinesOf};
+ghost use Rattle.machine_rules.specs.Call.{lowerMachines, machinesOf};
 
 // Fills the tables: names, machines by name, and for each machine where it is drawn, its regions and its node. How many
 // machines are refused.

@@ -9,7 +9,7 @@ ghost use Prim.Native.Nat.{_+_, _<_};
 ghost use Rattle.wire.specs.Writer.{stateOf};
 ghost use Rattle.pack.specs.Write.{portItems, each};
 ghost use Rattle.pack.specs.Intern.{render};
-ghost use Rattle.machines.specs.Lower.{regionLocals};
+ghost use Rattle.machine_rules.specs.Lower.{regionLocals};
 ghost use Rattle.machines.specs.Locals.{statePort, activePort, innerLocals};
 
 // A region's state or next state: its type is the region's enum.

@@ -9,7 +9,7 @@ ghost use Prim.Native.Nat.{ℕ};
 ghost use Rattle.wire.specs.Decimal.{decimal};
 ghost use Rattle.wire.specs.Writer.{stateOf, puts};
 ghost use Rattle.pack.specs.Intern.{putName};
-ghost use Rattle.machines.specs.MadeNames.{regionPrefix, enumName};
+ghost use Rattle.machine_rules.specs.MadeNames.{regionPrefix, enumName};
 ghost use Rattle.machines.specs.Vars.{varName};
 
 // A variable made for a region.

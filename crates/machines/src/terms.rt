@@ -10,8 +10,8 @@ ghost use Rattle.wire.specs.Writer.{stateOf};
 ghost use Rattle.pack.specs.Syntax.{eVar};
 ghost use Rattle.pack.specs.Write.{exprItems};
 ghost use Rattle.pack.specs.Intern.{render};
-ghost use Rattle.machines.specs.MadeNames.{stateVar};
-ghost use Rattle.machines.specs.Lower.{isName, held, justEntered, stateRhs, activeIn};
+ghost use Rattle.machine_rules.specs.MadeNames.{stateVar};
+ghost use Rattle.machine_rules.specs.Lower.{isName, held, justEntered, stateRhs, activeIn};
 ghost use Rattle.machines.specs.Vars.{varName};
 
 // A region's variable.

@@ -1,4 +1,4 @@
--- A package as trees: types, expressions, equations, nodes, machines drawn and resolved, activations, origins.
+-- A package as trees: types, expressions, equations, nodes, machines as they are drawn, activations, origins.
 -- A list of subtrees is a type of its own (antt has no nested recursion).
 use mathlib.Core.List.{List}
 use mathlib.Core.Bool.{Bool}
@@ -75,27 +75,8 @@ pub record Enum : Type 0 where
   pub name : Name
   pub variants : List Name
 
--- A list of states: name, equations, transitions, regions, and the states that follow.
--- A list of regions: initial state, history, states, and the regions that follow.
-mutual
-  pub data States : Type 0 where
-    sNil : States
-    sCons : Name → List Equation → List Transition → Regions → States → States
-
-  pub data Regions : Type 0 where
-    rNil : Regions
-    rCons : Name → Bool → States → Regions → Regions
-
--- a machine whose refinements are resolved
-pub record Machine : Type 0 where
-  pub name : Name
-  pub inputs : List Port
-  pub outputs : List Port
-  pub locals : List Port
-  pub initial : Name
-  pub states : States
-
 -- machines as they are drawn. States: name, equations, transitions, regions, refinement, and the states that follow.
+-- Regions: initial state, history, states, and the regions that follow.
 mutual
   pub data Drawn : Type 0 where
     dNil : Drawn

@@ -2,9 +2,10 @@
 use mathlib.Core.List.{List, [], _∷_}
 use mathlib.Core.Bool.{Bool, true, false, not, _&&_, _||_}
 use Rattle.pack.specs.Names.{Name, member}
-use Rattle.pack.specs.Syntax.{Activation, Branch, Equation, Machine, Port, Regions, States, Transition, rCons, rNil, sCons, sNil}
-use Rattle.machines.specs.Checks.{allNamesS}
-use Rattle.machines.specs.Lower.{coversS, isOnly, namesOf}
+use Rattle.pack.specs.Syntax.{Activation, Branch, Equation, Port, Transition}
+use Rattle.machine_rules.specs.Resolved.{Machine, Regions, States, rCons, rNil, sCons, sNil}
+use Rattle.machine_rules.specs.Checks.{allNamesS}
+use Rattle.machine_rules.specs.Lower.{coversS, isOnly, namesOf}
 
 -- the checks: initial states and targets are states of their region; each output is covered; no name twice
 unfoldable pub allTargets : List Name → List Transition → Bool

@@ -9,16 +9,16 @@ use lib.ListN.{length}
 use Rattle.pack.specs.Names.{Name}
 use Rattle.pack.specs.Syntax.{Activation, Branch, Equation, Expr, Port}
 use Rattle.pack.proofs.Tables.{eqName-true}
-use Rattle.machines.specs.Lower.{isOnly}
-use Rattle.activations.specs.Clocks.{guardEquations}
-use Rattle.activations.specs.Defines.{eqn, firstLeft}
-use Rattle.activations.specs.Flags.{flagEquations}
-use Rattle.activations.specs.Lower.{actEquations, tailOf}
-use Rattle.activations.specs.MadeNames.{Scope, actPrefix, branch, other, valueVar}
-use Rattle.activations.specs.Merges.{mergeEquations, mergeFrom}
-use Rattle.activations.specs.Samples.{dropIn, sampleEquations}
-use Rattle.activations.specs.Scopes.{branchEquations, rewritten, scopeEquations, scopeReads}
-use Rattle.activations.specs.Unlast.{conditionsOf, unlast}
+use Rattle.machine_rules.specs.Lower.{isOnly}
+use Rattle.activation_rules.specs.Clocks.{guardEquations}
+use Rattle.activation_rules.specs.Defines.{eqn, firstLeft}
+use Rattle.activation_rules.specs.Flags.{flagEquations}
+use Rattle.activation_rules.specs.Lower.{actEquations, tailOf}
+use Rattle.activation_rules.specs.MadeNames.{Scope, actPrefix, branch, other, valueVar}
+use Rattle.activation_rules.specs.Merges.{mergeEquations, mergeFrom}
+use Rattle.activation_rules.specs.Samples.{dropIn, sampleEquations}
+use Rattle.activation_rules.specs.Scopes.{branchEquations, rewritten, scopeEquations, scopeReads}
+use Rattle.activation_rules.specs.Unlast.{conditionsOf, unlast}
 use Rattle.runs.specs.Premises.{ActPremises, portsPresent, present, startsWith}
 use Rattle.runs.specs.Run.{Clock, Run, agrees, clockOf, eval, sameClock, satisfies}
 use Rattle.runs.specs.Scopes.{Conditions, OutputGiven, OutputsGiven, choice, chosen, eqScope, givenBy, scopeClock, scopeIn}

@@ -5,15 +5,15 @@ use mathlib.Core.Option.{Option, none, some}
 use mathlib.Core.Path.{_≡_, refl, sym, ap, subst, _∙_}
 use Rattle.pack.specs.Report.{Refusal}
 use Rattle.pack.specs.Syntax.{Activation, Enum, Equation, Node, Package, Port, ofActivation}
-use Rattle.machines.specs.Machines.{Made, nodeNamed, originOf, start}
-use Rattle.activations.specs.Activations.{activateEach, into, madeActivations, owned, withoutActivations}
-use Rattle.activations.specs.Checks.{branchNames, checks, elseName}
-use Rattle.activations.specs.EmptyLeft.{leftlessIn}
-use Rattle.activations.specs.Holders.{Holding, held, hold, unheld}
-use Rattle.activations.specs.Lower.{Lowered, actEquations, actLocals, lowered, make, makes, refuse, unless, withHolders}
-use Rattle.activations.specs.Refusals.{emptyLeft, unknownOwner}
-use Rattle.activations.specs.Sought.{expressions, found}
-use Rattle.activations.specs.Types.{sampleType, valueType, variables}
+use Rattle.machine_rules.specs.Machines.{Made, nodeNamed, originOf, start}
+use Rattle.activation_rules.specs.Activations.{activateEach, into, madeActivations, owned, withoutActivations}
+use Rattle.activation_rules.specs.Checks.{branchNames, checks, elseName}
+use Rattle.activation_rules.specs.EmptyLeft.{leftlessIn}
+use Rattle.activation_rules.specs.Holders.{Holding, held, hold, unheld}
+use Rattle.activation_rules.specs.Lower.{Lowered, actEquations, actLocals, lowered, make, makes, refuse, unless, withHolders}
+use Rattle.activation_rules.specs.Refusals.{emptyLeft, unknownOwner}
+use Rattle.activation_rules.specs.Sought.{expressions, found}
+use Rattle.activation_rules.specs.Types.{sampleType, valueType, variables}
 use Rattle.activations.proofs.Joined.{activations-enums}
 use Rattle.runs.specs.Claim.{mayRead}
 use Rattle.runs.specs.Standing.{Block, activationsBefore}

@@ -9,9 +9,9 @@ use Rattle.pack.specs.Outcome.{Outcome, writes}
 use Rattle.pack.specs.Syntax.{Activation, Node, Package, eCall, eVar, kOperator, tBool, xCons, xNil}
 use Rattle.pack.specs.Write.{encode}
 use Rattle.pack.proofs.WrittenBack.{small-bytes}
-use Rattle.machines.specs.Call.{lowerMachines}
-use Rattle.activations.specs.Call.{lowerActivations}
-use Rattle.activations.specs.LastCalls.{lastName}
+use Rattle.machine_rules.specs.Call.{lowerMachines}
+use Rattle.activation_rules.specs.Call.{lowerActivations}
+use Rattle.activation_rules.specs.LastCalls.{lastName}
 use Rattle.runs.specs.Claim.{MachinesKept}
 use Rattle.runs.proofs.BothLowered.{both-lowered}
 use Rattle.runs.proofs.Computing.{machinesNumber, packIn, secondNumber, secondSmall, small}

@@ -11,11 +11,12 @@ use Rattle.wire.specs.Lists.{Bytes}
 use Rattle.wire.proofs.Writers.{lt-or-le}
 use Rattle.pack.specs.Names.{Name}
 use Rattle.pack.specs.Outcome.{writes}
-use Rattle.pack.specs.Syntax.{Equation, Machine, Node, Origin, OriginKind, Package}
-use Rattle.machines.specs.Lower.{equationsOf}
-use Rattle.machines.specs.Machines.{Made, start}
-use Rattle.machines.specs.Resolve.{asMachine}
-use Rattle.activations.specs.Call.{lowerActivations}
+use Rattle.pack.specs.Syntax.{Equation, Node, Origin, OriginKind, Package}
+use Rattle.machine_rules.specs.Resolved.{Machine}
+use Rattle.machine_rules.specs.Lower.{equationsOf}
+use Rattle.machine_rules.specs.Machines.{Made, start}
+use Rattle.machine_rules.specs.Resolve.{asMachine}
+use Rattle.activation_rules.specs.Call.{lowerActivations}
 use Rattle.runs.specs.Claim.{MachinesKept, MachinesLowered}
 use Rattle.runs.specs.Run.{Run, satisfies}
 use Rattle.runs.specs.Standing.{Block, Stands, entry, equationsFrom, machineStanding, machinesBefore, slice}

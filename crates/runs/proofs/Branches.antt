@@ -8,8 +8,8 @@ use mathlib.Core.Path.{refl}
 use Rattle.wire.specs.Decimal.{decimal, digits}
 use Rattle.pack.specs.Names.{Name, member}
 use Rattle.pack.specs.Syntax.{Activation, Equation, Expr, Node, Package, Port, eArrow, eCall, eConst, ePre, eVar, kOperator, lBool, tBool, xCons, xNil}
-use Rattle.activations.specs.LastCalls.{lastName}
-use Rattle.activations.specs.MadeNames.{actPrefix, branch, clockVar, flagVar, lastInfix, lastVar, madeName, noneVar, other, sampleVar, tag, valueVar}
+use Rattle.activation_rules.specs.LastCalls.{lastName}
+use Rattle.activation_rules.specs.MadeNames.{actPrefix, branch, clockVar, flagVar, lastInfix, lastVar, madeName, noneVar, other, sampleVar, tag, valueVar}
 use Rattle.runs.specs.Claim.{mayRead}
 use Rattle.runs.specs.Run.{Run, ifValue}
 use Rattle.runs.specs.Scopes.{OutputsGiven}

@@ -7,8 +7,8 @@ use mathlib.Core.Path.{_≡_, refl, sym, ap, ap₂, _∙_}
 use lib.ListN.{length, length-append}
 use lib.Seq.{drop-at}
 use Rattle.pack.specs.Names.{Name, eqName}
-use Rattle.pack.specs.Syntax.{Machine, Regions, States, rCons, rNil, sCons, sNil}
-use Rattle.machines.specs.Lower.{sizeR, sizeS}
+use Rattle.machine_rules.specs.Resolved.{Machine, Regions, States, rCons, rNil, sCons, sNil}
+use Rattle.machine_rules.specs.Lower.{sizeR, sizeS}
 use Rattle.runs.specs.Chart.{Guards, Kept, Turn, atFirst, cycle, firstKept, foundIn, founds, keptIn, kepts, startR, startS, topOf, turn, turnsR, turnsS}
 use Rattle.runs.specs.Words.{always, within}
 use Rattle.runs.proofs.Streams.{chart, chartR, chartS, foundAt, keptAt, topFound}

@@ -7,8 +7,8 @@ use mathlib.Core.Path.{_≡_, refl}
 use Rattle.wire.specs.Decimal.{decimal, digits}
 use Rattle.pack.specs.Forms.{nameAt}
 use Rattle.pack.specs.Names.{Name}
-use Rattle.machines.specs.MadeNames.{activeVar, nextVar, smPrefix, stateVar}
-use Rattle.machines.specs.Resolve.{asMachine}
+use Rattle.machine_rules.specs.MadeNames.{activeVar, nextVar, smPrefix, stateVar}
+use Rattle.machine_rules.specs.Resolve.{asMachine}
 use Rattle.runs.specs.Run.{eval, ifValue}
 use Rattle.runs.proofs.Computing.{finding}
 use Rattle.runs.proofs.Nested.{P, Q, nested, run, states, table}
@@ -17,10 +17,10 @@ use Rattle.runs.proofs.RunTables.{cellAt, inStates, look, tableRun, tru
 use Rattle.pack.specs.Limits.{maxBytes}
 use Rattle.pack.specs.Outcome.{Outcome, reports, writes}
 use Rattle.pack.specs.Syntax.{Expr, eConst, lBool}
-use Rattle.activations.specs.MadeNames.{Scope, branch}
-use Rattle.activations.proofs.Computed as acts
+use Rattle.activation_rules.specs.MadeNames.{Scope, branch}
+use Rattle.activation_rules.proofs.Computed as acts
 use Rattle.runs.specs.Scopes.{choice}
-use Rattle.runs.proofs.MachinesComputed.{machinesGiven}
+use Rattle.machine_rules.proofs.Computed.{machinesGiven}
 
 -- a pack, and what its two lowerings answer with buffers of 65,536 bytes; the nested region's history, and the states that the plain
 -- chart finds it in, in cycles 0 to 3; how many conditions there are, all true, and the

@@ -10,12 +10,12 @@ use lib.Dec.{eqb}
 use lib.ListN.{length}
 use Rattle.pack.specs.Names.{Name}
 use Rattle.pack.specs.Syntax.{Expr, eUnary, eVar, oNot}
-use Rattle.activations.specs.Clocks.{guardEquations, onto, under}
-use Rattle.activations.specs.Defines.{eqn}
-use Rattle.activations.specs.Flags.{andAlso, flagEquations}
-use Rattle.activations.specs.Lower.{tailOf}
-use Rattle.activations.specs.MadeNames.{Scope, actPrefix, branch, clockVar, flagVar, madeName, noneVar, other, valueVar}
-use Rattle.activations.specs.Merges.{mergeFrom}
+use Rattle.activation_rules.specs.Clocks.{guardEquations, onto, under}
+use Rattle.activation_rules.specs.Defines.{eqn}
+use Rattle.activation_rules.specs.Flags.{andAlso, flagEquations}
+use Rattle.activation_rules.specs.Lower.{tailOf}
+use Rattle.activation_rules.specs.MadeNames.{Scope, actPrefix, branch, clockVar, flagVar, madeName, noneVar, other, valueVar}
+use Rattle.activation_rules.specs.Merges.{mergeFrom}
 use Rattle.runs.specs.Premises.{conditionsAre, present, startsWith}
 use Rattle.runs.specs.Run.{Clock, Run, Value, agrees, binary, binaryValue, bools, clockOf, eval, every, fits, ifValue, isBool, isPresent, notValue, sameClock, satisfies, sub, unary, vBool}
 use Rattle.runs.specs.Scopes.{Conditions, choice, eqScope}

@@ -15,36 +15,36 @@ use Rattle.pack.specs.Read
 use Rattle.pack.specs.Write
 use Rattle.pack.specs.Report
 use Rattle.pack.specs.Outcome
-use Rattle.machines.specs.Refusals
-use Rattle.machines.specs.MadeNames
-use Rattle.machines.specs.Resolve
-use Rattle.machines.specs.Lower
-use Rattle.machines.specs.Checks
-use Rattle.machines.specs.Machines
-use Rattle.machines.specs.Call
-use Rattle.activations.specs.Refusals as ActRefusals
-use Rattle.activations.specs.MadeNames as ActNames
-use Rattle.activations.specs.LastCalls
-use Rattle.activations.specs.Misused
-use Rattle.activations.specs.Sought
-use Rattle.activations.specs.Unlast
-use Rattle.activations.specs.Reads
-use Rattle.activations.specs.Renames
-use Rattle.activations.specs.Pins
-use Rattle.activations.specs.Defines
-use Rattle.activations.specs.Flags
-use Rattle.activations.specs.Clocks
-use Rattle.activations.specs.Samples
-use Rattle.activations.specs.Scopes
-use Rattle.activations.specs.Merges
-use Rattle.activations.specs.Types
-use Rattle.activations.specs.Defaults
-use Rattle.activations.specs.Holders
-use Rattle.activations.specs.Checks as ActChecks
-use Rattle.activations.specs.EmptyLeft
-use Rattle.activations.specs.Lower as ActLower
-use Rattle.activations.specs.Activations
-use Rattle.activations.specs.Call as ActCall
+use Rattle.machine_rules.specs.Refusals
+use Rattle.machine_rules.specs.MadeNames
+use Rattle.machine_rules.specs.Resolve
+use Rattle.machine_rules.specs.Lower
+use Rattle.machine_rules.specs.Checks
+use Rattle.machine_rules.specs.Machines
+use Rattle.machine_rules.specs.Call
+use Rattle.activation_rules.specs.Refusals as ActRefusals
+use Rattle.activation_rules.specs.MadeNames as ActNames
+use Rattle.activation_rules.specs.LastCalls
+use Rattle.activation_rules.specs.Misused
+use Rattle.activation_rules.specs.Sought
+use Rattle.activation_rules.specs.Unlast
+use Rattle.activation_rules.specs.Reads
+use Rattle.activation_rules.specs.Renames
+use Rattle.activation_rules.specs.Pins
+use Rattle.activation_rules.specs.Defines
+use Rattle.activation_rules.specs.Flags
+use Rattle.activation_rules.specs.Clocks
+use Rattle.activation_rules.specs.Samples
+use Rattle.activation_rules.specs.Scopes
+use Rattle.activation_rules.specs.Merges
+use Rattle.activation_rules.specs.Types
+use Rattle.activation_rules.specs.Defaults
+use Rattle.activation_rules.specs.Holders
+use Rattle.activation_rules.specs.Checks as ActChecks
+use Rattle.activation_rules.specs.EmptyLeft
+use Rattle.activation_rules.specs.Lower as ActLower
+use Rattle.activation_rules.specs.Activations
+use Rattle.activation_rules.specs.Call as ActCall
 use Rattle.runs.specs.Run
 use Rattle.runs.specs.Chart
 use Rattle.runs.specs.Premises
@@ -56,19 +56,20 @@ use Rattle.pack.proofs.WrittenBack
 use Rattle.pack.specs.Limits.{maxBytes}
 use Rattle.pack.specs.Names.{Name}
 use Rattle.pack.specs.Forms.{nameAt}
-use Rattle.pack.specs.Syntax.{Activation, Drawing, Equation, Expr, Machine, Node, Package, States}
+use Rattle.pack.specs.Syntax.{Activation, Drawing, Equation, Expr, Node, Package}
+use Rattle.machine_rules.specs.Resolved.{Machine, States}
 use Rattle.pack.specs.Read.{Reading, read}
 use Rattle.pack.specs.Write.{encode}
 use Rattle.pack.specs.Outcome.{Outcome, answers, numberOf, reports, writes}
 use Rattle.pack.proofs.WrittenBack.{allSmall}
-use Rattle.machines.specs.Resolve.{Walk, resolvedStates}
-use Rattle.machines.specs.Machines.{madeMachines, nodeNamed}
-use Rattle.machines.specs.Call.{lowerMachines}
-use Rattle.activations.specs.Sought.{expressions, found}
-use Rattle.activations.specs.Types.{variables}
-use Rattle.activations.specs.Holders.{Holding, hold}
-use Rattle.activations.specs.Activations.{madeActivations}
-use Rattle.activations.specs.Call.{lowerActivations}
+use Rattle.machine_rules.specs.Resolve.{Walk, resolvedStates}
+use Rattle.machine_rules.specs.Machines.{madeMachines, nodeNamed}
+use Rattle.machine_rules.specs.Call.{lowerMachines}
+use Rattle.activation_rules.specs.Sought.{expressions, found}
+use Rattle.activation_rules.specs.Types.{variables}
+use Rattle.activation_rules.specs.Holders.{Holding, hold}
+use Rattle.activation_rules.specs.Activations.{madeActivations}
+use Rattle.activation_rules.specs.Call.{lowerActivations}
 use Rattle.runs.specs.Run.{Run}
 use Rattle.runs.specs.Chart.{Guards, foundIn, selected}
 use Rattle.runs.specs.Standing.{actStanding, activationsBefore, machineStanding, machinesBefore}

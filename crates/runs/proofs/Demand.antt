@@ -7,16 +7,17 @@ use Rattle.wire.specs.Lists.{Bytes}
 use Rattle.pack.specs.Legal.{completed, newNames, withNames}
 use Rattle.pack.specs.Names.{Name}
 use Rattle.pack.specs.Outcome.{writes}
-use Rattle.pack.specs.Syntax.{Activation, Drawing, Equation, Expr, Machine, Node, Origin, OriginKind, Package, Port, ofActivation}
-use Rattle.machines.specs.Call.{lowerMachines}
-use Rattle.machines.specs.Checks.{refusalOf}
-use Rattle.machines.specs.Lower.{equationsOf}
-use Rattle.machines.specs.Machines.{Made, madeMachines, withoutMachines}
-use Rattle.machines.specs.Resolve.{asMachine}
-use Rattle.activations.specs.Activations.{madeActivations, withoutActivations}
-use Rattle.activations.specs.Call.{lowerActivations}
-use Rattle.activations.specs.Checks.{branchNames, elseName}
-use Rattle.activations.specs.Lower.{actEquations}
+use Rattle.pack.specs.Syntax.{Activation, Drawing, Equation, Expr, Node, Origin, OriginKind, Package, Port, ofActivation}
+use Rattle.machine_rules.specs.Resolved.{Machine}
+use Rattle.machine_rules.specs.Call.{lowerMachines}
+use Rattle.machine_rules.specs.Checks.{refusalOf}
+use Rattle.machine_rules.specs.Lower.{equationsOf}
+use Rattle.machine_rules.specs.Machines.{Made, madeMachines, withoutMachines}
+use Rattle.machine_rules.specs.Resolve.{asMachine}
+use Rattle.activation_rules.specs.Activations.{madeActivations, withoutActivations}
+use Rattle.activation_rules.specs.Call.{lowerActivations}
+use Rattle.activation_rules.specs.Checks.{branchNames, elseName}
+use Rattle.activation_rules.specs.Lower.{actEquations}
 use Rattle.activations.proofs.Joined.{activations-enums}
 use Rattle.runs.specs.Chart.{Guards}
 use Rattle.runs.specs.Claim.{ActClaim, ActivationsLowered, DemandThree, MachineClaim, MachineRun, MachinesLowered, OutputsAre, Picks, StatesAre, mayRead}

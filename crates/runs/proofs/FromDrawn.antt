@@ -1,10 +1,11 @@
 -- The premises as they are drawn give those of the claim.
 use Prim.Native.Nat.{ℕ}
 use mathlib.Core.Path.{_∙_}
-use Rattle.pack.specs.Syntax.{Activation, Machine, Package}
-use Rattle.machines.specs.Checks.{allNamesS}
-use Rattle.machines.specs.MadeNames.{smPrefix}
-use Rattle.activations.specs.MadeNames.{actPrefix}
+use Rattle.pack.specs.Syntax.{Activation, Package}
+use Rattle.machine_rules.specs.Resolved.{Machine}
+use Rattle.machine_rules.specs.Checks.{allNamesS}
+use Rattle.machine_rules.specs.MadeNames.{smPrefix}
+use Rattle.activation_rules.specs.MadeNames.{actPrefix}
 use Rattle.runs.specs.AsDrawn.{DrawnAct, DrawnMachine, enumValues, valuesIn}
 use Rattle.runs.specs.Chart.{Guards}
 use Rattle.runs.specs.Premises.{ActPremises, MachinePremises}

@@ -11,7 +11,7 @@ use Rattle.pack.specs.Names.{Name, eqName}
 use Rattle.pack.specs.Report.{Refusal}
 use Rattle.pack.specs.Syntax.{Equation, Node, Origin, Port}
 use Rattle.pack.proofs.Tables.{eqName-true}
-use Rattle.machines.specs.Machines.{Made, extend, extendIn, nodeNamed, refusing}
+use Rattle.machine_rules.specs.Machines.{Made, extend, extendIn, nodeNamed, refusing}
 use Rattle.runs.specs.Standing.{entry, slice}
 use Rattle.runs.proofs.NotRefused.{some-none}
 

@@ -6,9 +6,9 @@ use lib.Seq.{take-at}
 use lib.ListN.{drop, length, take}
 use Rattle.wire.specs.Lists.{Bytes}
 use Rattle.pack.specs.Outcome.{Gives, Outcome, begins, outputOf, valueOf, writes}
-use Rattle.machines.specs.Call.{lowerMachines}
+use Rattle.machine_rules.specs.Call.{lowerMachines}
 use Rattle.machines.specs.Filled.{Answers}
-use Rattle.activations.specs.Call.{lowerActivations}
+use Rattle.activation_rules.specs.Call.{lowerActivations}
 use Rattle.runs.specs.Claim.{ActivationsLowered, MachinesLowered}
 use Rattle.runs.proofs.Demand.{activations-lowered, machines-lowered}
 use Rattle.runs.proofs.Zero.{activations-zero, machines-zero}

@@ -6,9 +6,9 @@ use mathlib.Core.Bool.{Bool, false}
 use mathlib.Core.Option.{some}
 use mathlib.Core.Path.{_≡_, ap}
 use Rattle.pack.specs.Names.{Name}
-use Rattle.pack.specs.Syntax.{Machine, Regions, States, rCons, rNil, sCons, sNil}
-use Rattle.machines.specs.Lower.{sizeR, sizeS}
-use Rattle.machines.specs.MadeNames.{stateVar}
+use Rattle.machine_rules.specs.Resolved.{Machine, Regions, States, rCons, rNil, sCons, sNil}
+use Rattle.machine_rules.specs.Lower.{sizeR, sizeS}
+use Rattle.machine_rules.specs.MadeNames.{stateVar}
 use Rattle.runs.specs.Chart.{Guards}
 use Rattle.runs.specs.Run.{Run, vEnum}
 use Rattle.runs.specs.Words.{Region, Words, always, within, wordsR, wordsS}

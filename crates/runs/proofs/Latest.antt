@@ -4,7 +4,7 @@ use mathlib.Core.Bool.{Bool, true, false, cond, not, _&&_}
 use mathlib.Core.Option.{some}
 use mathlib.Core.Path.{_≡_, refl}
 use Rattle.pack.specs.Names.{Name}
-use Rattle.pack.specs.Syntax.{States}
+use Rattle.machine_rules.specs.Resolved.{States}
 use Rattle.runs.specs.Chart.{Guards, anew, choose, find, keep}
 use Rattle.runs.specs.Run.{previous}
 use Rattle.runs.specs.Words.{latest, wasActive}

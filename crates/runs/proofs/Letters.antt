@@ -13,8 +13,8 @@ use Rattle.pack.specs.Legal.{Allowed}
 use Rattle.pack.specs.Names.{Name}
 use Rattle.pack.specs.Read.{nameByte}
 use Rattle.pack.proofs.Tables.{all-append}
-use Rattle.machines.specs.MadeNames.{activeVar, enumName, nextVar, smPrefix, stateVar}
-use Rattle.activations.specs.MadeNames.{Scope, actPrefix, branch, clockVar, flagVar, lastInfix, lastVar, madeName, noneVar, other, sampleVar, tag, valueVar}
+use Rattle.machine_rules.specs.MadeNames.{activeVar, enumName, nextVar, smPrefix, stateVar}
+use Rattle.activation_rules.specs.MadeNames.{Scope, actPrefix, branch, clockVar, flagVar, lastInfix, lastVar, madeName, noneVar, other, sampleVar, tag, valueVar}
 use Rattle.runs.proofs.Booleans.{&&-true}
 
 abbrev pub Lettered : Name → Type 0

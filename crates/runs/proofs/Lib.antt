@@ -45,5 +45,4 @@ pub mod Nested
 pub mod Owned
 pub mod Branches
 pub mod Both
-pub mod MachinesComputed
 pub mod Charts

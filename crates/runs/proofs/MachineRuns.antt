@@ -5,10 +5,11 @@ use mathlib.Core.Bool.{true, false, _&&_}
 use mathlib.Core.Option.{some}
 use mathlib.Core.Path.{_≡_, _∙_}
 use Rattle.pack.specs.Names.{Name, member}
-use Rattle.pack.specs.Syntax.{Equation, Expr, Machine, Port}
-use Rattle.machines.specs.Checks.{allNamesS}
-use Rattle.machines.specs.Lower.{activeIn, coversS, defaultOf, equationsOf, equationsS, namesOf, outputEquations, topEquations}
-use Rattle.machines.specs.MadeNames.{activeVar, nextVar, smPrefix, stateVar}
+use Rattle.pack.specs.Syntax.{Equation, Expr, Port}
+use Rattle.machine_rules.specs.Resolved.{Machine}
+use Rattle.machine_rules.specs.Checks.{allNamesS}
+use Rattle.machine_rules.specs.Lower.{activeIn, coversS, defaultOf, equationsOf, equationsS, namesOf, outputEquations, topEquations}
+use Rattle.machine_rules.specs.MadeNames.{activeVar, nextVar, smPrefix, stateVar}
 use Rattle.runs.specs.Chart.{Guards}
 use Rattle.runs.specs.Claim.{Picks}
 use Rattle.runs.specs.Premises.{MachinePremises, onEveryCycle, presents, startsWith}

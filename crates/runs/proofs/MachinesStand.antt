@@ -8,12 +8,13 @@ use lib.ListN.{length, length-append}
 use Rattle.pack.specs.Names.{Name}
 use Rattle.pack.specs.Read.{name}
 use Rattle.pack.specs.Report.{Refusal}
-use Rattle.pack.specs.Syntax.{Drawing, Equation, Machine, Node, Origin, OriginKind, Package, Port, States, ofMachine}
-use Rattle.machines.specs.Checks.{refusalOf}
-use Rattle.machines.specs.Lower.{equationsOf, localsOf}
-use Rattle.machines.specs.Machines.{Judged, Made, accept, checked, extend, extendIn, judge, lowerEach, madeMachines, merged, nodeFrom, nodeNamed, originOf, placed, refuse, resolved, standalone, start}
-use Rattle.machines.specs.Refusals.{unknownOwner}
-use Rattle.machines.specs.Resolve.{Walk, asMachine, resolvedStates, stop, went}
+use Rattle.pack.specs.Syntax.{Drawing, Equation, Node, Origin, OriginKind, Package, Port, ofMachine}
+use Rattle.machine_rules.specs.Resolved.{Machine, States}
+use Rattle.machine_rules.specs.Checks.{refusalOf}
+use Rattle.machine_rules.specs.Lower.{equationsOf, localsOf}
+use Rattle.machine_rules.specs.Machines.{Judged, Made, accept, checked, extend, extendIn, judge, lowerEach, madeMachines, merged, nodeFrom, nodeNamed, originOf, placed, refuse, resolved, standalone, start}
+use Rattle.machine_rules.specs.Refusals.{unknownOwner}
+use Rattle.machine_rules.specs.Resolve.{Walk, asMachine, resolvedStates, stop, went}
 use Rattle.runs.specs.Standing.{Block, OwnNode, Stands, blockOf, entry, equationsFrom, equationsNamed, machinesBefore, slice}
 use Rattle.runs.proofs.Growing.{Grows, entry-end, entry-grown, grown-append, grown-extend, grows-further, grows-refusing, grows-same, node-extended, node-grown, node-name, refusing-not, slice-block, unrefused}
 

@@ -6,10 +6,11 @@ use mathlib.Core.Option.{none}
 use mathlib.Core.Path.{_≡_, refl}
 use Rattle.wire.specs.Decimal.{decimal, digits}
 use Rattle.pack.specs.Names.{Name}
-use Rattle.pack.specs.Syntax.{Drawing, Package, States, dCons, dNil, eConst, eVar, lBool, qCons, qNil, rCons, rNil, sCons, sNil, tBool}
-use Rattle.machines.specs.Checks.{allNamesS}
-use Rattle.machines.specs.MadeNames.{activeVar, nextVar, smPrefix, stateVar}
-use Rattle.machines.specs.Resolve.{asMachine}
+use Rattle.pack.specs.Syntax.{Drawing, Package, dCons, dNil, eConst, eVar, lBool, qCons, qNil, tBool}
+use Rattle.machine_rules.specs.Resolved.{States, rCons, rNil, sCons, sNil}
+use Rattle.machine_rules.specs.Checks.{allNamesS}
+use Rattle.machine_rules.specs.MadeNames.{activeVar, nextVar, smPrefix, stateVar}
+use Rattle.machine_rules.specs.Resolve.{asMachine}
 use Rattle.runs.specs.AsDrawn.{DrawnMachine, enumValues, noneStarts, valuesIn}
 use Rattle.runs.specs.Claim.{MachineRun}
 use Rattle.runs.specs.Premises.{MachinePremises, startsWith}

@@ -5,13 +5,14 @@ use mathlib.Core.Option.{Option, none, some}
 use mathlib.Core.Path.{_≡_, refl, sym, subst, _∙_}
 use Rattle.pack.specs.Names.{Name, eqName, member}
 use Rattle.pack.specs.Report.{Refusal, asRefusal, firstOf}
-use Rattle.pack.specs.Syntax.{Activation, Branch, Equation, Machine, Port, Regions, States, Transition, rCons, rNil, sCons, sNil}
+use Rattle.pack.specs.Syntax.{Activation, Branch, Equation, Port, Transition}
+use Rattle.machine_rules.specs.Resolved.{Machine, Regions, States, rCons, rNil, sCons, sNil}
 use Rattle.pack.proofs.Tables.{eqName-refl, eqName-true}
-use Rattle.machines.specs.Checks.{allNamesS, badInitial, badR, badS, badTarget, emptyTop, refusalOf, repeated, uncovered, uncoveredR, uncoveredS, unlessCovered, unlessOther}
-use Rattle.machines.specs.Lower.{coversR, coversS, isOnly, isSome, namesOf, ownValue}
-use Rattle.machines.specs.Refusals.{duplicateState, unassigned, unknownInitial, unknownTarget}
-use Rattle.activations.specs.Checks.{branchNames, branchless, checks, elseName, inBranches, inScopes, misuse, outputless, unlessAssigned}
-use Rattle.activations.specs.Refusals.{duplicateBranch, noBranches, outputUnassigned}
+use Rattle.machine_rules.specs.Checks.{allNamesS, badInitial, badR, badS, badTarget, emptyTop, refusalOf, repeated, uncovered, uncoveredR, uncoveredS, unlessCovered, unlessOther}
+use Rattle.machine_rules.specs.Lower.{coversR, coversS, isOnly, isSome, namesOf, ownValue}
+use Rattle.machine_rules.specs.Refusals.{duplicateState, unassigned, unknownInitial, unknownTarget}
+use Rattle.activation_rules.specs.Checks.{branchNames, branchless, checks, elseName, inBranches, inScopes, misuse, outputless, unlessAssigned}
+use Rattle.activation_rules.specs.Refusals.{duplicateBranch, noBranches, outputUnassigned}
 use Rattle.runs.proofs.Accepting.{accepted, actAccepted, allAssign, allTargets, assigns, coversAll, distinct, nonempty, outputsAssigned, validR, validS}
 use Rattle.runs.proofs.Booleans.{and-both, true-false}
 

@@ -7,10 +7,11 @@ use mathlib.Core.Option.{Option, none, some}
 use mathlib.Core.Path.{_≡_, refl, ap, subst, _∙_}
 use lib.ListN.{length}
 use Rattle.pack.specs.Names.{Name, eqName, member}
-use Rattle.pack.specs.Syntax.{Equation, Expr, Regions, States, Transition, rCons, rNil, sCons, sNil}
-use Rattle.machines.specs.Checks.{allNamesR, allNamesS}
-use Rattle.machines.specs.Lower.{coversR, coversS, fromOption, isName, isOnly, isSome, namesOf, orElse, ownValue, sizeR, sizeS, valueR, valueS}
-use Rattle.machines.specs.MadeNames.{stateVar}
+use Rattle.pack.specs.Syntax.{Equation, Expr, Transition}
+use Rattle.machine_rules.specs.Resolved.{Regions, States, rCons, rNil, sCons, sNil}
+use Rattle.machine_rules.specs.Checks.{allNamesR, allNamesS}
+use Rattle.machine_rules.specs.Lower.{coversR, coversS, fromOption, isName, isOnly, isSome, namesOf, orElse, ownValue, sizeR, sizeS, valueR, valueS}
+use Rattle.machine_rules.specs.MadeNames.{stateVar}
 use Rattle.runs.specs.Chart.{Guards}
 use Rattle.runs.specs.Claim.{Picks}
 use Rattle.runs.specs.Premises.{HasValue, sidesE, sidesR, sidesS}

@@ -7,10 +7,11 @@ use mathlib.Core.Option.{none, some}
 use mathlib.Core.Path.{_≡_, refl}
 use Rattle.wire.specs.Decimal.{decimal, digits}
 use Rattle.pack.specs.Names.{Name}
-use Rattle.pack.specs.Syntax.{Drawing, Equation, Expr, Machine, Node, Package, States, Transition, dCons, dNil, eConst, eVar, kOperator, lBool, qCons, qNil, rCons, rNil, sCons, sNil, tBool}
-use Rattle.machines.specs.Checks.{allNamesS}
-use Rattle.machines.specs.MadeNames.{activeVar, nextVar, smPrefix, stateVar}
-use Rattle.machines.specs.Resolve.{asMachine}
+use Rattle.pack.specs.Syntax.{Drawing, Equation, Expr, Node, Package, Transition, dCons, dNil, eConst, eVar, kOperator, lBool, qCons, qNil, tBool}
+use Rattle.machine_rules.specs.Resolved.{Machine, States, rCons, rNil, sCons, sNil}
+use Rattle.machine_rules.specs.Checks.{allNamesS}
+use Rattle.machine_rules.specs.MadeNames.{activeVar, nextVar, smPrefix, stateVar}
+use Rattle.machine_rules.specs.Resolve.{asMachine}
 use Rattle.runs.specs.Claim.{MachineRun}
 use Rattle.runs.specs.Run.{Run, eval, ifValue}
 use Rattle.runs.proofs.Computing.{finding, machineBlock, machinePremises, machinesNumber, reading, satisfying, selecting, small, walking}

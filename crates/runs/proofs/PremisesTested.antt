@@ -5,11 +5,12 @@ use mathlib.Core.Bool.{Bool, true, false, _&&_}
 use mathlib.Core.Option.{Option, none, some}
 use mathlib.Core.Path.{_≡_, refl, _∙_}
 use Rattle.pack.specs.Names.{Name, member}
-use Rattle.pack.specs.Syntax.{Activation, Equation, Expr, Machine, Port, Regions, States, Transition, rCons, rNil, sCons, sNil}
-use Rattle.machines.specs.Checks.{allNamesS}
-use Rattle.machines.specs.Lower.{equationsOf}
-use Rattle.machines.specs.MadeNames.{smPrefix}
-use Rattle.activations.specs.Unlast.{conditionsOf}
+use Rattle.pack.specs.Syntax.{Activation, Equation, Expr, Port, Transition}
+use Rattle.machine_rules.specs.Resolved.{Machine, Regions, States, rCons, rNil, sCons, sNil}
+use Rattle.machine_rules.specs.Checks.{allNamesS}
+use Rattle.machine_rules.specs.Lower.{equationsOf}
+use Rattle.machine_rules.specs.MadeNames.{smPrefix}
+use Rattle.activation_rules.specs.Unlast.{conditionsOf}
 use Rattle.runs.specs.AsDrawn.{noneStarts}
 use Rattle.runs.specs.Premises.{ActPremises, HasValue, MachinePremises, conditionsAre, guardsR, guardsS, guardsT, onEveryCycle, portsPresent, presents, sidesE, sidesR, sidesS}
 use Rattle.runs.specs.Run.{Run, Value, clockOf, eval, every, isPresent, vBool, vEnum, vOther}

@@ -10,15 +10,15 @@ use Rattle.pack.specs.Read.{nameByte}
 use Rattle.pack.specs.Report.{Refusal}
 use Rattle.pack.specs.Syntax.{Activation, Branch, Enum, Equation, Node, Port, ofActivation}
 use Rattle.pack.proofs.Tables.{all-append}
-use Rattle.machines.specs.Machines.{Made, nodeNamed}
-use Rattle.activations.specs.Activations.{activateEach, into, owned}
-use Rattle.activations.specs.Checks.{branchNames, checks, elseName}
-use Rattle.activations.specs.EmptyLeft.{leftlessIn}
-use Rattle.activations.specs.Holders.{Holding, held, hold, unheld}
-use Rattle.activations.specs.Lower.{Lowered, lowered, make, makes, refuse, unless, withHolders}
-use Rattle.activations.specs.Refusals.{emptyLeft, unknownOwner}
-use Rattle.activations.specs.Sought.{bodies, conditions, expressions, found, rightSides}
-use Rattle.activations.specs.Types.{readable, sampleType, valueType, variables}
+use Rattle.machine_rules.specs.Machines.{Made, nodeNamed}
+use Rattle.activation_rules.specs.Activations.{activateEach, into, owned}
+use Rattle.activation_rules.specs.Checks.{branchNames, checks, elseName}
+use Rattle.activation_rules.specs.EmptyLeft.{leftlessIn}
+use Rattle.activation_rules.specs.Holders.{Holding, held, hold, unheld}
+use Rattle.activation_rules.specs.Lower.{Lowered, lowered, make, makes, refuse, unless, withHolders}
+use Rattle.activation_rules.specs.Refusals.{emptyLeft, unknownOwner}
+use Rattle.activation_rules.specs.Sought.{bodies, conditions, expressions, found, rightSides}
+use Rattle.activation_rules.specs.Types.{readable, sampleType, valueType, variables}
 use Rattle.runs.proofs.Proper.{ProperE, ProperEnum, ProperNode, ProperPort, ProperQ}
 use Rattle.runs.proofs.ProperDrawn.{ProperActivation, ProperBranch}
 use Rattle.runs.proofs.ProperHolders.{ProperHolding, hold-proper, sample-type, value-type}

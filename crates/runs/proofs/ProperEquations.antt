@@ -7,10 +7,11 @@ use mathlib.Core.Option.{Option, none, some}
 use Rattle.wire.specs.Lists.{All}
 use Rattle.pack.specs.Legal.{Allowed, LegalLit}
 use Rattle.pack.specs.Names.{Name}
-use Rattle.pack.specs.Syntax.{Equation, Expr, Machine, Port, Regions, States, Transition, Ty, rCons, rNil, sCons, sNil, tArray, tBool, tChar, tFloat32, tFloat64, tInt16, tInt32, tInt64, tInt8, tNamed, tUint16, tUint32, tUint64, tUint8}
+use Rattle.pack.specs.Syntax.{Equation, Expr, Port, Transition, Ty, tArray, tBool, tChar, tFloat32, tFloat64, tInt16, tInt32, tInt64, tInt8, tNamed, tUint16, tUint32, tUint64, tUint8}
+use Rattle.machine_rules.specs.Resolved.{Machine, Regions, States, rCons, rNil, sCons, sNil}
 use Rattle.pack.proofs.Tables.{all-append}
-use Rattle.machines.specs.Lower.{activeIn, coversS, defaultOf, enumsOf, enumsR, enumsS, equationsOf, equationsR, equationsS, fromOption, held, isName, isOnly, justEntered, localsOf, localsR, localsS, namesOf, nextChain, orElse, outputEquations, ownValue, regionEquations, regionLocals, sizeR, sizeS, stateRhs, topEquations, transitionsOf, valueR, valueS}
-use Rattle.machines.specs.MadeNames.{activeVar, enumName, nextVar, stateVar}
+use Rattle.machine_rules.specs.Lower.{activeIn, coversS, defaultOf, enumsOf, enumsR, enumsS, equationsOf, equationsR, equationsS, fromOption, held, isName, isOnly, justEntered, localsOf, localsR, localsS, namesOf, nextChain, orElse, outputEquations, ownValue, regionEquations, regionLocals, sizeR, sizeS, stateRhs, topEquations, transitionsOf, valueR, valueS}
+use Rattle.machine_rules.specs.MadeNames.{activeVar, enumName, nextVar, stateVar}
 use Rattle.runs.proofs.Letters.{active-allowed, enum-allowed, next-allowed, state-allowed}
 use Rattle.runs.proofs.Proper.{ProperE, ProperEnum, ProperPort, ProperQ, ProperT}
 use Rattle.runs.proofs.ProperMade.{Maybe, bool-proper, maybe-cond, named-proper}

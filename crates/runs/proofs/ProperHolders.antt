@@ -9,12 +9,12 @@ use Rattle.pack.specs.Names.{Name, eqName}
 use Rattle.pack.specs.Report.{firstOf}
 use Rattle.pack.specs.Syntax.{Enum, Equation, Expr, Port, Ty, eArrow, ePre, eVar, tArray, tBool, tChar, tFloat32, tFloat64, tInt16, tInt32, tInt64, tInt8, tNamed, tUint16, tUint32, tUint64, tUint8}
 use Rattle.pack.proofs.Tables.{all-snoc}
-use Rattle.activations.specs.Defaults.{asVariable, firstName, firstVariant, startOf}
-use Rattle.activations.specs.Defines.{eqn}
-use Rattle.activations.specs.Holders.{Holding, also, held, hold, holderEquation, holderPort, unheld, withInit, withType}
-use Rattle.activations.specs.MadeNames.{lastVar}
-use Rattle.activations.specs.Sought.{Sought}
-use Rattle.activations.specs.Types.{firstTyped, lastTyped, orBool, sampleType, typed, valueType}
+use Rattle.activation_rules.specs.Defaults.{asVariable, firstName, firstVariant, startOf}
+use Rattle.activation_rules.specs.Defines.{eqn}
+use Rattle.activation_rules.specs.Holders.{Holding, also, held, hold, holderEquation, holderPort, unheld, withInit, withType}
+use Rattle.activation_rules.specs.MadeNames.{lastVar}
+use Rattle.activation_rules.specs.Sought.{Sought}
+use Rattle.activation_rules.specs.Types.{firstTyped, lastTyped, orBool, sampleType, typed, valueType}
 use Rattle.runs.proofs.Letters.{Lettered, last-allowed}
 use Rattle.runs.proofs.Proper.{ProperE, ProperEnum, ProperPort, ProperQ, ProperTy}
 use Rattle.runs.proofs.ProperLasts.{ProperHolder}

@@ -10,10 +10,10 @@ use Rattle.pack.specs.Names.{Name, eqName}
 use Rattle.pack.specs.Report.{firstOf}
 use Rattle.pack.specs.Syntax.{Expr, Exprs, eArray, eArrow, eBinary, eCall, eCast, eConst, eField, eIf, eIndex, eIterate, eMerge, ePre, eStruct, eTuple, eUnary, eVar, eWhen, xCons, xNil}
 use Rattle.pack.specs.Write.{arrays, countOf, flagByte}
-use Rattle.activations.specs.LastCalls.{CallKind, asVar, badLast, callKind, lastName, lastOf, lastRest, lastShape, plain}
-use Rattle.activations.specs.MadeNames.{lastVar}
-use Rattle.activations.specs.Sought.{Sought, found, note, sought, soughtIn}
-use Rattle.activations.specs.Unlast.{unlast, unlasts}
+use Rattle.activation_rules.specs.LastCalls.{CallKind, asVar, badLast, callKind, lastName, lastOf, lastRest, lastShape, plain}
+use Rattle.activation_rules.specs.MadeNames.{lastVar}
+use Rattle.activation_rules.specs.Sought.{Sought, found, note, sought, soughtIn}
+use Rattle.activation_rules.specs.Unlast.{unlast, unlasts}
 use Rattle.runs.proofs.Letters.{Lettered, last-allowed}
 use Rattle.runs.proofs.Proper.{ProperE, ProperX}
 use Rattle.runs.proofs.ProperMade.{Maybe, maybe-first}

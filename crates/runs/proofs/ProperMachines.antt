@@ -5,11 +5,12 @@ use mathlib.Core.Option.{Option, none, some}
 use mathlib.Core.Path.{_≡_, refl}
 use Rattle.wire.specs.Lists.{All}
 use Rattle.pack.specs.Names.{Name}
-use Rattle.pack.specs.Syntax.{Drawing, Machine, Node, ofMachine}
+use Rattle.pack.specs.Syntax.{Drawing, Node, ofMachine}
+use Rattle.machine_rules.specs.Resolved.{Machine}
 use Rattle.pack.proofs.Tables.{all-append}
-use Rattle.machines.specs.Lower.{enumsOf, equationsOf, localsOf}
-use Rattle.machines.specs.Machines.{Judged, Made, accept, judge, lowerEach, merged, nodeFrom, nodeNamed, placed, refuse, standalone}
-use Rattle.machines.specs.Refusals.{unknownOwner}
+use Rattle.machine_rules.specs.Lower.{enumsOf, equationsOf, localsOf}
+use Rattle.machine_rules.specs.Machines.{Judged, Made, accept, judge, lowerEach, merged, nodeFrom, nodeNamed, placed, refuse, standalone}
+use Rattle.machine_rules.specs.Refusals.{unknownOwner}
 use Rattle.runs.proofs.Proper.{ProperEnum, ProperNode}
 use Rattle.runs.proofs.ProperDrawn.{ProperDrawing}
 use Rattle.runs.proofs.ProperEquations.{enums-of-proper, equations-of-proper, locals-of-proper}

@@ -13,7 +13,7 @@ use Rattle.pack.specs.Report.{Refusal, firstOf}
 use Rattle.pack.specs.Syntax.{Enum, Equation, Node, OriginKind, Port, tBool, tNamed}
 use Rattle.pack.specs.Write.{one, tyItems}
 use Rattle.pack.proofs.Tables.{all-append}
-use Rattle.machines.specs.Machines.{Made, extend, extendIn, nodeNamed, originOf, refusing}
+use Rattle.machine_rules.specs.Machines.{Made, extend, extendIn, nodeNamed, originOf, refusing}
 use Rattle.runs.proofs.Proper.{ProperEnum, ProperNode, ProperOrigin, ProperPort, ProperQ, ProperTy}
 
 pub bool-proper : ProperTy tBool

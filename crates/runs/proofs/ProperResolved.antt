@@ -12,11 +12,12 @@ use Rattle.pack.specs.Limits.{maxLevel, maxStates}
 use Rattle.pack.specs.Names.{Name, eqName, member}
 use Rattle.pack.specs.Read.{nameByte}
 use Rattle.pack.specs.Report.{Refusal}
-use Rattle.pack.specs.Syntax.{Drawing, Drawn, DrawnRegions, Machine, Regions, States, Transition, dCons, dNil, qCons, qNil, rCons, rNil, sCons, sNil}
-use Rattle.machines.specs.Checks.{refusalOf}
-use Rattle.machines.specs.Machines.{Judged, accept, checked, judge, refuse, resolved}
-use Rattle.machines.specs.Refusals.{refineCycle, tooLarge, unknownRefine}
-use Rattle.machines.specs.Resolve.{Target, Walk, arrive, asMachine, asTarget, deeper, machineOf, prefixR, prefixS, prefixTransitions, refineAt, refineWith, resolveR, resolveS, resolvedStates, shortName, shortS, snoc, stop, walkOn, went, withRefine, withTarget}
+use Rattle.pack.specs.Syntax.{Drawing, Drawn, DrawnRegions, Transition, dCons, dNil, qCons, qNil}
+use Rattle.machine_rules.specs.Resolved.{Machine, Regions, States, rCons, rNil, sCons, sNil}
+use Rattle.machine_rules.specs.Checks.{refusalOf}
+use Rattle.machine_rules.specs.Machines.{Judged, accept, checked, judge, refuse, resolved}
+use Rattle.machine_rules.specs.Refusals.{refineCycle, tooLarge, unknownRefine}
+use Rattle.machine_rules.specs.Resolve.{Target, Walk, arrive, asMachine, asTarget, deeper, machineOf, prefixR, prefixS, prefixTransitions, refineAt, refineWith, resolveR, resolveS, resolvedStates, shortName, shortS, snoc, stop, walkOn, went, withRefine, withTarget}
 use Rattle.runs.proofs.Letters.{Lettered, joins, joins-allowed, lettered, letters}
 use Rattle.runs.proofs.Proper.{ProperPort, ProperQ, ProperT}
 use Rattle.runs.proofs.ProperDrawn.{ProperD, ProperDrawing, ProperG}

@@ -9,11 +9,11 @@ use Rattle.pack.specs.Names.{Name, member}
 use Rattle.pack.specs.Syntax.{Expr, Exprs, eArray, eArrow, eBinary, eCall, eCast, eConst, eField, eIf, eIndex, eIterate, eMerge, ePre, eStruct, eTuple, eUnary, eVar, eWhen, xCons, xNil}
 use Rattle.pack.specs.Write.{arrays, countOf, flagByte}
 use Rattle.pack.proofs.Tables.{all-snoc}
-use Rattle.activations.specs.Defines.{eqn, firstLeft}
-use Rattle.activations.specs.Pins.{pin, pins}
-use Rattle.activations.specs.Reads.{keepIn, push, reads, readsIn}
-use Rattle.activations.specs.Renames.{rename, renames}
-use Rattle.activations.specs.Samples.{dropIn}
+use Rattle.activation_rules.specs.Defines.{eqn, firstLeft}
+use Rattle.activation_rules.specs.Pins.{pin, pins}
+use Rattle.activation_rules.specs.Reads.{keepIn, push, reads, readsIn}
+use Rattle.activation_rules.specs.Renames.{rename, renames}
+use Rattle.activation_rules.specs.Samples.{dropIn}
 use Rattle.runs.proofs.Letters.{Lettered}
 use Rattle.runs.proofs.Proper.{ProperE, ProperQ, ProperX}
 

@@ -9,17 +9,17 @@ use Rattle.pack.specs.Legal.{Allowed}
 use Rattle.pack.specs.Names.{Name, eqName}
 use Rattle.pack.specs.Syntax.{Activation, Branch, Equation, Expr, Port, Ty, eUnary, eVar, oNot, tBool}
 use Rattle.pack.proofs.Tables.{all-append}
-use Rattle.activations.specs.Clocks.{guardEquations, onto, under}
-use Rattle.activations.specs.Defines.{asLocals, eqn, firstLeft}
-use Rattle.activations.specs.Flags.{andAlso, flagEquations}
-use Rattle.activations.specs.Lower.{actEquations, actLocals, tailOf}
-use Rattle.activations.specs.MadeNames.{Scope, branch, clockVar, flagVar, noneVar, other, sampleVar, valueVar}
-use Rattle.activations.specs.Merges.{mergeEquations, mergeFrom}
-use Rattle.activations.specs.Pins.{hasConst, pin, pinned}
-use Rattle.activations.specs.Reads.{reads, readsOf}
-use Rattle.activations.specs.Samples.{dropIn, overSamples, renamed, sampleEquations, sampleLocals}
-use Rattle.activations.specs.Scopes.{branchEquations, branchLocals, rewritten, scopeEquations, scopeLocals, scopeReads}
-use Rattle.activations.specs.Unlast.{conditionsOf, unlast}
+use Rattle.activation_rules.specs.Clocks.{guardEquations, onto, under}
+use Rattle.activation_rules.specs.Defines.{asLocals, eqn, firstLeft}
+use Rattle.activation_rules.specs.Flags.{andAlso, flagEquations}
+use Rattle.activation_rules.specs.Lower.{actEquations, actLocals, tailOf}
+use Rattle.activation_rules.specs.MadeNames.{Scope, branch, clockVar, flagVar, noneVar, other, sampleVar, valueVar}
+use Rattle.activation_rules.specs.Merges.{mergeEquations, mergeFrom}
+use Rattle.activation_rules.specs.Pins.{hasConst, pin, pinned}
+use Rattle.activation_rules.specs.Reads.{reads, readsOf}
+use Rattle.activation_rules.specs.Samples.{dropIn, overSamples, renamed, sampleEquations, sampleLocals}
+use Rattle.activation_rules.specs.Scopes.{branchEquations, branchLocals, rewritten, scopeEquations, scopeLocals, scopeReads}
+use Rattle.activation_rules.specs.Unlast.{conditionsOf, unlast}
 use Rattle.runs.proofs.Letters.{Lettered, clock-allowed, flag-allowed, none-allowed, sample-allowed, value-allowed}
 use Rattle.runs.proofs.Proper.{ProperE, ProperPort, ProperQ, ProperTy}
 use Rattle.runs.proofs.ProperDrawn.{ProperActivation, ProperBranch}

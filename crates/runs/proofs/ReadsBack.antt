@@ -21,10 +21,10 @@ use Rattle.pack.proofs.Counts.{size-append, size-code, size-each, sizeOf}
 use Rattle.pack.proofs.RoundTrip.{read-legal}
 use Rattle.pack.proofs.Tables.{complete, each-left, each-right}
 use Rattle.pack.proofs.WrittenBack.{legal-ready, written-reads}
-use Rattle.machines.specs.Call.{finished, lowerMachines, machinesOf}
-use Rattle.machines.specs.Machines.{madeMachines, start, withoutMachines}
-use Rattle.activations.specs.Activations.{madeActivations, withoutActivations}
-use Rattle.activations.specs.Call.{activationsOf, lowerActivations}
+use Rattle.machine_rules.specs.Call.{finished, lowerMachines, machinesOf}
+use Rattle.machine_rules.specs.Machines.{madeMachines, start, withoutMachines}
+use Rattle.activation_rules.specs.Activations.{madeActivations, withoutActivations}
+use Rattle.activation_rules.specs.Call.{activationsOf, lowerActivations}
 use Rattle.runs.proofs.Proper.{Fair, enums-fair, enums-proper, fairs, nodes-fair, nodes-formed, nodes-proper, origins-fair, origins-proper}
 use Rattle.runs.proofs.ProperActs.{activate-each-proper}
 use Rattle.runs.proofs.ProperDrawn.{activations-proper, drawings-proper}

@@ -8,8 +8,9 @@ use mathlib.Core.Path.{_≡_, refl, sym, ap, subst, _∙_}
 use lib.ListN.{getD, length, length-append}
 use Rattle.pack.specs.Forms.{nameAt}
 use Rattle.pack.specs.Names.{Name}
-use Rattle.pack.specs.Syntax.{Expr, Machine, Regions, States, rCons, rNil, sCons, sNil}
-use Rattle.machines.specs.Lower.{ownValue, sizeR, sizeS}
+use Rattle.pack.specs.Syntax.{Expr}
+use Rattle.machine_rules.specs.Resolved.{Machine, Regions, States, rCons, rNil, sCons, sNil}
+use Rattle.machine_rules.specs.Lower.{ownValue, sizeR, sizeS}
 use Rattle.runs.specs.Chart.{Guards, foundIn, selectR, selectS, selected}
 use Rattle.runs.specs.Words.{always, within}
 use Rattle.runs.proofs.ChartStreams.{atEach, each-append, each-length, found-is}

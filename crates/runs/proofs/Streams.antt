@@ -4,8 +4,9 @@ use mathlib.Core.List.{List, [], _∷_, _++_}
 use mathlib.Core.Bool.{Bool, false, cond}
 use mathlib.Core.Option.{Option, none}
 use Rattle.pack.specs.Names.{Name, eqName}
-use Rattle.pack.specs.Syntax.{Expr, Machine, Regions, States, rCons, rNil, sCons, sNil}
-use Rattle.machines.specs.Lower.{coversS, ownValue}
+use Rattle.pack.specs.Syntax.{Expr}
+use Rattle.machine_rules.specs.Resolved.{Machine, Regions, States, rCons, rNil, sCons, sNil}
+use Rattle.machine_rules.specs.Lower.{coversS, ownValue}
 use Rattle.runs.specs.Chart.{Guards, Kept, find, keep}
 use Rattle.runs.specs.Words.{always, within}
 

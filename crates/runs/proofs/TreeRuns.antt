@@ -7,11 +7,12 @@ use mathlib.Core.Option.{some}
 use mathlib.Core.Path.{_≡_, refl, ap, subst, _∙_}
 use lib.ListN.{length, length-append}
 use Rattle.pack.specs.Names.{Name, eqName, member}
-use Rattle.pack.specs.Syntax.{Equation, Expr, Regions, States, Transition, rCons, rNil, sCons, sNil}
+use Rattle.pack.specs.Syntax.{Equation, Expr, Transition}
+use Rattle.machine_rules.specs.Resolved.{Regions, States, rCons, rNil, sCons, sNil}
 use Rattle.pack.proofs.Tables.{eqName-refl}
-use Rattle.machines.specs.Checks.{allNamesR, allNamesS}
-use Rattle.machines.specs.Lower.{activeIn, equationsR, equationsS, namesOf, regionEquations, sizeR, sizeS}
-use Rattle.machines.specs.MadeNames.{activeVar, nextVar, stateVar}
+use Rattle.machine_rules.specs.Checks.{allNamesR, allNamesS}
+use Rattle.machine_rules.specs.Lower.{activeIn, equationsR, equationsS, namesOf, regionEquations, sizeR, sizeS}
+use Rattle.machine_rules.specs.MadeNames.{activeVar, nextVar, stateVar}
 use Rattle.runs.specs.Chart.{Guards}
 use Rattle.runs.specs.Premises.{guardsR, guardsS}
 use Rattle.runs.specs.Run.{Run, binary, binaryValue, bools, eval, every, vBool, vEnum}

@@ -10,19 +10,20 @@ use Rattle.pack.specs.Limits.{maxBytes}
 use Rattle.pack.specs.Names.{Name, member}
 use Rattle.pack.specs.Outcome.{Outcome, numberOf, outputOf, reportOf, valueOf}
 use Rattle.pack.specs.Read.{read, whole}
-use Rattle.pack.specs.Syntax.{Activation, Drawing, Equation, Node, Origin, Package, Port, States}
+use Rattle.pack.specs.Syntax.{Activation, Drawing, Equation, Node, Origin, Package, Port}
+use Rattle.machine_rules.specs.Resolved.{States}
 use Rattle.pack.specs.Write.{encode}
 use Rattle.pack.proofs.WrittenBack.{small-bytes}
-use Rattle.machines.specs.Call.{lowerMachines}
-use Rattle.machines.specs.Checks.{allNamesS}
+use Rattle.machine_rules.specs.Call.{lowerMachines}
+use Rattle.machine_rules.specs.Checks.{allNamesS}
 use Rattle.machines.specs.Filled.{Answers}
-use Rattle.machines.specs.Machines.{madeMachines, nodeNamed}
-use Rattle.machines.specs.Resolve.{asMachine, resolvedStates, went}
-use Rattle.activations.specs.Activations.{madeActivations}
-use Rattle.activations.specs.Call.{lowerActivations}
-use Rattle.activations.specs.Holders.{held, hold}
-use Rattle.activations.specs.Sought.{expressions, found}
-use Rattle.activations.specs.Types.{variables}
+use Rattle.machine_rules.specs.Machines.{madeMachines, nodeNamed}
+use Rattle.machine_rules.specs.Resolve.{asMachine, resolvedStates, went}
+use Rattle.activation_rules.specs.Activations.{madeActivations}
+use Rattle.activation_rules.specs.Call.{lowerActivations}
+use Rattle.activation_rules.specs.Holders.{held, hold}
+use Rattle.activation_rules.specs.Sought.{expressions, found}
+use Rattle.activation_rules.specs.Types.{variables}
 use Rattle.runs.specs.Chart.{Guards}
 use Rattle.runs.specs.Claim.{ActClaim, ActivationsLowered, MachineClaim, MachineRun, MachinesLowered, mayRead}
 use Rattle.runs.specs.Premises.{ActPremises, MachinePremises}

@@ -12,10 +12,10 @@ use Rattle.pack.specs.Read.{Reading, bytesAfter, deepAt, endsEarly, illegalAt, 
 use Rattle.pack.specs.Report.{Refusal, reportBytes}
 use Rattle.pack.specs.Syntax.{Package}
 use Rattle.pack.specs.Write.{encode, packageItems, shorts}
-use Rattle.machines.specs.Call.{finished, lowerMachines, machinesOf}
-use Rattle.machines.specs.Machines.{madeMachines, withoutMachines}
-use Rattle.activations.specs.Activations.{madeActivations, withoutActivations}
-use Rattle.activations.specs.Call.{activationsOf, lowerActivations}
+use Rattle.machine_rules.specs.Call.{finished, lowerMachines, machinesOf}
+use Rattle.machine_rules.specs.Machines.{madeMachines, withoutMachines}
+use Rattle.activation_rules.specs.Activations.{madeActivations, withoutActivations}
+use Rattle.activation_rules.specs.Call.{activationsOf, lowerActivations}
 
 -- the pack that an outcome writes
 pub record Zero (x : Outcome) : Type 0 where

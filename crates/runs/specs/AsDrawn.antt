@@ -4,12 +4,13 @@ use mathlib.Core.List.{List, [], _∷_, _++_}
 use mathlib.Core.Bool.{Bool, true, not, _&&_}
 use Prim.Native.Nat.{ℕ}
 use Rattle.pack.specs.Names.{Name, member}
-use Rattle.pack.specs.Syntax.{Activation, Enum, Machine, Package}
-use Rattle.machines.specs.MadeNames.{smPrefix}
-use Rattle.machines.specs.Lower.{equationsOf}
-use Rattle.machines.specs.Checks.{allNamesS}
-use Rattle.activations.specs.MadeNames.{actPrefix}
-use Rattle.activations.specs.Unlast.{conditionsOf}
+use Rattle.pack.specs.Syntax.{Activation, Enum, Package}
+use Rattle.machine_rules.specs.Resolved.{Machine}
+use Rattle.machine_rules.specs.MadeNames.{smPrefix}
+use Rattle.machine_rules.specs.Lower.{equationsOf}
+use Rattle.machine_rules.specs.Checks.{allNamesS}
+use Rattle.activation_rules.specs.MadeNames.{actPrefix}
+use Rattle.activation_rules.specs.Unlast.{conditionsOf}
 use Rattle.runs.specs.Run.{Run}
 use Rattle.runs.specs.Chart.{Guards}
 use Rattle.runs.specs.Scopes.{Conditions}

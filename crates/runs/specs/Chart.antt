@@ -5,8 +5,9 @@ use mathlib.Core.Bool.{Bool, true, false, cond, not, _&&_}
 use mathlib.Core.Option.{Option, none}
 use lib.ListN.{drop}
 use Rattle.pack.specs.Names.{Name, eqName}
-use Rattle.pack.specs.Syntax.{Expr, Machine, Regions, States, Transition, rCons, rNil, sCons, sNil}
-use Rattle.machines.specs.Lower.{coversS, ownValue, sizeR, sizeS}
+use Rattle.pack.specs.Syntax.{Expr, Transition}
+use Rattle.machine_rules.specs.Resolved.{Machine, Regions, States, rCons, rNil, sCons, sNil}
+use Rattle.machine_rules.specs.Lower.{coversS, ownValue, sizeR, sizeS}
 use Rattle.runs.specs.Run.{history}
 
 -- each guard's value in each cycle

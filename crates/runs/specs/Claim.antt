@@ -8,18 +8,19 @@ use Rattle.pack.specs.Forms.{nameAt}
 use Rattle.pack.specs.Names.{Name}
 use Rattle.pack.specs.Outcome.{Outcome, numberOf, writes}
 use Rattle.pack.specs.Read.{read, whole}
-use Rattle.pack.specs.Syntax.{Activation, Drawing, Equation, Expr, Machine, Node, Package, Port, States, ofActivation}
-use Rattle.machines.specs.Call.{lowerMachines}
-use Rattle.machines.specs.Machines.{madeMachines, nodeNamed}
-use Rattle.machines.specs.MadeNames.{stateVar}
-use Rattle.machines.specs.Resolve.{asMachine, resolvedStates, went}
-use Rattle.activations.specs.Activations.{madeActivations}
-use Rattle.activations.specs.Call.{lowerActivations}
-use Rattle.activations.specs.Checks.{branchNames, elseName}
-use Rattle.activations.specs.Holders.{held, hold}
-use Rattle.activations.specs.Lower.{actEquations}
-use Rattle.activations.specs.Sought.{expressions, found}
-use Rattle.activations.specs.Types.{readable, variables}
+use Rattle.pack.specs.Syntax.{Activation, Drawing, Equation, Expr, Node, Package, Port, ofActivation}
+use Rattle.machine_rules.specs.Resolved.{Machine, States}
+use Rattle.machine_rules.specs.Call.{lowerMachines}
+use Rattle.machine_rules.specs.Machines.{madeMachines, nodeNamed}
+use Rattle.machine_rules.specs.MadeNames.{stateVar}
+use Rattle.machine_rules.specs.Resolve.{asMachine, resolvedStates, went}
+use Rattle.activation_rules.specs.Activations.{madeActivations}
+use Rattle.activation_rules.specs.Call.{lowerActivations}
+use Rattle.activation_rules.specs.Checks.{branchNames, elseName}
+use Rattle.activation_rules.specs.Holders.{held, hold}
+use Rattle.activation_rules.specs.Lower.{actEquations}
+use Rattle.activation_rules.specs.Sought.{expressions, found}
+use Rattle.activation_rules.specs.Types.{readable, variables}
 use Rattle.runs.specs.Chart.{Guards, foundIn, selected}
 use Rattle.runs.specs.Premises.{ActPremises, MachinePremises}
 use Rattle.runs.specs.Run.{Run, Value, eval, every, satisfies, vEnum}

@@ -7,12 +7,13 @@ use mathlib.Core.Option.{some}
 use Prim.Native.Nat.{ℕ, _<_}
 use lib.Dec.{eqb}
 use Rattle.pack.specs.Names.{Name, member}
-use Rattle.pack.specs.Syntax.{Activation, Equation, Expr, Machine, Port, Regions, States, Transition, rCons, rNil, sCons, sNil}
-use Rattle.machines.specs.MadeNames.{smPrefix}
-use Rattle.machines.specs.Lower.{equationsOf}
-use Rattle.machines.specs.Checks.{allNamesS}
-use Rattle.activations.specs.MadeNames.{actPrefix}
-use Rattle.activations.specs.Unlast.{conditionsOf}
+use Rattle.pack.specs.Syntax.{Activation, Equation, Expr, Port, Transition}
+use Rattle.machine_rules.specs.Resolved.{Machine, Regions, States, rCons, rNil, sCons, sNil}
+use Rattle.machine_rules.specs.MadeNames.{smPrefix}
+use Rattle.machine_rules.specs.Lower.{equationsOf}
+use Rattle.machine_rules.specs.Checks.{allNamesS}
+use Rattle.activation_rules.specs.MadeNames.{actPrefix}
+use Rattle.activation_rules.specs.Unlast.{conditionsOf}
 use Rattle.runs.specs.Run.{Run, Value, clockOf, eval, every, vBool}
 use Rattle.runs.specs.Chart.{Guards}
 use Rattle.runs.specs.Scopes.{Conditions}

@@ -8,10 +8,10 @@ use lib.ListN.{length}
 use lib.Dec.{eqb}
 use Rattle.pack.specs.Names.{Name}
 use Rattle.pack.specs.Syntax.{Activation, Branch, Equation, Expr, Port}
-use Rattle.machines.specs.Lower.{isOnly}
-use Rattle.activations.specs.MadeNames.{Scope, branch, other}
-use Rattle.activations.specs.Unlast.{conditionsOf, unlast}
-use Rattle.activations.specs.Scopes.{rewritten}
+use Rattle.machine_rules.specs.Lower.{isOnly}
+use Rattle.activation_rules.specs.MadeNames.{Scope, branch, other}
+use Rattle.activation_rules.specs.Unlast.{conditionsOf, unlast}
+use Rattle.activation_rules.specs.Scopes.{rewritten}
 use Rattle.runs.specs.Run.{Clock, Run, eval}
 
 -- each condition's value in each cycle; a call of `last` in it is its holder

@@ -5,10 +5,11 @@ use mathlib.Core.Option.{Option, none, some}
 use Prim.Native.Nat.{ℕ, zero, suc, _-_, _≤_}
 use lib.ListN.{drop, length, take}
 use Rattle.pack.specs.Names.{Name}
-use Rattle.pack.specs.Syntax.{Activation, Drawing, Equation, Machine, Node, Origin, OriginKind, Package, ofMachine}
-use Rattle.machines.specs.Lower.{equationsOf}
-use Rattle.machines.specs.Machines.{Made, lowerEach, nodeNamed, start}
-use Rattle.activations.specs.Activations.{activateEach}
+use Rattle.pack.specs.Syntax.{Activation, Drawing, Equation, Node, Origin, OriginKind, Package, ofMachine}
+use Rattle.machine_rules.specs.Resolved.{Machine}
+use Rattle.machine_rules.specs.Lower.{equationsOf}
+use Rattle.machine_rules.specs.Machines.{Made, lowerEach, nodeNamed, start}
+use Rattle.activation_rules.specs.Activations.{activateEach}
 
 -- what stands at a place of a list
 unfoldable pub entry : {A : Type 0} → ℕ → List A → Option A

@@ -4,9 +4,9 @@ use mathlib.Core.Bool.{Bool, true, false, cond, not, _&&_}
 use mathlib.Core.Option.{Option, none, some}
 use Prim.Native.Nat.{ℕ, zero, suc, _+_, _<_}
 use Rattle.pack.specs.Names.{Name, eqName}
-use Rattle.pack.specs.Syntax.{Machine, Regions, States, rCons, rNil, sCons, sNil}
-use Rattle.machines.specs.MadeNames.{stateVar}
-use Rattle.machines.specs.Lower.{sizeR, sizeS}
+use Rattle.machine_rules.specs.Resolved.{Machine, Regions, States, rCons, rNil, sCons, sNil}
+use Rattle.machine_rules.specs.MadeNames.{stateVar}
+use Rattle.machine_rules.specs.Lower.{sizeR, sizeS}
 use Rattle.runs.specs.Run.{Run, previous, vEnum}
 use Rattle.runs.specs.Chart.{Guards, choose}
 

@@ -1,4 +1,4 @@
-use Rattle.activations.specs.MadeNames.{actPrefix}
+use Rattle.activation_rules.specs.MadeNames.{actPrefix}
 use Rattle.activations.proofs.LookupLaws.{made-is}
 use borrow.Author.Needs.{needs}
 use Rattle.activations.proofs.base.made_at.Statement.{statement}

@@ -1,6 +1,6 @@
 use mathlib.Core.Path.{ap, _∙_}
 use Rattle.wire.specs.Writer.{puts}
-use Rattle.activations.specs.MadeNames.{lastInfix}
+use Rattle.activation_rules.specs.MadeNames.{lastInfix}
 use Rattle.activations.proofs.MadeLaws.{last-text}
 use borrow.Author.Needs.{needs}
 use Rattle.activations.proofs.made.put_last_text.Statement.{statement}

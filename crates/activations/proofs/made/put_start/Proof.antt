@@ -1,6 +1,6 @@
 use mathlib.Core.Path.{ap, _∙_}
 use Rattle.wire.specs.Writer.{puts}
-use Rattle.activations.specs.MadeNames.{actPrefix}
+use Rattle.activation_rules.specs.MadeNames.{actPrefix}
 use Rattle.activations.proofs.MadeLaws.{start-text}
 use borrow.Author.Needs.{needs}
 use Rattle.activations.proofs.made.put_start.Statement.{statement}

@@ -1,6 +1,6 @@
 use mathlib.Core.Path.{ap, _∙_}
 use Rattle.wire.specs.Writer.{puts}
-use Rattle.machines.specs.MadeNames.{regionPrefix, smPrefix}
+use Rattle.machine_rules.specs.MadeNames.{regionPrefix, smPrefix}
 use Rattle.machines.proofs.MadeLaws.{region-text}
 use borrow.Author.Needs.{needs}
 use Rattle.machines.proofs.made.put_region.Statement.{statement}

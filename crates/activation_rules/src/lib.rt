@@ -1,0 +1,1 @@
+// What the lowering of activations is: definitions and what they compute, no code.
