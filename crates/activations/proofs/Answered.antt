@@ -9,20 +9,21 @@ use lib.Dec.{ltb}
 use Rattle.wire.specs.Answer.{counted}
 use Rattle.wire.specs.Bytes.{two}
 use Rattle.wire.specs.Lists.{Bytes}
-use Rattle.wire.specs.Writer.{State, st}
+use Rattle.wire.specs.Writer.{State}
 use Rattle.pack.specs.Limits.{maxBytes}
 use Rattle.pack.specs.Names.{Name}
 use Rattle.pack.specs.Legal.{place}
 use Rattle.pack.specs.Read.{enumIn}
 use Rattle.pack.specs.Report.{Refusal}
 use Rattle.pack.specs.Syntax.{Activation, Enum, Node, Package}
-use Rattle.pack.specs.Write.{enc, encode, packageItems, shorts}
-use Rattle.pack.specs.Intern.{render, table}
+use Rattle.pack.specs.Write.{encode, packageItems, shorts}
+use Rattle.pack.specs.Intern.{render, table, unwritten}
 use Rattle.pack.specs.Outcome.{Gives, answered, answers, reportOf, reported, sized, writes, written}
+use Rattle.pack.specs.Table.{tabled}
 use Rattle.pack.specs.Verdict.{Stands}
 use Rattle.pack.specs.declared.record.Pack.{Pack}
 use Rattle.pack.proofs.Finished.{carried}
-use Rattle.pack.proofs.Written.{finished-is, table-enc}
+use Rattle.pack.proofs.Written.{finished-is}
 use Rattle.machines.specs.Brought.{totalT}
 use Rattle.machines.specs.Filled.{Answers}
 use Rattle.machines.specs.Laid.{sliceOf}
@@ -34,15 +35,15 @@ use Rattle.machine_rules.specs.Call.{finished}
 use Rattle.machines.proofs.Answered.{answers-as}
 use Rattle.machines.proofs.CallOpened.{scratch-empty}
 use Rattle.machines.proofs.NamesPlaced.{names-few, section-read}
-use Rattle.machines.proofs.Opened.{pack-known}
+use Rattle.machines.proofs.Opened.{names-stand, pack-known}
 use Rattle.machines.proofs.Walked.{ready}
 use Rattle.activations.specs.declared.base.Base.{Base}
 use Rattle.activation_rules.specs.LastCalls.{lastName}
-use Rattle.activations.specs.Lookups.{MadeIs, someMadeT}
+use Rattle.activations.specs.Lookups.{MadeIs, someMadeT, placeIn}
 use Rattle.activations.specs.Walks.{LastIs}
 use Rattle.activation_rules.specs.Activations.{madeActivations, withoutActivations}
 use Rattle.activation_rules.specs.Call.{activationsOf}
-use Rattle.activations.proofs.BaseLaws.{last-is}
+use Rattle.activations.proofs.BaseLaws.{last-is, place-tabled}
 use Rattle.activations.proofs.LookupLaws.{some-made-is}
 use Rattle.activations.proofs.Joined.{activations-refusals}
 use Rattle.activations.specs.Basis.{Basis, Scratch}
@@ -70,13 +71,13 @@ module _ (s : List ℕ) (k : Pack) (p : Package) (h : Stands s k p) (bytes : Byt
   few : 2 + 2 * length (p .names) ≤ length s
   few = names-few s (p .names) (section-read s (p .names) (k .enums) (h .names))
 
-  module _ (spots₀ spots old : List ℕ) (b : Base) (room : 32768 ≤ length spots₀) (es : spots ≡ namesPlaced s (k .names) 2 0 spots₀) (eo : old ≡ sliceOf s 2 (k .enums - 2)) (eb : b ≡ baseT old s k spots) where
+  module _ (spots₀ spots old : List ℕ) (b : Base) (room : 32768 ≤ length spots₀) (es : spots ≡ namesPlaced s (k .names) 2 0 spots₀) (eo : old ≡ tabled (table (sliceOf s 2 (k .enums - 2)))) (eb : b ≡ baseT old s k spots) where
     known : PackOf (p .names) s old spots
     known =
         let f = few in
         let l = length-replicate {A = ℕ} 32768 0 in
         subst (λ (y : List ℕ). PackOf (p .names) s y spots) (sym eo)
-        (subst (λ (y : List ℕ). PackOf (p .names) s (sliceOf s 2 (k .enums - 2)) y) (sym es)
+        (subst (λ (y : List ℕ). PackOf (p .names) s (tabled (table (sliceOf s 2 (k .enums - 2)))) y) (sym es)
         (pack-known s k p h bytes (namesPlaced s (k .names) 2 0 spots₀) _ (ready s k p spots₀ (replicate 32768 0) h short (omega arith) (omega arith) (scratch-empty .noMachine))))
 
     -- what is known of the pack as a whole
@@ -84,13 +85,13 @@ module _ (s : List ℕ) (k : Pack) (p : Package) (h : Stands s k p) (bytes : Byt
     unfolding baseT
     basis =
         let f = few in
-        let t : table old ≡ p .names = ap table (known .names) ∙ table-enc (p .names) in
+        let t : placeIn old ≡ place (p .names) = ap placeIn (known .names) ∙ place-tabled (p .names) in
         record {
           pack = known;
           short = short;
           few = omega arith;
           names = ap (λ (y : Base). y .names) eb ∙ sym (h .count);
-          last = subst (LastIs (p .names)) (sym (ap (λ (y : Base). y .last) eb ∙ ap (λ (y : List Name). place y lastName) t)) (last-is (p .names) (known .fresh));
+          last = subst (LastIs (p .names)) (sym (ap (λ (y : Base). y .last) eb ∙ ap (λ (f : Name → ℕ). f lastName) t)) (last-is (p .names) (known .fresh));
           made = subst (MadeIs (p .names)) (sym (ap (λ (y : Base). y .made) eb ∙ ap (someMadeT s spots) (sym (h .count)))) (some-made-is (p .names) s spots (known .placed));
           to = k .nodes;
           enums = ap (λ (y : Base). counted (enumIn (p .names) s) s (y .enums)) eb ∙ h .enums;
@@ -142,12 +143,13 @@ module _ (s : List ℕ) (k : Pack) (p : Package) (h : Stands s k p) (bytes : Byt
               (record { gives = g p h basis settled; report-is = written-quiet (length output) (withoutActivations p (madeActivations p)) report })
 
 -- what the writer reached is the lowered pack
-pub gives-written : (room : ℕ) (old : List ℕ) (p : Package) (z : State) (number value : ℕ) (output output′ : List ℕ) → old ≡ enc (p .names) → z ≡ render old (packageItems (withoutActivations p (madeActivations p))) (st maxBytes maxBytes [] [])
-    → Gives (answered room old z) number value output output′ → Gives (written room (withoutActivations p (madeActivations p))) number value output output′
+pub gives-written : (room : ℕ) (s names : List ℕ) (k : Pack) (old : List ℕ) (p : Package) (z : State) (number value : ℕ) (output output′ : List ℕ) → Stands s k p → Bytes s → names ≡ sliceOf s 2 (k .enums - 2) → old ≡ tabled (p .names) → z ≡ render old (packageItems (withoutActivations p (madeActivations p))) unwritten
+    → Gives (answered room names z) number value output output′ → Gives (written room (withoutActivations p (madeActivations p))) number value output output′
 unfolding withoutActivations
-gives-written room old p z number value output output′ e f g = carried _ _ number value output output′ (finished-is room (withoutActivations p (madeActivations p)) old z e f) g
+gives-written room s names k old p z number value output output′ h b n e f g =
+    carried _ _ number value output output′ (finished-is room (withoutActivations p (madeActivations p)) names old z (n ∙ names-stand s k p h b) e f) g
 
-pub base-is : (old s : List ℕ) (x : Pack) (spots : List ℕ) (last : ℕ) (made : Bool) → last ≡ place (table old) (108 ∷ 97 ∷ 115 ∷ 116 ∷ []) → made ≡ someMadeT s spots (x .names) → record { names = x .names; last = last; enums = x .enums; made = made } ≡ baseT old s x spots
+pub base-is : (old s : List ℕ) (x : Pack) (spots : List ℕ) (last : ℕ) (made : Bool) → last ≡ placeIn old (108 ∷ 97 ∷ 115 ∷ 116 ∷ []) → made ≡ someMadeT s spots (x .names) → record { names = x .names; last = last; enums = x .enums; made = made } ≡ baseT old s x spots
 unfolding baseT lastName
 base-is old s x spots last made e f = λ i. record { names = x .names; last = e i; enums = x .enums; made = f i }
 

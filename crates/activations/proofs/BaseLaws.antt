@@ -1,5 +1,6 @@
 -- Laws for looking names up.
 use Prim.Native.Nat.{ℕ, _+_, _<_}
+use native.Mathlib.Nat.{zero-add}
 use native.Mathlib.Omega.{arith}
 use mathlib.Core.List.{List, [], _∷_}
 use mathlib.Core.Bool.{Bool, true, false}
@@ -11,35 +12,38 @@ use Rattle.pack.specs.Names.{Name, eqName}
 use Rattle.pack.specs.Forms.{nameAt}
 use Rattle.pack.specs.Legal.{Fresh, place}
 use Rattle.pack.specs.Write.{At, Found, Missing, lookup}
+use Rattle.pack.specs.Table.{numberIn, seek, tabled}
 use Rattle.pack.specs.Intern.{foundOf}
 use Rattle.pack.specs.declared.intern.Found as code
 use Rattle.pack.specs.declared.intern.Found.the-variants as codes
+use Rattle.pack.proofs.TableIndex.{seek-tabled}
 use Rattle.pack.proofs.Tables.{eqName-false, eqName-true, name-at-place, place-at-name}
 use Rattle.activation_rules.specs.LastCalls.{lastName}
 use Rattle.activations.specs.Walks.{LastIs}
+use Rattle.activations.specs.Lookups.{placeIn}
 
--- the number that a search answers
-unfoldable numberOf : Found → ℕ
-numberOf (At k) = k
-numberOf (Missing k) = k
-
-found-place : (ns : List Name) (n : Name) (k : ℕ) → numberOf (lookup ns n k) ≡ k + place ns n
-unfolding lookup place numberOf
+found-place : (ns : List Name) (n : Name) (k : ℕ) → numberIn (lookup ns n k) ≡ k + place ns n
+unfolding lookup place numberIn
 found-place [] n k = omega arith
 found-place (m ∷ ms) n k = go (eqName m n) refl (found-place ms n (k + 1))
   where
-    go : (b : Bool) → eqName m n ≡ b → numberOf (lookup ms n (k + 1)) ≡ k + 1 + place ms n → numberOf (lookup (m ∷ ms) n k) ≡ k + place (m ∷ ms) n
+    go : (b : Bool) → eqName m n ≡ b → numberIn (lookup ms n (k + 1)) ≡ k + 1 + place ms n → numberIn (lookup (m ∷ ms) n k) ≡ k + place (m ∷ ms) n
     go true e ih = rw (e, lookup, place) (omega arith)
     go false e ih = rw (e, lookup, place) (omega (arith, ih))
 
 -- an answer of either kind is the place
-pub found-at : (ns : List Name) (n : Name) (f : code.Found) (k : ℕ) → f ≡ codes.At k → foundOf f ≡ lookup ns n 0 → k ≡ place ns n
-unfolding foundOf numberOf
-found-at ns n f k e h = let a : k ≡ numberOf (lookup ns n 0) = ap (λ y. numberOf (foundOf y)) (sym e) ∙ ap numberOf h in omega (arith, a, found-place ns n 0)
+pub found-at : (old : List ℕ) (n : Name) (f : code.Found) (k : ℕ) → f ≡ codes.At k → foundOf f ≡ seek old n → k ≡ placeIn old n
+unfolding foundOf numberIn placeIn
+found-at old n f k e h = ap (λ y. numberIn (foundOf y)) (sym e) ∙ ap numberIn h
 
-pub found-missing : (ns : List Name) (n : Name) (f : code.Found) (k : ℕ) → f ≡ codes.Missing k → foundOf f ≡ lookup ns n 0 → k ≡ place ns n
-unfolding foundOf numberOf
-found-missing ns n f k e h = let a : k ≡ numberOf (lookup ns n 0) = ap (λ y. numberOf (foundOf y)) (sym e) ∙ ap numberOf h in omega (arith, a, found-place ns n 0)
+pub found-missing : (old : List ℕ) (n : Name) (f : code.Found) (k : ℕ) → f ≡ codes.Missing k → foundOf f ≡ seek old n → k ≡ placeIn old n
+unfolding foundOf numberIn placeIn
+found-missing old n f k e h = ap (λ y. numberIn (foundOf y)) (sym e) ∙ ap numberIn h
+
+-- in the table of names each has its place among them
+pub place-tabled : (ns : List Name) → placeIn (tabled ns) ≡ place ns
+unfolding placeIn
+place-tabled ns = λ j n. (ap numberIn (seek-tabled ns n) ∙ found-place ns n 0 ∙ zero-add (place ns n)) j
 
 -- the place of `last` tells its name
 pub last-is : (ns : List Name) → Fresh [] ns → LastIs ns (place ns lastName)

@@ -11,7 +11,8 @@ use Rattle.pack.specs.Names.{Name}
 use Rattle.pack.specs.Forms.{nameAt}
 use Rattle.pack.specs.Report.{Refusal}
 use Rattle.pack.specs.Syntax.{Activation, Enum, Equation, Node, Port, Ty}
-use Rattle.pack.specs.Write.{each, enc, equationItems}
+use Rattle.pack.specs.Write.{each, equationItems}
+use Rattle.pack.specs.Table.{tabled}
 use Rattle.pack.specs.Intern.{render}
 use Rattle.machines.specs.Emits.{packName}
 use Rattle.machine_rules.specs.Machines.{extend}
@@ -165,7 +166,7 @@ module _ (ns : List Name) (es : List Enum) (old s spots : List ℕ) (b : Base) (
       (subst (λ (k : ℕ). TypesAre ns s (firstPortsT ns s (v .to-outputs) (clearT k outs)) (firstTyped (A .outputs))) (sym (B .names)) (outputs-typed ns fresh under s by (B .short) (v .to-outputs) (A .outputs) (v .to-branches) outs (v .outputs) wide)) in
       let t : TypesAre ns s (copyT later (b .names) env) (lastTyped (variables n)) = subst (λ (k : ℕ). TypesAre ns s (copyT later k env) (lastTyped (variables n))) (sym (B .names)) (copied-typed ns s later env (lastTyped (variables n)) (omega arith) T) in
       let l : length (copyT later (b .names) env) ≡ length env = fill-length (λ i. getD later i 0) (b .names) 0 env in
-      let h : HeldAs ns s (A .name) (holdFrom ns (enc ns) s b spots (A .name) (firstPortsT ns s (actAt ns s at .outputs) (clearT (b .names) outs)) (z .count) 0 (copyT later (b .names) env) (z .table)) (z .count) (variables n) (asked A) (holding es A n) =
+      let h : HeldAs ns s (A .name) (holdFrom ns (tabled ns) s b spots (A .name) (firstPortsT ns s (actAt ns s at .outputs) (clearT (b .names) outs)) (z .count) 0 (copyT later (b .names) env) (z .table)) (z .count) (variables n) (asked A) (holding es A n) =
       hold-is ns fresh (B .pack .legal) few s by (B .short) spots (B .pack .placed) b (B .names) (B .made) es (B .to) (B .enums) (A .name) _ (A .outputs) o (z .count) (asked A) (variables n) (copyT later (b .names) env) (z .table) (r .1) (r .0) t (omega arith) (r .2) in
       subst (λ (y : Act). BegunAs ns es s A n (begunT ns old s b spots (A .name) y later env outs table)) (sym (R .parts))
       (subst (λ (y : List ℕ). BegunAs ns es s A n (begunT ns y s b spots (A .name) (actAt ns s at) later env outs table)) (sym (B .pack .names))

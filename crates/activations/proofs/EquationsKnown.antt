@@ -13,7 +13,8 @@ use Rattle.pack.specs.Syntax.{Activation, Enum, Equation, Expr, Port}
 use Rattle.pack.specs.Forms.{nameAt}
 use Rattle.pack.specs.Legal.{Fresh, LegalName}
 use Rattle.pack.specs.Read.{activationIn, enumIn}
-use Rattle.pack.specs.Write.{Item, each, enc, equationItems}
+use Rattle.pack.specs.Write.{Item, each, equationItems}
+use Rattle.pack.specs.Table.{tabled}
 use Rattle.pack.specs.Intern.{render}
 use Rattle.pack.proofs.Interns.{render-append}
 use Rattle.machines.specs.Emits.{packName}
@@ -72,24 +73,24 @@ module _ (ns : List Name) (fresh : Fresh [] ns) (legal : All LegalName ns) (few 
   vars = readable (base ++ ps) (A .outputs)
 
   -- the scopes, by the number of conditions
-  scoped : (z : State) → scopesT (enc ns) s spots (length ns) made ns last table rows env outs (A .name) (actAt ns s at .n) (actAt ns s at .branches) (actAt ns s at .other) z
-      ≡ render (enc ns) (each equationItems (branchEquations (A .name) (length conds) vars 0 (A .branches) ++ scopeEquations (A .name) (length conds) vars other [] (A .otherwise))) z
+  scoped : (z : State) → scopesT (tabled ns) s spots (length ns) made ns last table rows env outs (A .name) (actAt ns s at .n) (actAt ns s at .branches) (actAt ns s at .other) z
+      ≡ render (tabled ns) (each equationItems (branchEquations (A .name) (length conds) vars 0 (A .branches) ++ scopeEquations (A .name) (length conds) vars other [] (A .otherwise))) z
   scoped z =
       scopes-written ns fresh legal few s by short last L spots placed made M enums at A q d filled env table outs rows base ps gs count R H K O low z
-      ∙ ap (λ (n : ℕ). render (enc ns) (each equationItems (branchEquations (A .name) n vars 0 (A .branches) ++ scopeEquations (A .name) n vars other [] (A .otherwise))) z) (sym (conditions-length (A .name) (A .branches)))
+      ∙ ap (λ (n : ℕ). render (tabled ns) (each equationItems (branchEquations (A .name) n vars 0 (A .branches) ++ scopeEquations (A .name) n vars other [] (A .otherwise))) z) (sym (conditions-length (A .name) (A .branches)))
 
-  merged : (z : State) → render (enc ns) (portMergesT ns s spots (A .name) conds (actAt ns s at .outputs)) z ≡ render (enc ns) (each equationItems (mergeEquations (A .name) conds (A .outputs))) z
+  merged : (z : State) → render (tabled ns) (portMergesT ns s spots (A .name) conds (actAt ns s at .outputs)) z ≡ render (tabled ns) (each equationItems (mergeEquations (A .name) conds (A .outputs))) z
   merged z =
       let r = activation-value ns s at A q d in
-      ap (λ (x : Act). render (enc ns) (portMergesT ns s spots (A .name) conds (x .outputs)) z) (act-to ns s at A q r .3)
-      ∙ merges-read ns s spots (enc ns) placed (numbered ns fresh legal under s by) (A .name) conds (A .outputs) (r .to-outputs) (r .to-branches) (r .outputs) z
+      ap (λ (x : Act). render (tabled ns) (portMergesT ns s spots (A .name) conds (x .outputs)) z) (act-to ns s at A q r .3)
+      ∙ merges-read ns s spots (tabled ns) placed (numbered ns fresh legal under s by) (A .name) conds (A .outputs) (r .to-outputs) (r .to-branches) (r .outputs) z
 
   -- THE LINK: all equations of the activation
   pub equations-known : (b : Base) (to : ℕ) → counted (enumIn ns s) s (b .enums) ≡ value enums to → b .names ≡ length ns → b .last ≡ last → b .made ≡ made → (z : State)
-      → actEquationsT ns (enc ns) s b spots (A .name) table rows env outs (actAt ns s at) (conditionsOf (A .name) (A .branches)) z ≡ render (enc ns) (each equationItems (actEquations A gs (readable (base ++ ps) (A .outputs)))) z
+      → actEquationsT ns (tabled ns) s b spots (A .name) table rows env outs (actAt ns s at) (conditionsOf (A .name) (A .branches)) z ≡ render (tabled ns) (each equationItems (actEquations A gs (readable (base ++ ps) (A .outputs)))) z
   unfolding actEquationsT actEquations
   equations-known b to E en el em z =
-      let old = enc ns in
+      let old = tabled ns in
       let a = A .name in
       let act = actAt ns s at in
       let G = each equationItems (guardEquations a 1 (tailOf conds)) in

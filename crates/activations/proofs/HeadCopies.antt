@@ -12,7 +12,8 @@ use Rattle.wire.specs.Writer.{State, puts}
 use Rattle.pack.specs.Names.{Name}
 use Rattle.pack.specs.Syntax.{Expr, Exprs, eArray, eArrow, eBinary, eCall, eCast, eConst, eField, eIf, eIndex, eIterate, eMerge, ePre, eStruct, eTuple, eUnary, eVar, eWhen, xCons, xNil}
 use Rattle.pack.specs.Read.{exprIn}
-use Rattle.pack.specs.Write.{Item, each, enc, exprItems, exprsItems}
+use Rattle.pack.specs.Write.{Item, each, exprItems, exprsItems}
+use Rattle.pack.specs.Table.{tabled}
 use Rattle.pack.specs.Legal.{Each, Fresh, Known, LegalName}
 use Rattle.pack.specs.Intern.{render}
 use Rattle.pack.proofs.Tables.{code, code-append, each-left}
@@ -114,5 +115,5 @@ module _ (ns : List Name) (fresh : Fresh [] ns) (few : length ns < 65536) (s : L
         (subst (λ y. Lies ns s p y q) (items-split e) (lies-expr ns fresh few s by p e q d))
         (subst (λ y. Lies ns s (onwardT m) (each exprItems y) q) (kept-come m e k) w)
 
-    pub head-copied : All LegalName ns → (p : ℕ) (e : Expr) (q : ℕ) → exprIn ns s p ≡ value e q → Kept (metAt ns s last p) → (z : State) → render (enc ns) (headItems e) z ≡ puts (take (onwardT (metAt ns s last p) - p) (drop p s)) z
+    pub head-copied : All LegalName ns → (p : ℕ) (e : Expr) (q : ℕ) → exprIn ns s p ≡ value e q → Kept (metAt ns s last p) → (z : State) → render (tabled ns) (headItems e) z ≡ puts (take (onwardT (metAt ns s last p) - p) (drop p s)) z
     head-copied a p e q d k z = lies-copied ns a s p (headItems e) (onwardT (metAt ns s last p)) (head-lies p e q d k) z

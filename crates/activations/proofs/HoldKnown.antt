@@ -18,7 +18,7 @@ use Rattle.pack.specs.Syntax.{Enum, Equation, Expr, Port, Ty}
 use Rattle.pack.specs.Forms.{nameAt}
 use Rattle.pack.specs.Legal.{Fresh, LegalName}
 use Rattle.pack.specs.Read.{enumIn, typeIn}
-use Rattle.pack.specs.Write.{enc}
+use Rattle.pack.specs.Table.{tabled}
 use Rattle.machines.specs.Stands.{endOf}
 use Rattle.machines.specs.Emits.{packName}
 use Rattle.activations.specs.declared.base.Base.{Base}
@@ -155,14 +155,14 @@ module _ (ns : List Name) (fresh : Fresh [] ns) (legal : All LegalName ns) (few 
   -- what the rows from h on owe
   abbrev Rest : ℕ → ℕ → ℕ → List Sought → List Sought → Type 0
   Rest top n h xs all = (ports : List Port) (e d : List ℕ) → RowsFrom ns s d h xs → RowsFrom ns s d 0 all → KnownAt ns s a e d h ports → length ns + length ns ≤ length e → 3 * top ≤ length d
-      → HeldAs ns s a (holdFrom ns (enc ns) s b spots a outs n h e d) (h + n) ports all (hold enums a ports outputs xs)
+      → HeldAs ns s a (holdFrom ns (tabled ns) s b spots a outs n h e d) (h + n) ports all (hold enums a ports outputs xs)
 
   no-row : (top h : ℕ) (all : List Sought) → Rest top zero h [] all
   unfolding holdFrom hold
   no-row top h all ports e d r R K l m = asHeld refl (subst (λ y. KnownAt ns s a e d (h + 0) y) (sym (append-nil ports)) (subst (λ y. KnownAt ns s a e d y ports) (let w : h ≡ h + 0 = omega arith in w) K)) R
 
-  step-to : (n h : ℕ) (e d : List ℕ) (r : Hold) → r ≡ holdRow ns (enc ns) s b spots a outs h e d → holdFrom ns (enc ns) s b spots a outs (suc n) h e d ≡ cond (eqb (r .kind) 0) (holdFrom ns (enc ns) s b spots a outs n (suc h) (r .env) (r .held)) r
-  step-to n h e d r f = from-step ns (enc ns) s b spots a outs n h e d ∙ (λ j. cond (eqb (sym f j .kind) 0) (holdFrom ns (enc ns) s b spots a outs n (suc h) (sym f j .env) (sym f j .held)) (sym f j))
+  step-to : (n h : ℕ) (e d : List ℕ) (r : Hold) → r ≡ holdRow ns (tabled ns) s b spots a outs h e d → holdFrom ns (tabled ns) s b spots a outs (suc n) h e d ≡ cond (eqb (r .kind) 0) (holdFrom ns (tabled ns) s b spots a outs n (suc h) (r .env) (r .held)) r
+  step-to n h e d r f = from-step ns (tabled ns) s b spots a outs n h e d ∙ (λ j. cond (eqb (sym f j .kind) 0) (holdFrom ns (tabled ns) s b spots a outs n (suc h) (sym f j .env) (sym f j .held)) (sym f j))
 
   module _ (n h top : ℕ) (within : h + suc n ≤ top) (x : Sought) (xs all : List Sought) (rest : Rest top n (suc h) xs all) (ports : List Port) (e d : List ℕ)
       (row : RowIs ns s d h x) (rows : RowsFrom ns s d (suc h) xs) (whole : RowsFrom ns s d 0 all) (K : KnownAt ns s a e d h ports) (long : length ns + length ns ≤ length e) (room : 3 * top ≤ length d) where
@@ -176,7 +176,7 @@ module _ (ns : List Name) (fresh : Fresh [] ns) (legal : All LegalName ns) (few 
     after p = hold enums a (ports ++ (p ∷ [])) outputs xs
 
     result : Hold
-    result = holdFrom ns (enc ns) s b spots a outs (suc n) h e d
+    result = holdFrom ns (tabled ns) s b spots a outs (suc n) h e d
 
     small : v < length ns
     unfolding RowIs v
@@ -196,17 +196,17 @@ module _ (ns : List Name) (fresh : Fresh [] ns) (legal : All LegalName ns) (few 
 
     unknown : c ≡ 0 → HeldAs ns s a result (h + suc n) ports all (unheld (lastUnknown a (x .var)))
     unfolding result c v
-    unknown z = subst (λ y. HeldAs ns s a y (h + suc n) ports all (unheld (lastUnknown a (x .var)))) (sym (step-to n h e d (holdOf e d 15 v) (row-unknown ns (enc ns) s b spots a outs h v c e d refl refl z))) (asUnknown refl small (ap (lastUnknown a) (sym named)))
+    unknown z = subst (λ y. HeldAs ns s a y (h + suc n) ports all (unheld (lastUnknown a (x .var)))) (sym (step-to n h e d (holdOf e d 15 v) (row-unknown ns (tabled ns) s b spots a outs h v c e d refl refl z))) (asUnknown refl small (ap (lastUnknown a) (sym named)))
 
     needing : (c ≡ 0 → ⊥) → needsT ns s b (wordT d h 1) c ≡ true → HeldAs ns s a result (h + suc n) ports all (unheld (lastNeedsInit a (x .var)))
     unfolding result c v
-    needing z w = subst (λ y. HeldAs ns s a y (h + suc n) ports all (unheld (lastNeedsInit a (x .var)))) (sym (step-to n h e d (holdOf e d 16 v) (row-needs ns (enc ns) s b spots a outs h v c (wordT d h 1) true e d refl refl z refl (sym w) refl))) (asNeedsInit refl small (ap (lastNeedsInit a) (sym named)))
+    needing z w = subst (λ y. HeldAs ns s a y (h + suc n) ports all (unheld (lastNeedsInit a (x .var)))) (sym (step-to n h e d (holdOf e d 16 v) (row-needs ns (tabled ns) s b spots a outs h v c (wordT d h 1) true e d refl refl z refl (sym w) refl))) (asNeedsInit refl small (ap (lastNeedsInit a) (sym named)))
 
-    goes : (c ≡ 0 → ⊥) → needsT ns s b (wordT d h 1) c ≡ false → result ≡ holdFrom ns (enc ns) s b spots a outs n (suc h) (putT e (holderId ns a v) c) (putT d (3 * h + 2) (holderId ns a v))
+    goes : (c ≡ 0 → ⊥) → needsT ns s b (wordT d h 1) c ≡ false → result ≡ holdFrom ns (tabled ns) s b spots a outs n (suc h) (putT e (holderId ns a v) c) (putT d (3 * h + 2) (holderId ns a v))
     unfolding result c v knownT
     goes z w =
-        step-to n h e d (holdOf (putT e (holderT (enc ns) s b spots a v) c) (putT d (3 * h + 2) (holderT (enc ns) s b spots a v)) 0 v) (row-known ns (enc ns) s b spots a outs h v c (wordT d h 1) false e d _ refl refl z refl (sym w) refl refl)
-        ∙ (λ j. holdFrom ns (enc ns) s b spots a outs n (suc h) (putT e (holder-known ns legal s spots placed b names M a v small j) c) (putT d (3 * h + 2) (holder-known ns legal s spots placed b names M a v small j)))
+        step-to n h e d (holdOf (putT e (holderT (tabled ns) s b spots a v) c) (putT d (3 * h + 2) (holderT (tabled ns) s b spots a v)) 0 v) (row-known ns (tabled ns) s b spots a outs h v c (wordT d h 1) false e d _ refl refl z refl (sym w) refl refl)
+        ∙ (λ j. holdFrom ns (tabled ns) s b spots a outs n (suc h) (putT e (holder-known ns legal s spots placed b names M a v small j) c) (putT d (3 * h + 2) (holder-known ns legal s spots placed b names M a v small j)))
 
     words : (w : ℕ) → wordT (putT d (3 * h + 2) (holderId ns a v)) w 0 ≡ wordT d w 0
     words w = put-other d (3 * h + 2) (holderId ns a v) (3 * w + 0) (λ z. omega arith)
@@ -221,7 +221,7 @@ module _ (ns : List Name) (fresh : Fresh [] ns) (legal : All LegalName ns) (few 
         let u = put-length d (3 * h + 2) (holderId ns a v) in
         also-held result (h + suc n) ports (holderPort a (x .var) t) g all (hold enums a (ports ++ (holderPort a (x .var) t ∷ [])) outputs xs)
         (subst (λ y. HeldAs ns s a y (h + suc n) (ports ++ (holderPort a (x .var) t ∷ [])) all (hold enums a (ports ++ (holderPort a (x .var) t ∷ [])) outputs xs)) (sym (goes z w))
-        (subst (λ y. HeldAs ns s a (holdFrom ns (enc ns) s b spots a outs n (suc h) (putT e (holderId ns a v) c) (putT d (3 * h + 2) (holderId ns a v))) y (ports ++ (holderPort a (x .var) t ∷ [])) all (hold enums a (ports ++ (holderPort a (x .var) t ∷ [])) outputs xs)) (let i : suc h + n ≡ h + suc n = omega arith in i)
+        (subst (λ y. HeldAs ns s a (holdFrom ns (tabled ns) s b spots a outs n (suc h) (putT e (holderId ns a v) c) (putT d (3 * h + 2) (holderId ns a v))) y (ports ++ (holderPort a (x .var) t ∷ [])) all (hold enums a (ports ++ (holderPort a (x .var) t ∷ [])) outputs xs)) (let i : suc h + n ≡ h + suc n = omega arith in i)
         (rest (ports ++ (holderPort a (x .var) t ∷ [])) (putT e (holderId ns a v) c) (putT d (3 * h + 2) (holderId ns a v))
         (rows-same ns s d (putT d (3 * h + 2) (holderId ns a v)) (suc h) xs (λ j l. (words j, inits j)) rows)
         (rows-same ns s d (putT d (3 * h + 2) (holderId ns a v)) 0 all (λ j l. (words j, inits j)) whole)
@@ -238,7 +238,7 @@ module _ (ns : List Name) (fresh : Fresh [] ns) (legal : All LegalName ns) (few 
     by-type none k = unknown k
     by-type (some t) k = by-choice t (needsT ns s b (wordT d h 1) c) (firstOf (x .init) (startOf enums t)) k (λ z. let l = k .0 in omega arith) refl (needs-choice (x .init) (wordT d h 1) c t given k)
 
-    one-row : HeldAs ns s a (holdFrom ns (enc ns) s b spots a outs (suc n) h e d) (h + suc n) ports all (withType enums a x (typed ports outputs (x .var)) (λ p. hold enums a (ports ++ (p ∷ [])) outputs xs))
+    one-row : HeldAs ns s a (holdFrom ns (tabled ns) s b spots a outs (suc n) h e d) (h + suc n) ports all (withType enums a x (typed ports outputs (x .var)) (λ p. hold enums a (ports ++ (p ∷ [])) outputs xs))
     unfolding result after
     one-row = by-type (typed ports outputs (x .var)) coded
 
@@ -251,7 +251,7 @@ module _ (ns : List Name) (fresh : Fresh [] ns) (legal : All LegalName ns) (few 
 
   -- THE LINK: the holders of all rows
   pub hold-is : (n : ℕ) (xs : List Sought) (ports : List Port) (e d : List ℕ) → n ≡ length xs → RowsFrom ns s d 0 xs → TypesAre ns s e (lastTyped ports) → length ns + length ns ≤ length e → 3 * n ≤ length d
-      → HeldAs ns s a (holdFrom ns (enc ns) s b spots a outs n 0 e d) n ports xs (hold enums a ports outputs xs)
+      → HeldAs ns s a (holdFrom ns (tabled ns) s b spots a outs n 0 e d) n ports xs (hold enums a ports outputs xs)
   hold-is n xs ports e d f r t l m =
-      subst (λ y. HeldAs ns s a (holdFrom ns (enc ns) s b spots a outs n 0 e d) y ports xs (hold enums a ports outputs xs)) (let w : 0 + n ≡ n = omega arith in w)
+      subst (λ y. HeldAs ns s a (holdFrom ns (tabled ns) s b spots a outs n 0 e d) y ports xs (hold enums a ports outputs xs)) (let w : 0 + n ≡ n = omega arith in w)
       (hold-rows n n 0 xs xs f (omega arith) ports e d r r (record { types = t; below = λ j g. absurd (omega arith); holders = λ j g. absurd (omega arith); numbers = λ j g. absurd (omega arith) }) l m)

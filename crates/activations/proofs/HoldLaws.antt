@@ -9,14 +9,13 @@ use lib.Dec.{eqb}
 use borrow.Author.Tests.{le-ltb, lt-ltb}
 use Rattle.wire.specs.Writer.{State, puts, st}
 use Rattle.pack.specs.Names.{Name}
-use Rattle.pack.specs.Intern.{table}
 use Rattle.machines.specs.Emits.{packName}
 use Rattle.machines.proofs.SureLaws.{no, yes}
 use Rattle.activations.specs.declared.base.Base.{Base}
 use Rattle.activations.specs.declared.types.Start.{Start}
 use Rattle.activations.specs.Cells.{putT}
 use Rattle.activations.specs.Ids.{oldOr}
-use Rattle.activations.specs.Lookups.{placeBuilt}
+use Rattle.activations.specs.Lookups.{placeBuilt, placeIn}
 use Rattle.activation_rules.specs.MadeNames.{lastVar}
 use Rattle.activations.specs.TypeCodes.{typedT}
 use Rattle.activations.specs.TypesAt.{isMissing, startT}
@@ -31,9 +30,9 @@ pub other-is : (n i x : ℕ) → n ≤ i → x ≡ oldOr n i x
 unfolding oldOr
 other-is n i x l = rw (le-ltb i n l)
 
-pub number-found : (old : List ℕ) (b : Base) (n : Name) (v x r : ℕ) (t : State) → t ≡ puts n (st 255 0 [] []) → x ≡ placeBuilt (table old) (b .names) (b .made) t → r ≡ oldOr (b .names) x (b .names + v) → r ≡ holderNumber old b n v
+pub number-found : (old : List ℕ) (b : Base) (n : Name) (v x r : ℕ) (t : State) → t ≡ puts n (st 255 0 [] []) → x ≡ placeBuilt (placeIn old) (b .names) (b .made) t → r ≡ oldOr (b .names) x (b .names + v) → r ≡ holderNumber old b n v
 unfolding holderNumber
-number-found old b n v x r t e f g = g ∙ ap (λ y. oldOr (b .names) y (b .names + v)) (f ∙ ap (placeBuilt (table old) (b .names) (b .made)) e)
+number-found old b n v x r t e f g = g ∙ ap (λ y. oldOr (b .names) y (b .names + v)) (f ∙ ap (placeBuilt (placeIn old) (b .names) (b .made)) e)
 
 module _ (old s : List ℕ) (b : Base) (spots : List ℕ) (a : Name) where
   pub holder-is : (v r : ℕ) (n : Name) → n ≡ packName s spots v → r ≡ holderNumber old b (lastVar a n) v → r ≡ holderT old s b spots a v

@@ -16,7 +16,8 @@ use Rattle.pack.specs.Syntax.{Enum, Expr, Ty, eArrow, eConst, ePre, eVar}
 use Rattle.pack.specs.Forms.{nameAt}
 use Rattle.pack.specs.Legal.{Each, Fresh, LegalName, place}
 use Rattle.pack.specs.Read.{enumIn, exprIn}
-use Rattle.pack.specs.Write.{each, enc, equationItems, exprItems, list, litBytes, nameItems, nm, raw}
+use Rattle.pack.specs.Write.{each, equationItems, exprItems, list, litBytes, nameItems, nm, raw}
+use Rattle.pack.specs.Table.{tabled}
 use Rattle.pack.specs.Intern.{putItem, putName, render}
 use Rattle.pack.proofs.Copies.{copied-expr, render-known}
 use Rattle.pack.proofs.Interns.{render-append}
@@ -52,28 +53,28 @@ equation-steps old n v e z = render-append old (exprItems e) (raw (5 ∷ []) ∷
 
 module _ (ns : List Name) (fresh : Fresh [] ns) (legal : All LegalName ns) (few : length ns < 65536) (s : List ℕ) (by : Bytes s) where
   -- an old name by its index
-  pub numbered : (x : ℕ) → x < length ns → (z : State) → puts (two x) z ≡ putName (enc ns) (nameAt ns x) z
+  pub numbered : (x : ℕ) → x < length ns → (z : State) → puts (two x) z ≡ putName (tabled ns) (nameAt ns x) z
   unfolding render putItem code Each
   numbered x l z =
       let k = place-at-name ns x fresh l in
       sym (render-known ns (nm (nameAt ns x) ∷ []) z legal (subst (λ y. y < length ns) (sym k) l, tt) ∙ ap (λ y. puts y z) (append-nil (two (place ns (nameAt ns x)))) ∙ ap (λ y. puts (two y) z) k)
 
-  literal-written : (tag : ℕ) (z : State) → puts (0 ∷ litBytes (zeroOf tag)) z ≡ render (enc ns) (exprItems (eConst (zeroOf tag))) z
+  literal-written : (tag : ℕ) (z : State) → puts (0 ∷ litBytes (zeroOf tag)) z ≡ render (tabled ns) (exprItems (eConst (zeroOf tag))) z
   unfolding exprItems render putItem
   literal-written tag z = refl
 
-  name-written : (v : ℕ) → v < length ns → (z : State) → puts (1 ∷ two v) z ≡ render (enc ns) (exprItems (eVar (nameAt ns v))) z
+  name-written : (v : ℕ) → v < length ns → (z : State) → puts (1 ∷ two v) z ≡ render (tabled ns) (exprItems (eVar (nameAt ns v))) z
   unfolding exprItems render putItem puts
   name-written v l z = numbered v l (put 1 z)
 
-  start-written : (t : Start) (e : Expr) → startExpr ns t ≡ some e → StartIn ns t → (z : State) → puts (startBytes t) z ≡ render (enc ns) (exprItems e) z
+  start-written : (t : Start) (e : Expr) → startExpr ns t ≡ some e → StartIn ns t → (z : State) → puts (startBytes t) z ≡ render (tabled ns) (exprItems e) z
   unfolding startExpr StartIn startBytes exprOr
   start-written sr.Missing e h i z = absurd (no-expr e h)
-  start-written (sr.Literal tag) e h i z = literal-written tag z ∙ ap (λ y. render (enc ns) (exprItems (exprOr e y)) z) h
-  start-written (sr.Name v) e h i z = name-written v i z ∙ ap (λ y. render (enc ns) (exprItems (exprOr e y)) z) h
+  start-written (sr.Literal tag) e h i z = literal-written tag z ∙ ap (λ y. render (tabled ns) (exprItems (exprOr e y)) z) h
+  start-written (sr.Name v) e h i z = name-written v i z ∙ ap (λ y. render (tabled ns) (exprItems (exprOr e y)) z) h
 
   module _ (b : Base) (enums : List Enum) (q : ℕ) (E : counted (enumIn ns s) s (b .enums) ≡ value enums q) where
-    init-written : (i : Option Expr) (init c : ℕ) (t : Ty) (e : Expr) → RowInit ns s i init → Coded ns s c (some t) → firstOf i (startOf enums t) ≡ some e → (z : State) → puts (initBytes ns s b init c) z ≡ render (enc ns) (exprItems e) z
+    init-written : (i : Option Expr) (init c : ℕ) (t : Ty) (e : Expr) → RowInit ns s i init → Coded ns s c (some t) → firstOf i (startOf enums t) ≡ some e → (z : State) → puts (initBytes ns s b init c) z ≡ render (tabled ns) (exprItems e) z
     unfolding initBytes RowInit InitAt firstOf exprOr sliceOf
     init-written none init c t e r h f z =
         let k = start-is ns fresh few s by (b .enums) enums q E c t h in
@@ -82,18 +83,18 @@ module _ (ns : List Name) (fresh : Fresh [] ns) (legal : All LegalName ns) (few 
         rw (ne-eqb init 0 (λ y. let l = r .1 .0 in omega arith))
         (ap (λ y. puts (take (y - init) (drop init s)) z) (end-to (exprIn ns s init) d (r .0) (r .1 .1))
         ∙ sym (copied-expr ns fresh legal s by few init d (r .0) (r .1 .1) z)
-        ∙ ap (λ y. render (enc ns) (exprItems (exprOr e y)) z) f)
+        ∙ ap (λ y. render (tabled ns) (exprItems (exprOr e y)) z) f)
 
     -- THE LINK: a row whose type and initial value are known
     pub row-written : (spots : List ℕ) → ((i : ℕ) → i < length ns → packName s spots i ≡ nameAt ns i) → (a : Name) (env held : List ℕ) (h : ℕ) (x : Sought) (t : Ty) (e : Expr) → RowIs ns s held h x → Coded ns s (getD env (wordT held h 2) 0) (some t) → firstOf (x .init) (startOf enums t) ≡ some e
-        → (z : State) → render (enc ns) (rowItems ns s b spots a env held h) z ≡ render (enc ns) (equationItems (holderEquation a (x .var) e)) z
+        → (z : State) → render (tabled ns) (rowItems ns s b spots a env held h) z ≡ render (tabled ns) (equationItems (holderEquation a (x .var) e)) z
     unfolding rowItems holderItems RowIs holderEquation render putItem puts
     row-written spots placed a env held h x t e r k f z =
         let v = wordT held h 0 in
         let n : packName s spots v ≡ x .var = placed v (r .0) ∙ r .1 in
-        let y = put 6 (putName (enc ns) (lastVar a (x .var)) (puts (two 1) z)) in
-        ap (λ m. puts (two v) (put 1 (put 5 (puts (initBytes ns s b (wordT held h 1) (getD env (wordT held h 2) 0)) (put 6 (putName (enc ns) (lastVar a m) (puts (two 1) z))))))) n
+        let y = put 6 (putName (tabled ns) (lastVar a (x .var)) (puts (two 1) z)) in
+        ap (λ m. puts (two v) (put 1 (put 5 (puts (initBytes ns s b (wordT held h 1) (getD env (wordT held h 2) 0)) (put 6 (putName (tabled ns) (lastVar a m) (puts (two 1) z))))))) n
         ∙ ap (λ w. puts (two v) (put 1 (put 5 w))) (init-written (x .init) (wordT held h 1) (getD env (wordT held h 2) 0) t e (r .2) k f y)
-        ∙ numbered v (r .0) (put 1 (put 5 (render (enc ns) (exprItems e) y)))
-        ∙ ap (λ m. putName (enc ns) m (put 1 (put 5 (render (enc ns) (exprItems e) y)))) (r .1)
-        ∙ sym (equation-steps (enc ns) (lastVar a (x .var)) (x .var) e z)
+        ∙ numbered v (r .0) (put 1 (put 5 (render (tabled ns) (exprItems e) y)))
+        ∙ ap (λ m. putName (tabled ns) m (put 1 (put 5 (render (tabled ns) (exprItems e) y)))) (r .1)
+        ∙ sym (equation-steps (tabled ns) (lastVar a (x .var)) (x .var) e z)

@@ -13,9 +13,8 @@ use Rattle.wire.proofs.Writers.{lt-or-le, puts-fit}
 use Rattle.pack.specs.Names.{Name, eqName}
 use Rattle.pack.specs.Forms.{nameAt}
 use Rattle.pack.specs.Legal.{LegalName, place}
-use Rattle.pack.specs.Write.{enc}
+use Rattle.pack.specs.Table.{tabled}
 use Rattle.pack.proofs.Tables.{eqName-true}
-use Rattle.pack.proofs.Written.{table-enc}
 use Rattle.machines.specs.Laid.{sliceOf}
 use Rattle.machines.specs.Emits.{packName}
 use Rattle.activations.specs.declared.base.Base.{Base}
@@ -24,6 +23,7 @@ use Rattle.activations.specs.Lookups.{MadeIs, isMade, placeBuilt}
 use Rattle.activation_rules.specs.MadeNames.{actPrefix, lastVar}
 use Rattle.activations.specs.HoldAt.{holderNumber, holderT}
 use Rattle.activations.proofs.IdLaws.{old-or-other}
+use Rattle.activations.proofs.BaseLaws.{place-tabled}
 use Rattle.activations.proofs.LookupLaws.{made-place}
 
 -- a holder's name begins as made ones do
@@ -43,27 +43,27 @@ long-none (m ∷ ms) n a l = go (eqName m n) refl (long-none ms n (a .1) l)
 
 -- what the lookup of a made name answers
 module _ (ns : List Name) (legal : All LegalName ns) (made : Bool) (M : MadeIs ns made) where
-  built-fits : (n : Name) → isMade n ≡ true → length n ≤ 255 → placeBuilt ns (length ns) made (puts n (st 255 0 [] [])) ≡ place ns n
-  built-fits n e l = ap (placeBuilt ns (length ns) made) (puts-fit 255 0 [] n [] zero-le ∙ ap (λ b. cond b (st 255 0 n []) full) (le-leb (0 + length n) 255 (omega arith))) ∙ made-place ns made 255 0 n [] M e
+  built-fits : (n : Name) → isMade n ≡ true → length n ≤ 255 → placeBuilt (place ns) (length ns) made (puts n (st 255 0 [] [])) ≡ place ns n
+  built-fits n e l = ap (placeBuilt (place ns) (length ns) made) (puts-fit 255 0 [] n [] zero-le ∙ ap (λ b. cond b (st 255 0 n []) full) (le-leb (0 + length n) 255 (omega arith))) ∙ made-place ns made 255 0 n [] M e
 
-  built-long : (n : Name) → 255 < length n → placeBuilt ns (length ns) made (puts n (st 255 0 [] [])) ≡ length ns
+  built-long : (n : Name) → 255 < length n → placeBuilt (place ns) (length ns) made (puts n (st 255 0 [] [])) ≡ length ns
   unfolding placeBuilt
-  built-long n l = ap (placeBuilt ns (length ns) made) (puts-fit 255 0 [] n [] zero-le ∙ ap (λ b. cond b (st 255 0 n []) full) (lt-leb (0 + length n) 255 (omega arith)))
+  built-long n l = ap (placeBuilt (place ns) (length ns) made) (puts-fit 255 0 [] n [] zero-le ∙ ap (λ b. cond b (st 255 0 n []) full) (lt-leb (0 + length n) 255 (omega arith)))
 
-  number-is : (n : Name) (v : ℕ) → isMade n ≡ true → oldOr (length ns) (placeBuilt ns (length ns) made (puts n (st 255 0 [] []))) (length ns + v) ≡ oldOr (length ns) (place ns n) (length ns + v)
+  number-is : (n : Name) (v : ℕ) → isMade n ≡ true → oldOr (length ns) (placeBuilt (place ns) (length ns) made (puts n (st 255 0 [] []))) (length ns + v) ≡ oldOr (length ns) (place ns n) (length ns + v)
   number-is n v e = ⊎-elim
       (λ l. ap (λ y. oldOr (length ns) y (length ns + v)) (built-long n l) ∙ old-or-other (length ns) (length ns) (length ns + v) (omega arith) ∙ sym (old-or-other (length ns) (place ns n) (length ns + v) (long-none ns n legal l)))
       (λ l. ap (λ y. oldOr (length ns) y (length ns + v)) (built-fits n e l))
       (lt-or-le 255 (length n))
 
 module _ (ns : List Name) (legal : All LegalName ns) (s spots : List ℕ) (placed : (i : ℕ) → i < length ns → packName s spots i ≡ nameAt ns i) (b : Base) (names : b .names ≡ length ns) (M : MadeIs ns (b .made)) where
-  number-known : (n : Name) (v : ℕ) → isMade n ≡ true → holderNumber (enc ns) b n v ≡ oldOr (length ns) (place ns n) (length ns + v)
+  number-known : (n : Name) (v : ℕ) → isMade n ≡ true → holderNumber (tabled ns) b n v ≡ oldOr (length ns) (place ns n) (length ns + v)
   unfolding holderNumber
   number-known n v e =
-      (λ j. oldOr (names j) (placeBuilt (table-enc ns j) (names j) (b .made) (puts n (st 255 0 [] []))) (names j + v))
+      (λ j. oldOr (names j) (placeBuilt (place-tabled ns j) (names j) (b .made) (puts n (st 255 0 [] []))) (names j + v))
       ∙ number-is ns legal (b .made) M n v e
 
   -- THE LINK: the number of a holder
-  pub holder-known : (a : Name) (v : ℕ) → v < length ns → holderT (enc ns) s b spots a v ≡ holderId ns a v
+  pub holder-known : (a : Name) (v : ℕ) → v < length ns → holderT (tabled ns) s b spots a v ≡ holderId ns a v
   unfolding holderT holderId
-  holder-known a v l = ap (λ y. holderNumber (enc ns) b (lastVar a y) v) (placed v l) ∙ number-known (lastVar a (nameAt ns v)) v (last-made a (nameAt ns v))
+  holder-known a v l = ap (λ y. holderNumber (tabled ns) b (lastVar a y) v) (placed v l) ∙ number-known (lastVar a (nameAt ns v)) v (last-made a (nameAt ns v))

@@ -9,7 +9,7 @@ use borrow.Author.Tests.{le-ltb, lt-ltb}
 use Rattle.wire.specs.declared.writer.Writer.{Writer}
 use Rattle.wire.specs.Writer.{State, full, puts, st, stateOf}
 use Rattle.pack.specs.Names.{Name}
-use Rattle.pack.specs.Intern.{putBuilt, putItem, putName, render, table}
+use Rattle.pack.specs.Intern.{putBuilt, putItem, putName, render}
 use Rattle.wire.proofs.Writers.{puts-full}
 use Rattle.pack.specs.Write.{nm}
 use Rattle.pack.proofs.Written.{render-full}
@@ -20,7 +20,7 @@ use Rattle.activations.specs.declared.locals.Passed.{Passed}
 use Rattle.activation_rules.specs.MadeNames.{lastVar}
 use Rattle.activations.specs.Vars.{branchVar}
 use Rattle.activations.specs.Cells.{putT}
-use Rattle.activations.specs.Lookups.{placeBuilt}
+use Rattle.activations.specs.Lookups.{placeBuilt, placeIn}
 use Rattle.activations.specs.TypesAt.{typeBytes}
 use Rattle.activations.specs.LocalsAt.{Left, branchLocalT, built, clockLocalsT, flagLocalsT, holderLocalT, holderLocalsT, leaveT, leftOf, localT, moreT, namedT}
 
@@ -51,11 +51,11 @@ port-put bs x y z e f = f ∙ ap (puts bs) e
 
 module _ (ns : List Name) (s old : List ℕ) (made : Bool) where
   -- one local
-  pub local-is : (names c n : ℕ) (x : State) (l l' o m o' m' : List ℕ) (p : Passed) (w : Writer) → length ns ≡ names → l' ≡ leaveT names (placeBuilt (table old) names made x) c l → n ≡ moreT (p .count) → stateOf o' m' w ≡ puts (typeBytes ns s c) (putBuilt old x (stateOf o m (p .w)))
+  pub local-is : (names c n : ℕ) (x : State) (l l' o m o' m' : List ℕ) (p : Passed) (w : Writer) → length ns ≡ names → l' ≡ leaveT names (placeBuilt (placeIn old) names made x) c l → n ≡ moreT (p .count) → stateOf o' m' w ≡ puts (typeBytes ns s c) (putBuilt old x (stateOf o m (p .w)))
       → leftOf l' o' m' (record { w = w; count = n }) ≡ localT ns s old made x c (leftOf l o m p)
   unfolding localT
   local-is names c n x l l' o m o' m' p w e f g h =
-      λ i. record { later = (f ∙ ap (λ y. leaveT y (placeBuilt (table old) y made x) c l) (sym e)) i; state = h i; count = g i }
+      λ i. record { later = (f ∙ ap (λ y. leaveT y (placeBuilt (placeIn old) y made x) c l) (sym e)) i; state = h i; count = g i }
 
   pub named-is : (y : Name) (x : State) (c : ℕ) (u z : Left) → x ≡ puts y (st 255 0 [] []) → u ≡ localT ns s old made x c z → u ≡ namedT ns s old made y c z
   unfolding namedT built

@@ -17,11 +17,11 @@ use Rattle.pack.specs.Syntax.{Expr, Port, Ty, eVar, tBool}
 use Rattle.pack.specs.Forms.{nameAt}
 use Rattle.pack.specs.Legal.{Fresh, LegalName, place}
 use Rattle.pack.specs.Read.{typeIn}
-use Rattle.pack.specs.Write.{Item, each, enc, portItems, tyItems}
-use Rattle.pack.specs.Intern.{putItem, putName, render, table}
+use Rattle.pack.specs.Write.{Item, each, portItems, tyItems}
+use Rattle.pack.specs.Table.{tabled}
+use Rattle.pack.specs.Intern.{putItem, putName, render}
 use Rattle.pack.proofs.Interns.{built-is, render-append}
 use Rattle.pack.proofs.Tables.{eqName-false, eqName-true, name-at-place, place-at-name}
-use Rattle.pack.proofs.Written.{table-enc}
 use Rattle.machines.specs.Laid.{sliceOf}
 use Rattle.machines.specs.Stands.{endOf}
 use Rattle.machines.proofs.LocalLaws.{each-append}
@@ -34,10 +34,11 @@ use Rattle.activation_rules.specs.Flags.{flagEquations}
 use Rattle.activation_rules.specs.Clocks.{guardEquations}
 use Rattle.activations.specs.ByNumber.{boolPort}
 use Rattle.activation_rules.specs.Types.{lastTyped}
-use Rattle.activations.specs.Lookups.{MadeIs, isMade, placeBuilt}
+use Rattle.activations.specs.Lookups.{MadeIs, isMade, placeBuilt, placeIn}
 use Rattle.activations.specs.TypesAt.{Coded, TypesAre, typeBytes}
 use Rattle.activations.specs.LocalsAt.{Left, branchLocalT, built, clockLocalsT, flagLocalsT, leaveT, localT, moreT, namedT}
 use Rattle.activations.proofs.TypesKnown.{coded-bool, coded-read, type-inside, type-written}
+use Rattle.activations.proofs.BaseLaws.{place-tabled}
 use Rattle.activations.proofs.RowsNoted.{put-length, put-other, put-same}
 use Rattle.activations.proofs.HoldKnown.{last-snoc}
 use Rattle.activations.proofs.NumbersKnown.{built-place, by-bool}
@@ -60,7 +61,7 @@ clock-made a (suc k) = refl
 module _ (ns : List Name) (s : List ℕ) where
   -- what the locals ls make of a pass's state
   pub record Leaves (ls : List Port) (z u : Left) : Type 0 where
-    pub written : u .state ≡ render (enc ns) (each portItems ls) (z .state)
+    pub written : u .state ≡ render (tabled ns) (each portItems ls) (z .state)
     pub counted : u .count % 65536 ≡ (z .count + length ls) % 65536
     pub low : z .count < 65536 → u .count < 65536
     pub room : length (u .later) ≡ length (z .later)
@@ -84,7 +85,7 @@ module _ (ns : List Name) (s : List ℕ) where
 
   pub leaves-more : (ls ms : List Port) (z u w : Left) → Leaves ls z u → Leaves ms u w → Leaves (ls ++ ms) z w
   leaves-more ls ms z u w a b = record {
-    written = b .written ∙ ap (render (enc ns) (each portItems ms)) (a .written) ∙ sym (render-append (enc ns) (each portItems ls) (each portItems ms) (z .state)) ∙ ap (λ (is : List Item). render (enc ns) is (z .state)) (sym (each-append portItems ls ms));
+    written = b .written ∙ ap (render (tabled ns) (each portItems ms)) (a .written) ∙ sym (render-append (tabled ns) (each portItems ls) (each portItems ms) (z .state)) ∙ ap (λ (is : List Item). render (tabled ns) is (z .state)) (sym (each-append portItems ls ms));
     counted = count-more (z .count) (u .count) (w .count) (length ls) (length ms) (length (ls ++ ms)) (a .counted) (b .counted) (length-append ls ms);
     low = λ l. b .low (a .low l);
     room = b .room ∙ a .room;
@@ -100,9 +101,9 @@ module _ (ns : List Name) (s : List ℕ) where
     coded-low : (c : ℕ) (t : Ty) → Coded ns s c (some t) → c < 65536
     coded-low c t h = ⊎-elim (λ l. omega arith) (λ l. let k = type-inside ns fresh few s by c t (endOf (typeIn ns s c)) (coded-read ns s c t h l) in omega arith) (lt-or-le c 2)
 
-    local-place : (x : Name) → isMade x ≡ true → placeBuilt (table (enc ns)) (length ns) made (built x) ≡ place ns x
+    local-place : (x : Name) → isMade x ≡ true → placeBuilt (placeIn (tabled ns)) (length ns) made (built x) ≡ place ns x
     unfolding built
-    local-place x m = ap (λ (t : List Name). placeBuilt t (length ns) made (built x)) (table-enc ns) ∙ built-place ns legal made M x m
+    local-place x m = ap (λ (t : Name → ℕ). placeBuilt t (length ns) made (built x)) (place-tabled ns) ∙ built-place ns legal made M x m
 
     leave-other : (i c : ℕ) (t : List ℕ) (y : ℕ) → (i ≡ y → ⊥) → getD (leaveT (length ns) i c t) y 0 ≡ getD t y 0
     unfolding leaveT
@@ -134,26 +135,26 @@ module _ (ns : List Name) (s : List ℕ) where
         subst (λ (w : ℕ). Coded ns s w (lastTyped base (nameAt ns y))) (sym (leave-other (place ns (p .name)) c t y (λ i. eqName-false (p .name) (nameAt ns y) e (sym (name-at-place ns (p .name) (omega arith)) ∙ ap (nameAt ns) i)))) (T y k))
         refl)
 
-    named-written : (p : Port) (c : ℕ) (z : State) → Coded ns s c (some (p .ty)) → puts (typeBytes ns s c) (putName (enc ns) (p .name) z) ≡ render (enc ns) (each portItems (p ∷ [])) z
+    named-written : (p : Port) (c : ℕ) (z : State) → Coded ns s c (some (p .ty)) → puts (typeBytes ns s c) (putName (tabled ns) (p .name) z) ≡ render (tabled ns) (each portItems (p ∷ [])) z
     unfolding each portItems render putItem
-    named-written p c z h = type-written ns fresh few s by legal c (p .ty) h (putName (enc ns) (p .name) z) ∙ ap (λ (is : List Item). render (enc ns) is (putName (enc ns) (p .name) z)) (sym (append-nil (tyItems (p .ty))))
+    named-written p c z h = type-written ns fresh few s by legal c (p .ty) h (putName (tabled ns) (p .name) z) ∙ ap (λ (is : List Item). render (tabled ns) is (putName (tabled ns) (p .name) z)) (sym (append-nil (tyItems (p .ty))))
 
-    state-is : (p : Port) (c : ℕ) (z : Left) → Coded ns s c (some (p .ty)) → namedT ns s (enc ns) made (p .name) c z .state ≡ render (enc ns) (each portItems (p ∷ [])) (z .state)
+    state-is : (p : Port) (c : ℕ) (z : Left) → Coded ns s c (some (p .ty)) → namedT ns s (tabled ns) made (p .name) c z .state ≡ render (tabled ns) (each portItems (p ∷ [])) (z .state)
     unfolding namedT localT built
-    state-is p c z h = ap (puts (typeBytes ns s c)) (built-is (enc ns) (p .name) 0 [] (z .state)) ∙ named-written p c (z .state) h
+    state-is p c z h = ap (puts (typeBytes ns s c)) (built-is (tabled ns) (p .name) 0 [] (z .state)) ∙ named-written p c (z .state) h
 
-    later-is : (x : Name) (c : ℕ) (z : Left) → isMade x ≡ true → namedT ns s (enc ns) made x c z .later ≡ leaveT (length ns) (place ns x) c (z .later)
+    later-is : (x : Name) (c : ℕ) (z : Left) → isMade x ≡ true → namedT ns s (tabled ns) made x c z .later ≡ leaveT (length ns) (place ns x) c (z .later)
     unfolding namedT localT
     later-is x c z m = ap (λ (i : ℕ). leaveT (length ns) i c (z .later)) (local-place x m)
 
-    count-is : (x : Name) (c : ℕ) (z : Left) → namedT ns s (enc ns) made x c z .count ≡ (z .count + 1) % 65536
+    count-is : (x : Name) (c : ℕ) (z : Left) → namedT ns s (tabled ns) made x c z .count ≡ (z .count + 1) % 65536
     unfolding namedT localT moreT
     count-is x c z = mod-add-mod (z .count) 65536 1
 
     -- THE LAW: one local
-    pub leaves-one : (x : Name) (c : ℕ) (p : Port) (z : Left) → x ≡ p .name → isMade (p .name) ≡ true → Coded ns s c (some (p .ty)) → Leaves (p ∷ []) z (namedT ns s (enc ns) made x c z)
+    pub leaves-one : (x : Name) (c : ℕ) (p : Port) (z : Left) → x ≡ p .name → isMade (p .name) ≡ true → Coded ns s c (some (p .ty)) → Leaves (p ∷ []) z (namedT ns s (tabled ns) made x c z)
     leaves-one x c p z e m h =
-        subst (λ (y : Name). Leaves (p ∷ []) z (namedT ns s (enc ns) made y c z)) (sym e)
+        subst (λ (y : Name). Leaves (p ∷ []) z (namedT ns s (tabled ns) made y c z)) (sym e)
         (record {
           written = state-is p c z h;
           counted = ap (λ (n : ℕ). n % 65536) (count-is (p .name) c z) ∙ mod-mod (z .count + 1) 65536;
@@ -163,38 +164,38 @@ module _ (ns : List Name) (s : List ℕ) where
         })
 
     -- the flags and clocks of branches are Booleans
-    branch-left : (a : Name) (v : Var) (k : ℕ) (z : Left) → isMade (branchVar v a k) ≡ true → Leaves (boolPort (branchVar v a k) ∷ []) z (branchLocalT ns s (enc ns) made a v k z)
+    branch-left : (a : Name) (v : Var) (k : ℕ) (z : Left) → isMade (branchVar v a k) ≡ true → Leaves (boolPort (branchVar v a k) ∷ []) z (branchLocalT ns s (tabled ns) made a v k z)
     unfolding branchLocalT boolPort
     branch-left a v k z m = leaves-one (branchVar v a k) 1 (boolPort (branchVar v a k)) z refl m (coded-bool ns s)
 
-    flag-left : (a : Name) (k : ℕ) (z : Left) → Leaves (boolPort (flagVar a k) ∷ []) z (branchLocalT ns s (enc ns) made a vr.Flag k z)
+    flag-left : (a : Name) (k : ℕ) (z : Left) → Leaves (boolPort (flagVar a k) ∷ []) z (branchLocalT ns s (tabled ns) made a vr.Flag k z)
     unfolding branchVar
     flag-left a k z = branch-left a vr.Flag k z (flag-made a k)
 
-    untaken-left : (a : Name) (k : ℕ) (z : Left) → Leaves (boolPort (noneVar a k) ∷ []) z (branchLocalT ns s (enc ns) made a vr.Untaken k z)
+    untaken-left : (a : Name) (k : ℕ) (z : Left) → Leaves (boolPort (noneVar a k) ∷ []) z (branchLocalT ns s (tabled ns) made a vr.Untaken k z)
     unfolding branchVar
     untaken-left a k z = branch-left a vr.Untaken k z (none-made a k)
 
-    clock-left : (a : Name) (k : ℕ) (z : Left) → Leaves (boolPort (clockVar a k) ∷ []) z (branchLocalT ns s (enc ns) made a vr.Clock k z)
+    clock-left : (a : Name) (k : ℕ) (z : Left) → Leaves (boolPort (clockVar a k) ∷ []) z (branchLocalT ns s (tabled ns) made a vr.Clock k z)
     unfolding branchVar
     clock-left a k z = branch-left a vr.Clock k z (clock-made a k)
 
     -- THE LAW: the locals of flags
-    pub flags-left : (a : Name) (prior : Option Expr) (k : ℕ) (cs : List Expr) (z : Left) → Leaves (asLocals tBool (flagEquations a prior k cs)) z (flagLocalsT ns s (enc ns) made a k (length cs) z)
+    pub flags-left : (a : Name) (prior : Option Expr) (k : ℕ) (cs : List Expr) (z : Left) → Leaves (asLocals tBool (flagEquations a prior k cs)) z (flagLocalsT ns s (tabled ns) made a k (length cs) z)
     unfolding flagEquations asLocals firstLeft eqn flagLocalsT boolPort
     flags-left a prior k [] z = leaves-none z
     flags-left a prior k (c ∷ []) z = flag-left a k z
     flags-left a prior k (c ∷ d ∷ cs) z =
-        let u = branchLocalT ns s (enc ns) made a vr.Flag k z in
-        let w = branchLocalT ns s (enc ns) made a vr.Untaken k u in
+        let u = branchLocalT ns s (tabled ns) made a vr.Flag k z in
+        let w = branchLocalT ns s (tabled ns) made a vr.Untaken k u in
         leaves-more (boolPort (flagVar a k) ∷ boolPort (noneVar a k) ∷ []) (asLocals tBool (flagEquations a (some (eVar (noneVar a k))) (suc k) (d ∷ cs))) z w _
         (leaves-more (boolPort (flagVar a k) ∷ []) (boolPort (noneVar a k) ∷ []) z u w (flag-left a k z) (untaken-left a k u))
         (flags-left a (some (eVar (noneVar a k))) (suc k) (d ∷ cs) w)
 
     -- THE LAW: those of clocks
-    pub clocks-left : (a : Name) (k : ℕ) (cs : List Expr) (z : Left) → Leaves (asLocals tBool (guardEquations a k cs)) z (clockLocalsT ns s (enc ns) made a k (length cs) z)
+    pub clocks-left : (a : Name) (k : ℕ) (cs : List Expr) (z : Left) → Leaves (asLocals tBool (guardEquations a k cs)) z (clockLocalsT ns s (tabled ns) made a k (length cs) z)
     unfolding guardEquations asLocals firstLeft eqn clockLocalsT boolPort
     clocks-left a k [] z = leaves-none z
     clocks-left a k (c ∷ cs) z =
-        let u = branchLocalT ns s (enc ns) made a vr.Clock k z in
+        let u = branchLocalT ns s (tabled ns) made a vr.Clock k z in
         leaves-more (boolPort (clockVar a k) ∷ []) (asLocals tBool (guardEquations a (suc k) cs)) z u _ (clock-left a k z) (clocks-left a (suc k) cs u)

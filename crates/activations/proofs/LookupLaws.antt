@@ -20,17 +20,17 @@ use Rattle.activations.specs.Places.{anyT}
 use Rattle.activations.specs.Lookups.{MadeIs, isMade, madeAt, placeBuilt, someMadeT}
 use Rattle.activations.proofs.MisusedLaws.{any-end, any-hit, any-on}
 
-pub built-full : (t : List Name) (names : ℕ) (made : Bool) (buf : List ℕ) (w : Writer) → w .full ≡ true → names ≡ placeBuilt t names made (stateOf buf [] w)
+pub built-full : (t : Name → ℕ) (names : ℕ) (made : Bool) (buf : List ℕ) (w : Writer) → w .full ≡ true → names ≡ placeBuilt t names made (stateOf buf [] w)
 unfolding placeBuilt stateOf
 built-full t names made buf w e = rw e
 
-pub built-none : (t : List Name) (names : ℕ) (made : Bool) (buf : List ℕ) (w : Writer) → w .full ≡ false → made ≡ false → names ≡ placeBuilt t names made (stateOf buf [] w)
+pub built-none : (t : Name → ℕ) (names : ℕ) (made : Bool) (buf : List ℕ) (w : Writer) → w .full ≡ false → made ≡ false → names ≡ placeBuilt t names made (stateOf buf [] w)
 unfolding placeBuilt stateOf
 built-none t names made buf w e f = rw (e, f)
 
-pub built-part : (t : List Name) (names : ℕ) (made : Bool) (buf : List ℕ) (w : Writer) (e r : ℕ) → w .full ≡ false → made ≡ true → e ≡ min (0 + w .at) (length buf) → r ≡ place t (take e buf) → r ≡ placeBuilt t names made (stateOf buf [] w)
+pub built-part : (t : Name → ℕ) (names : ℕ) (made : Bool) (buf : List ℕ) (w : Writer) (e r : ℕ) → w .full ≡ false → made ≡ true → e ≡ min (0 + w .at) (length buf) → r ≡ t (take e buf) → r ≡ placeBuilt t names made (stateOf buf [] w)
 unfolding placeBuilt stateOf
-built-part t names made buf w e r f g h i = rw (f, g) (i ∙ ap (place t) (take-part buf (w .at) e h))
+built-part t names made buf w e r f g h i = rw (f, g) (i ∙ ap t (take-part buf (w .at) e h))
 
 pub made-is : (s spots : List ℕ) (k : ℕ) (x y : List ℕ) (r : Bool) → x ≡ packName s spots k → y ≡ sliceOf x 0 6 → r ≡ eqName y actPrefix → r ≡ madeAt s spots k
 unfolding madeAt isMade
@@ -87,7 +87,7 @@ place-most (m ∷ ms) n = go (eqName m n) (place-most ms n)
     go false h = omega arith
 
 -- THE LAW: a made name is found where it stands, or nowhere
-pub made-place : (ns : List Name) (made : Bool) (co cm : ℕ) (n : Name) (md : List ℕ) → MadeIs ns made → isMade n ≡ true → placeBuilt ns (length ns) made (st co cm n md) ≡ place ns n
+pub made-place : (ns : List Name) (made : Bool) (co cm : ℕ) (n : Name) (md : List ℕ) → MadeIs ns made → isMade n ≡ true → placeBuilt (place ns) (length ns) made (st co cm n md) ≡ place ns n
 unfolding placeBuilt MadeIs
 made-place ns true co cm n md m e = refl
 made-place ns false co cm n md m e = ⊎-elim (λ h. absurd (known h)) (λ h. let l = place-most ns n in omega arith) (lt-or-le (place ns n) (length ns))

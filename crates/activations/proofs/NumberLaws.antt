@@ -10,10 +10,10 @@ use borrow.Author.Tests.{eq-eqb, le-ltb, lt-ltb, ne-eqb}
 use Rattle.wire.specs.Bytes.{two}
 use Rattle.wire.specs.Writer.{State, puts, st}
 use Rattle.pack.specs.Names.{Name}
-use Rattle.pack.specs.Intern.{putItem, putName, render, table}
+use Rattle.pack.specs.Intern.{putItem, putName, render}
 use Rattle.machines.specs.Emits.{packName}
 use Rattle.activation_rules.specs.MadeNames.{Scope, actPrefix, lastVar, madeName, sampleVar, scopeAt, tag}
-use Rattle.activations.specs.Lookups.{placeBuilt}
+use Rattle.activations.specs.Lookups.{placeBuilt, placeIn}
 use Rattle.activations.specs.Ids.{oldOr}
 use Rattle.activations.specs.NumbersAt.{idItems, lastIdT, lastRowT, nameT, sampleNameT, sampleT}
 use Rattle.activations.proofs.MadeLaws.{scoped-text}
@@ -48,16 +48,16 @@ module _ (s spots : List ℕ) (names : ℕ) (a : Name) where
   unfolding sampleNameT
   sample-is n k x w y z e f = f ∙ ap (puts (nameT s spots names a x)) e ∙ sample-whole a (scopeAt n k) (nameT s spots names a x) z
 
-  pub sample-old : (old : List ℕ) (made : Bool) (n k x i : ℕ) (y : State) → y ≡ puts (sampleNameT s spots names a n k x) (st 255 0 [] []) → i ≡ placeBuilt (table old) names made y → i < names → i ≡ sampleT s spots names a old made n k x
+  pub sample-old : (old : List ℕ) (made : Bool) (n k x i : ℕ) (y : State) → y ≡ puts (sampleNameT s spots names a n k x) (st 255 0 [] []) → i ≡ placeBuilt (placeIn old) names made y → i < names → i ≡ sampleT s spots names a old made n k x
   unfolding sampleT oldOr
   sample-old old made n k x i y e f l =
-      let g = f ∙ ap (placeBuilt (table old) names made) e in
+      let g = f ∙ ap (placeBuilt (placeIn old) names made) e in
       sym (ap (λ (b : Bool). cond b i 65536) (lt-ltb i names l)) ∙ ap (λ (j : ℕ). cond (ltb j names) j 65536) g
 
-  pub sample-none : (old : List ℕ) (made : Bool) (n k x i : ℕ) (y : State) → y ≡ puts (sampleNameT s spots names a n k x) (st 255 0 [] []) → i ≡ placeBuilt (table old) names made y → names ≤ i → 65536 ≡ sampleT s spots names a old made n k x
+  pub sample-none : (old : List ℕ) (made : Bool) (n k x i : ℕ) (y : State) → y ≡ puts (sampleNameT s spots names a n k x) (st 255 0 [] []) → i ≡ placeBuilt (placeIn old) names made y → names ≤ i → 65536 ≡ sampleT s spots names a old made n k x
   unfolding sampleT oldOr
   sample-none old made n k x i y e f l =
-      let g = f ∙ ap (placeBuilt (table old) names made) e in
+      let g = f ∙ ap (placeBuilt (placeIn old) names made) e in
       sym (ap (λ (b : Bool). cond b i 65536) (le-ltb i names l)) ∙ ap (λ (j : ℕ). cond (ltb j names) j 65536) g
 
 -- the search for a row: found, one more, and the end

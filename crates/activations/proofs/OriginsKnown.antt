@@ -16,7 +16,8 @@ use Rattle.pack.specs.Syntax.{Activation, Branch, Enum, Node, Origin, ofActivat
 use Rattle.pack.specs.Forms.{nameAt}
 use Rattle.pack.specs.Read.{activationIn, branchIn, nodeIn}
 use Rattle.pack.specs.Intern.{putItem, putName, render}
-use Rattle.pack.specs.Write.{Item, each, enc, list, nameItems, nm, originByte, originItems, raw}
+use Rattle.pack.specs.Write.{Item, each, list, nameItems, nm, originByte, originItems, raw}
+use Rattle.pack.specs.Table.{tabled}
 use Rattle.pack.proofs.Interns.{render-append}
 use Rattle.pack.proofs.Tables.{eqName-true}
 use Rattle.machines.specs.declared.sure.Num.{Num}
@@ -98,11 +99,11 @@ node-stands ns s nodes k (x ∷ pre) n later h =
 
 module _ (ns : List Name) (s old spots : List ℕ) (P : PackOf ns s old spots) where
   -- an old name by its index
-  by-number : (x : ℕ) (n : Name) → x < length ns → nameAt ns x ≡ n → (z : State) → puts (two x) z ≡ putName (enc ns) n z
-  by-number x n l e z = numbered ns (P .fresh) (P .legal) (P .few) s (P .bytes) x l z ∙ ap (λ (y : Name). putName (enc ns) y z) e
+  by-number : (x : ℕ) (n : Name) → x < length ns → nameAt ns x ≡ n → (z : State) → puts (two x) z ≡ putName (tabled ns) n z
+  by-number x n l e z = numbered ns (P .fresh) (P .legal) (P .few) s (P .bytes) x l z ∙ ap (λ (y : Name). putName (tabled ns) y z) e
 
   -- the names of branches
-  branches-known : (n p : ℕ) (bs : List Branch) (q : ℕ) (z : State) → many (branchIn ns s) n p ≡ value bs q → render (enc ns) (branchesT ns s n p) z ≡ render (enc ns) (each nameItems (branchNames bs)) z
+  branches-known : (n p : ℕ) (bs : List Branch) (q : ℕ) (z : State) → many (branchIn ns s) n p ≡ value bs q → render (tabled ns) (branchesT ns s n p) z ≡ render (tabled ns) (each nameItems (branchNames bs)) z
   unfolding branchesT branchNames each nameItems render putItem
   branches-known zero p [] q z e = refl
   branches-known zero p (b ∷ bs) q z e = absurd (many-cut (branchIn ns s) p b bs q e)
@@ -111,9 +112,9 @@ module _ (ns : List Name) (s old spots : List ℕ) (P : PackOf ns s old spots) w
       let a = many-more (branchIn ns s) n p b bs q e in
       let r = branch-value ns s p b (a .0) (a .1) in
       let i = branch-number-to ns s p b (a .0) r in
-      let v : puts (two (numberIn s p .value)) z ≡ putName (enc ns) (b .name) z = ap (λ (y : Num). puts (two (y .value)) z) (i .3) ∙ by-number (i .0) (b .name) (i .1) (i .2) z in
+      let v : puts (two (numberIn s p .value)) z ≡ putName (tabled ns) (b .name) z = ap (λ (y : Num). puts (two (y .value)) z) (i .3) ∙ by-number (i .0) (b .name) (i .1) (i .2) z in
       let d : branchEnd ns s p ≡ a .0 = branch-end-to ns s p b (a .0) r in
-      (λ j. render (enc ns) (branchesT ns s n (d j)) (v j)) ∙ branches-known n (a .0) bs q (putName (enc ns) (b .name) z) (a .2)
+      (λ j. render (tabled ns) (branchesT ns s n (d j)) (v j)) ∙ branches-known n (a .0) bs q (putName (tabled ns) (b .name) z) (a .2)
 
   names-long : (bs : List Branch) → length (branchNames bs) ≡ length bs
   unfolding branchNames
@@ -121,48 +122,48 @@ module _ (ns : List Name) (s old spots : List ℕ) (P : PackOf ns s old spots) w
   names-long (b ∷ bs) = ap suc (names-long bs)
 
   names-written : (n p : ℕ) (bs : List Branch) (q : ℕ) (z : State) → many (branchIn ns s) n p ≡ value bs q
-      → render (enc ns) (raw (two (n + 1)) ∷ (branchesT ns s n p ++ (nm elseName ∷ []))) z ≡ render (enc ns) (raw (two (n + 1)) ∷ each nameItems (branchNames bs ++ (elseName ∷ []))) z
+      → render (tabled ns) (raw (two (n + 1)) ∷ (branchesT ns s n p ++ (nm elseName ∷ []))) z ≡ render (tabled ns) (raw (two (n + 1)) ∷ each nameItems (branchNames bs ++ (elseName ∷ []))) z
   unfolding render putItem each nameItems
   names-written n p bs q z e =
-      render-append (enc ns) (branchesT ns s n p) (nm elseName ∷ []) (puts (two (n + 1)) z)
-      ∙ ap (putName (enc ns) elseName) (branches-known n p bs q (puts (two (n + 1)) z) e)
-      ∙ sym (render-append (enc ns) (each nameItems (branchNames bs)) (nm elseName ∷ []) (puts (two (n + 1)) z))
-      ∙ ap (λ (is : List Item). render (enc ns) is (puts (two (n + 1)) z)) (sym (each-append nameItems (branchNames bs) (elseName ∷ [])))
+      render-append (tabled ns) (branchesT ns s n p) (nm elseName ∷ []) (puts (two (n + 1)) z)
+      ∙ ap (putName (tabled ns) elseName) (branches-known n p bs q (puts (two (n + 1)) z) e)
+      ∙ sym (render-append (tabled ns) (each nameItems (branchNames bs)) (nm elseName ∷ []) (puts (two (n + 1)) z))
+      ∙ ap (λ (is : List Item). render (tabled ns) is (puts (two (n + 1)) z)) (sym (each-append nameItems (branchNames bs) (elseName ∷ [])))
 
   -- those of all scopes
-  scopes-known : (at : ℕ) (A : Activation) (q : ℕ) (z : State) → activationIn ns s at ≡ value A q → render (enc ns) (scopeNamesT ns s (actAt ns s at)) z ≡ render (enc ns) (list nameItems (branchNames (A .branches) ++ (elseName ∷ []))) z
+  scopes-known : (at : ℕ) (A : Activation) (q : ℕ) (z : State) → activationIn ns s at ≡ value A q → render (tabled ns) (scopeNamesT ns s (actAt ns s at)) z ≡ render (tabled ns) (list nameItems (branchNames (A .branches) ++ (elseName ∷ []))) z
   unfolding scopeNamesT list
   scopes-known at A q z e =
       let r = activation-value ns s at A q e in
       let bs : List Branch = A .branches in
       let c : length (branchNames bs ++ (elseName ∷ [])) ≡ length bs + 1 = length-append (branchNames bs) (elseName ∷ []) ∙ ap (λ y. y + 1) (names-long bs) in
-      ap (λ (a : Act). render (enc ns) (scopeNamesT ns s a) z) (act-to ns s at A q r .3)
-      ∙ ap (λ (is : List Item). render (enc ns) is z) (number-to s (r .to-branches) (length bs) (r .b) _ (r .count))
+      ap (λ (a : Act). render (tabled ns) (scopeNamesT ns s a) z) (act-to ns s at A q r .3)
+      ∙ ap (λ (is : List Item). render (tabled ns) is z) (number-to s (r .to-branches) (length bs) (r .b) _ (r .count))
       ∙ names-written (length bs) (r .b) bs (r .to-else) z (r .branches)
-      ∙ ap (λ y. render (enc ns) (raw (two y) ∷ each nameItems (branchNames bs ++ (elseName ∷ []))) z) (sym c)
+      ∙ ap (λ y. render (tabled ns) (raw (two y) ∷ each nameItems (branchNames bs ++ (elseName ∷ []))) z) (sym c)
 
   -- an origin, part by part
   origin-written : (o a : Name) (f g : ℕ) (bs : List Name) (z : State)
-      → render (enc ns) (list nameItems bs) (puts (two g) (puts (two f) (putName (enc ns) a (put 1 (putName (enc ns) o z))))) ≡ render (enc ns) (originItems (record { node = o; kind = ofActivation; name = a; first = f; after = g; branches = bs })) z
+      → render (tabled ns) (list nameItems bs) (puts (two g) (puts (two f) (putName (tabled ns) a (put 1 (putName (tabled ns) o z))))) ≡ render (tabled ns) (originItems (record { node = o; kind = ofActivation; name = a; first = f; after = g; branches = bs })) z
   unfolding originItems originByte render putItem puts
-  origin-written o a f g bs z = ap (render (enc ns) (list nameItems bs)) (sym (puts-append (two f) (two g) (putName (enc ns) a (put 1 (putName (enc ns) o z)))))
+  origin-written o a f g bs z = ap (render (tabled ns) (list nameItems bs)) (sym (puts-append (two f) (two g) (putName (tabled ns) a (put 1 (putName (tabled ns) o z)))))
 
   -- the numbers of an origin
   module _ (ov av F E f g : ℕ) (o a : Name) where
-    numbers-known : ov < length ns → nameAt ns ov ≡ o → av < length ns → nameAt ns av ≡ a → two F ≡ two f → two (F + E) ≡ two g → (z : State) → render (enc ns) (numbersT ov av F E) z ≡ puts (two g) (puts (two f) (putName (enc ns) a (put 1 (putName (enc ns) o z))))
+    numbers-known : ov < length ns → nameAt ns ov ≡ o → av < length ns → nameAt ns av ≡ a → two F ≡ two f → two (F + E) ≡ two g → (z : State) → render (tabled ns) (numbersT ov av F E) z ≡ puts (two g) (puts (two f) (putName (tabled ns) a (put 1 (putName (tabled ns) o z))))
     numbers-known lo io la ia ef eg z =
-        sym (numbers-put (enc ns) ov av F E z)
+        sym (numbers-put (tabled ns) ov av F E z)
         ∙ (λ j. puts (eg j) (puts (ef j) (puts (two av) (put 1 (by-number ov o lo io z j)))))
-        ∙ ap (λ y. puts (two g) (puts (two f) y)) (by-number av a la ia (put 1 (putName (enc ns) o z)))
+        ∙ ap (λ y. puts (two g) (puts (two f) y)) (by-number av a la ia (put 1 (putName (tabled ns) o z)))
 
   -- an origin as the code writes it
   origin-shown : (z : State) (at : ℕ) (o : Name) (av ov p q F E f g : ℕ) → u16 s at ≡ value av p → u16 s p ≡ value ov q → (A : Activation) (end : ℕ) → activationIn ns s at ≡ value A end → av < length ns → nameAt ns av ≡ A .name → ov < length ns → nameAt ns ov ≡ o → two F ≡ two f → two (F + E) ≡ two g
-      → render (enc ns) (with (numberIn s at) λ a u. with (numberIn s u) λ b v. numbersT b a F E ++ scopeNamesT ns s (actAt ns s at)) z ≡ render (enc ns) (originItems (record { node = o; kind = ofActivation; name = A .name; first = f; after = g; branches = branchNames (A .branches) ++ (elseName ∷ []) })) z
+      → render (tabled ns) (with (numberIn s at) λ a u. with (numberIn s u) λ b v. numbersT b a F E ++ scopeNamesT ns s (actAt ns s at)) z ≡ render (tabled ns) (originItems (record { node = o; kind = ofActivation; name = A .name; first = f; after = g; branches = branchNames (A .branches) ++ (elseName ∷ []) })) z
   origin-shown z at o av ov p q F E f g ea eo A end read la ia lo io ef eg =
-      ap (λ (is : List Item). render (enc ns) is z)
+      ap (λ (is : List Item). render (tabled ns) is z)
       (number-to s at av p (λ a u. with (numberIn s u) λ b v. numbersT b a F E ++ scopeNamesT ns s (actAt ns s at)) ea ∙ number-to s p ov q (λ b v. numbersT b av F E ++ scopeNamesT ns s (actAt ns s at)) eo)
-      ∙ render-append (enc ns) (numbersT ov av F E) (scopeNamesT ns s (actAt ns s at)) z
-      ∙ ap (render (enc ns) (scopeNamesT ns s (actAt ns s at))) (numbers-known ov av F E f g o (A .name) lo io la ia ef eg z)
+      ∙ render-append (tabled ns) (numbersT ov av F E) (scopeNamesT ns s (actAt ns s at)) z
+      ∙ ap (render (tabled ns) (scopeNamesT ns s (actAt ns s at))) (numbers-known ov av F E f g o (A .name) lo io la ia ef eg z)
       ∙ scopes-known at A end _ read
       ∙ origin-written o (A .name) f g (branchNames (A .branches) ++ (elseName ∷ [])) z
 
@@ -207,7 +208,7 @@ module _ (ns : List Name) (s old spots : List ℕ) (P : PackOf ns s old spots) w
       unfolding origin-of originIn fateIn
       origin-in = ap (λ (x : Option Node). originIn A (fateIn es A x) x) (owned .found) ∙ ap (λ (l : Lowered). originIn A l (some (owned .owner))) (owned .is)
 
-      parts-of : (z : State) → render (enc ns) (originT ns s nodes acts (length before)) z ≡ render (enc ns) (originItems origin-of) z
+      parts-of : (z : State) → render (tabled ns) (originT ns s nodes acts (length before)) z ≡ render (tabled ns) (originItems origin-of) z
       unfolding originT origin-of originOf
       parts-of z =
           let d = drawn before A post e in
@@ -228,20 +229,20 @@ module _ (ns : List Name) (s old spots : List ℕ) (P : PackOf ns s old spots) w
           origin-shown z at (owned .owner .name) (n .i) (o .i) (r .to-owner) (r .to-outputs) F E (length (owned .owner .equations)) (length (owned .owner .equations) + length (owned .equations)) (n .is) (o .is) A (d .end) (d .read) (n .small) (n .named) (o .small) (o .named ∙ sym w) f g
 
     -- of all that follow some
-    origins-from : (before rest : List Activation) → As ≡ before ++ rest → (z : State) → render (enc ns) (eachT (originT ns s nodes acts) (length rest) (length before)) z ≡ render (enc ns) (each originItems (originsOf es N before rest)) z
+    origins-from : (before rest : List Activation) → As ≡ before ++ rest → (z : State) → render (tabled ns) (eachT (originT ns s nodes acts) (length rest) (length before)) z ≡ render (tabled ns) (each originItems (originsOf es N before rest)) z
     unfolding eachT originsOf each
     origins-from before [] e z = refl
     origins-from before (A ∷ rest) e z =
         let c : length (before ++ (A ∷ [])) ≡ suc (length before) = length-append before (A ∷ []) ∙ omega arith in
         let O : Origin = origin-of before A rest e in
         let more : List Origin = originsOf es N (before ++ (A ∷ [])) rest in
-        let w = origins-from (before ++ (A ∷ [])) rest (e ∙ sym (append-assoc before (A ∷ []) rest)) (render (enc ns) (originItems O) z) in
-        render-append (enc ns) (originT ns s nodes acts (length before)) (eachT (originT ns s nodes acts) (length rest) (suc (length before))) z
-        ∙ ap (render (enc ns) (eachT (originT ns s nodes acts) (length rest) (suc (length before)))) (parts-of before A rest e z)
-        ∙ ap (λ j. render (enc ns) (eachT (originT ns s nodes acts) (length rest) j) (render (enc ns) (originItems O) z)) (sym c)
+        let w = origins-from (before ++ (A ∷ [])) rest (e ∙ sym (append-assoc before (A ∷ []) rest)) (render (tabled ns) (originItems O) z) in
+        render-append (tabled ns) (originT ns s nodes acts (length before)) (eachT (originT ns s nodes acts) (length rest) (suc (length before))) z
+        ∙ ap (render (tabled ns) (eachT (originT ns s nodes acts) (length rest) (suc (length before)))) (parts-of before A rest e z)
+        ∙ ap (λ j. render (tabled ns) (eachT (originT ns s nodes acts) (length rest) j) (render (tabled ns) (originItems O) z)) (sym c)
         ∙ w
-        ∙ sym (render-append (enc ns) (originItems O) (each originItems more) z)
-        ∙ ap (λ (os : List Origin). render (enc ns) (each originItems (os ++ more)) z) (sym (origin-in before A rest e))
+        ∙ sym (render-append (tabled ns) (originItems O) (each originItems more) z)
+        ∙ ap (λ (os : List Origin). render (tabled ns) (each originItems (os ++ more)) z) (sym (origin-in before A rest e))
 
     -- THE LAW: where no activation is refused, the origins written are those of the definition
     pub origins-written : (n : ℕ) → n ≡ length As → (z : State) → render old (eachT (originT ns s nodes acts) n 0) z ≡ render old (each originItems (originsOf es N [] As)) z

@@ -4,12 +4,13 @@ use native.Mathlib.Omega.{arith}
 use mathlib.Core.List.{List}
 use mathlib.Core.Bool.{Bool, true, false, cond}
 use mathlib.Core.Path.{_≡_, refl}
-use lib.ListN.{length}
+use lib.ListN.{length, drop}
 use lib.Dec.{ltb}
 use borrow.Author.Tests.{ltb-false}
 use Rattle.wire.specs.Writer.{State, full, st}
 use Rattle.pack.specs.Limits.{maxBytes}
 use Rattle.pack.specs.Outcome.{Gives, Outcome, answered, answers, numberOf, packOf, returned, sized, valueOf, writes}
+use Rattle.pack.specs.Table.{textsFrom}
 use Rattle.machines.specs.declared.refusal.Judged.{Judged}
 use Rattle.machines.specs.Entries.{entryBytes}
 use Rattle.machines.specs.Filled.{Answers}
@@ -38,7 +39,7 @@ sized-fits room b = go (ltb 65536 (length b)) refl (ltb room (length b))
 pub answered-fits : (room : ℕ) (old : List ℕ) (z : State) → InTable (answered room old z)
 unfolding answered numberOf valueOf
 answered-fits room old full = (omega arith, omega arith)
-answered-fits room old (st co cm bs md) = sized-fits room (packOf old md bs)
+answered-fits room old (st co cm bs md) = sized-fits room (packOf old (drop textsFrom md) bs)
 
 pub gives-fits : (room : ℕ) (old : List ℕ) (z : State) (number value : ℕ) (output output′ : List ℕ) → Gives (answered room old z) number value output output′ → (number ≤ 9) × (value < 4294967296)
 gives-fits room old z number value output output′ g =

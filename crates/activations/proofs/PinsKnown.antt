@@ -12,7 +12,8 @@ use Rattle.pack.specs.Syntax.{Expr, Exprs, eConst, xCons, xNil}
 use Rattle.pack.specs.Forms.{nameAt}
 use Rattle.pack.specs.Legal.{Fresh, LegalName}
 use Rattle.pack.specs.Read.{exprIn}
-use Rattle.pack.specs.Write.{Item, each, enc, exprItems, nm, raw}
+use Rattle.pack.specs.Write.{Item, each, exprItems, nm, raw}
+use Rattle.pack.specs.Table.{tabled}
 use Rattle.pack.specs.Intern.{putItem, render}
 use Rattle.pack.proofs.Interns.{render-append}
 use Rattle.machines.specs.Laid.{sliceOf}
@@ -140,10 +141,10 @@ module _ (ns : List Name) (fresh : Fresh [] ns) (few : length ns < 65536) (legal
   onClock e = onto a n (scopeAt n k) e
 
   written : Expr → State → State
-  written e z = render (enc ns) (exprItems (pin onClock (unlast a e))) z
+  written e z = render (tabled ns) (exprItems (pin onClock (unlast a e))) z
 
   step : Met → ℕ → State → State
-  step m p z = writeStep (enc ns) (pinItems s spots a n k) m p z
+  step m p z = writeStep (tabled ns) (pinItems s spots a n k) m p z
 
   copied : (p : ℕ) (m : Met) (z : State) → Unpinned m → step m p z ≡ puts (sliceOf s p (onwardT m - p)) z
   unfolding step writeStep pinItems metItems copyItems render putItem onwardT Unpinned
@@ -159,10 +160,10 @@ module _ (ns : List Name) (fresh : Fresh [] ns) (few : length ns < 65536) (legal
       → written e z ≡ through written (toCome (metAt ns s last p) e) (step (metAt ns s last p) p z)
   unfolding written sliceOf pinnedExpr
   kept-follows p e q z d v h =
-      ap (λ (is : List Item). render (enc ns) is z) (splits a onClock ns s e (metAt ns s last p) v h)
-      ∙ render-append (enc ns) (headItems e) (each (λ x. exprItems (pin onClock (unlast a x))) (kids e)) z
-      ∙ ap (render (enc ns) (each (λ x. exprItems (pin onClock (unlast a x))) (kids e))) (head-copied ns fresh few s by last L legal p e q d (unpinned-kept (metAt ns s last p) h) z ∙ sym (copied p (metAt ns s last p) z h))
-      ∙ sym (each-through (enc ns) (λ x. pin onClock (unlast a x)) (kids e) (step (metAt ns s last p) p z))
+      ap (λ (is : List Item). render (tabled ns) is z) (splits a onClock ns s e (metAt ns s last p) v h)
+      ∙ render-append (tabled ns) (headItems e) (each (λ x. exprItems (pin onClock (unlast a x))) (kids e)) z
+      ∙ ap (render (tabled ns) (each (λ x. exprItems (pin onClock (unlast a x))) (kids e))) (head-copied ns fresh few s by last L legal p e q d (unpinned-kept (metAt ns s last p) h) z ∙ sym (copied p (metAt ns s last p) z h))
+      ∙ sym (each-through (tabled ns) (λ x. pin onClock (unlast a x)) (kids e) (step (metAt ns s last p) p z))
       ∙ ap (λ (es : List Expr). through written es (step (metAt ns s last p) p z)) (sym (kept-come (metAt ns s last p) e (unpinned-kept (metAt ns s last p) h)))
 
   kept-at : (p : ℕ) (e : Expr) (q : ℕ) (m : Met) (z : State) → exprIn ns s p ≡ value e q → m ≡ metAt ns s last p → View ns s e m → Unpinned m → written e z ≡ through written (toCome m e) (step m p z)
@@ -173,10 +174,10 @@ module _ (ns : List Name) (fresh : Fresh [] ns) (few : length ns < 65536) (legal
   last-follows : (p : ℕ) (e : Expr) (var init next : ℕ) (z : State) → View ns s e (mt.Last var init next) → written e z ≡ step (mt.Last var init next) p z
   unfolding written step writeStep pinItems metItems pin exprItems
   last-follows p e var init next z (vLast {f = f} {v = v} {xs = xs} {i = i} t l m d) =
-      ap (λ (y : Expr). render (enc ns) (exprItems (pin onClock y)) z) (last-call a f xs v i t)
-      ∙ ap (λ (y : Name). render (enc ns) (raw (1 ∷ []) ∷ nm (lastVar a y) ∷ []) z) (sym (placed var l ∙ m))
+      ap (λ (y : Expr). render (tabled ns) (exprItems (pin onClock y)) z) (last-call a f xs v i t)
+      ∙ ap (λ (y : Name). render (tabled ns) (raw (1 ∷ []) ∷ nm (lastVar a y) ∷ []) z) (sym (placed var l ∙ m))
 
-  const-copied : (p : ℕ) (e : Expr) (q i : ℕ) (z : State) → exprIn ns s p ≡ value e q → mt.Const i ≡ metAt ns s last p → render (enc ns) (headItems e) z ≡ puts (sliceOf s p (i - p)) z
+  const-copied : (p : ℕ) (e : Expr) (q i : ℕ) (z : State) → exprIn ns s p ≡ value e q → mt.Const i ≡ metAt ns s last p → render (tabled ns) (headItems e) z ≡ puts (sliceOf s p (i - p)) z
   unfolding sliceOf Kept onwardT
   const-copied p e q i z d g =
       head-copied ns fresh few s by last L legal p e q d (subst Kept g tt) z
@@ -185,10 +186,10 @@ module _ (ns : List Name) (fresh : Fresh [] ns) (few : length ns < 65536) (legal
   const-follows : (p : ℕ) (e : Expr) (q i : ℕ) (z : State) → exprIn ns s p ≡ value e q → mt.Const i ≡ metAt ns s last p → View ns s e (mt.Const i) → written e z ≡ through written (toCome (mt.Const i) e) (step (mt.Const i) p z)
   unfolding written step writeStep pinItems copyItems render putItem through toCome kids unlast pin onClock headItems exprItems
   const-follows p e q i z d g (vConst {l = l}) =
-      ap (λ (is : List Item). render (enc ns) is z) (onto-items a n (scopeAt n k) (eConst l))
-      ∙ render-append (enc ns) (ontoItems a n (scopeAt n k)) (headItems (eConst l)) z
-      ∙ const-copied p e q i (render (enc ns) (ontoItems a n (scopeAt n k)) z) d g
-      ∙ sym (render-append (enc ns) (ontoItems a n (scopeAt n k)) (raw (sliceOf s p (i - p)) ∷ []) z)
+      ap (λ (is : List Item). render (tabled ns) is z) (onto-items a n (scopeAt n k) (eConst l))
+      ∙ render-append (tabled ns) (ontoItems a n (scopeAt n k)) (headItems (eConst l)) z
+      ∙ const-copied p e q i (render (tabled ns) (ontoItems a n (scopeAt n k)) z) d g
+      ∙ sym (render-append (tabled ns) (ontoItems a n (scopeAt n k)) (raw (sliceOf s p (i - p)) ∷ []) z)
 
   follows : (p : ℕ) (e : Expr) (q : ℕ) (m : Met) (z : State) → exprIn ns s p ≡ value e q → m ≡ metAt ns s last p → View ns s e m → written e z ≡ through written (toCome m e) (step m p z)
   unfolding toCome through Unpinned
@@ -200,19 +201,19 @@ module _ (ns : List Name) (fresh : Fresh [] ns) (few : length ns < 65536) (legal
   follows p e q (mt.Other u i) z d g v = kept-at p e q (mt.Other u i) z d g v tt
   follows p e q mt.Nothing z d g v = kept-at p e q mt.Nothing z d g v tt
 
-  pin-written : (at : ℕ) (e : Expr) (q : ℕ) (z : State) → exprIn ns s at ≡ value e q → pinT (enc ns) s spots a n k ns last at z ≡ render (enc ns) (exprItems (pin (onto a n (scopeAt n k)) (unlast a e))) z
+  pin-written : (at : ℕ) (e : Expr) (q : ℕ) (z : State) → exprIn ns s at ≡ value e q → pinT (tabled ns) s spots a n k ns last at z ≡ render (tabled ns) (exprItems (pin (onto a n (scopeAt n k)) (unlast a e))) z
   unfolding pinT written step onClock
-  pin-written at e q z d = walks-one ns s few by short last L (writeStep (enc ns) (pinItems s spots a n k)) written follows at e q z d
+  pin-written at e q z d = walks-one ns s few by short last L (writeStep (tabled ns) (pinItems s spots a n k)) written follows at e q z d
 
   -- THE LAW: constants on the scope's clock, or all of it where there is none
-  pub pinned-written : (at : ℕ) (e : Expr) (q : ℕ) (z : State) → exprIn ns s at ≡ value e q → pinnedT (enc ns) s spots a n k ns last at z ≡ render (enc ns) (exprItems (pinned (onto a n (scopeAt n k)) (unlast a e))) z
+  pub pinned-written : (at : ℕ) (e : Expr) (q : ℕ) (z : State) → exprIn ns s at ≡ value e q → pinnedT (tabled ns) s spots a n k ns last at z ≡ render (tabled ns) (exprItems (pinned (onto a n (scopeAt n k)) (unlast a e))) z
   unfolding pinnedT pinned
   pinned-written at e q z d =
-      ap (λ (b : Bool). cond b (pinT (enc ns) s spots a n k ns last at z) (unlastT ns s last (enc ns) spots a at (render (enc ns) (ontoItems a n (scopeAt n k)) z))) (has-const-is at e q d)
+      ap (λ (b : Bool). cond b (pinT (tabled ns) s spots a n k ns last at z) (unlastT ns s last (tabled ns) spots a at (render (tabled ns) (ontoItems a n (scopeAt n k)) z))) (has-const-is at e q d)
       ∙ go (hasConst (unlast a e))
     where
-      go : (b : Bool) → cond b (pinT (enc ns) s spots a n k ns last at z) (unlastT ns s last (enc ns) spots a at (render (enc ns) (ontoItems a n (scopeAt n k)) z)) ≡ render (enc ns) (exprItems (cond b (pin (onto a n (scopeAt n k)) (unlast a e)) (onto a n (scopeAt n k) (unlast a e)))) z
+      go : (b : Bool) → cond b (pinT (tabled ns) s spots a n k ns last at z) (unlastT ns s last (tabled ns) spots a at (render (tabled ns) (ontoItems a n (scopeAt n k)) z)) ≡ render (tabled ns) (exprItems (cond b (pin (onto a n (scopeAt n k)) (unlast a e)) (onto a n (scopeAt n k) (unlast a e)))) z
       go true = pin-written at e q z d
       go false =
-          unlast-written ns fresh few legal s by short last L spots placed a at e q (render (enc ns) (ontoItems a n (scopeAt n k)) z) d
-          ∙ onto-then (enc ns) a n (scopeAt n k) (unlast a e) z
+          unlast-written ns fresh few legal s by short last L spots placed a at e q (render (tabled ns) (ontoItems a n (scopeAt n k)) z) d
+          ∙ onto-then (tabled ns) a n (scopeAt n k) (unlast a e) z

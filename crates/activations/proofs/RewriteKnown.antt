@@ -14,7 +14,8 @@ use Rattle.pack.specs.Syntax.{Expr, Exprs, IterKind, eArray, eCall, eIterate, e
 use Rattle.pack.specs.Forms.{nameAt}
 use Rattle.pack.specs.Legal.{Fresh, LegalName}
 use Rattle.pack.specs.Read.{exprIn}
-use Rattle.pack.specs.Write.{Item, arrays, countOf, each, enc, exprItems, flagByte, iterByte, nm, raw}
+use Rattle.pack.specs.Write.{Item, arrays, countOf, each, exprItems, flagByte, iterByte, nm, raw}
+use Rattle.pack.specs.Table.{tabled}
 use Rattle.pack.specs.Intern.{putItem, putName, render}
 use Rattle.pack.proofs.Interns.{render-append}
 use Rattle.pack.proofs.Tables.{code}
@@ -157,14 +158,14 @@ module _ (ns : List Name) (fresh : Fresh [] ns) (legal : All LegalName ns) (few 
     becomes x = renamed a (scopeAt n k) (namesOf ns a ids) x
 
     written : Expr → State → State
-    written e z = render (enc ns) (exprItems (rename becomes (unlast a e))) z
+    written e z = render (tabled ns) (exprItems (rename becomes (unlast a e))) z
 
-    chosen-is : (x : ℕ) (m : Name) (z : State) → IsId ns a x → nameOf ns a x ≡ m → render (enc ns) (chosenItems (enc ns) s spots (length ns) made a n k ids x) z ≡ putName (enc ns) (becomes m) z
+    chosen-is : (x : ℕ) (m : Name) (z : State) → IsId ns a x → nameOf ns a x ≡ m → render (tabled ns) (chosenItems (tabled ns) s spots (length ns) made a n k ids x) z ≡ putName (tabled ns) (becomes m) z
     unfolding becomes
-    chosen-is x m z i e = renamed-written ns fresh legal few s by spots placed a made M n k ids all x i z ∙ ap (λ (y : Name). putName (enc ns) (renamed a (scopeAt n k) (namesOf ns a ids) y) z) e
+    chosen-is x m z i e = renamed-written ns fresh legal few s by spots placed a made M n k ids all x i z ∙ ap (λ (y : Name). putName (tabled ns) (renamed a (scopeAt n k) (namesOf ns a ids) y) z) e
 
     step : Met → ℕ → State → State
-    step m p z = writeStep (enc ns) (renameItems (enc ns) s spots (length ns) made a n k ids held rows) m p z
+    step m p z = writeStep (tabled ns) (renameItems (tabled ns) s spots (length ns) made a n k ids held rows) m p z
 
     -- what is copied
     copied : (p : ℕ) (m : Met) (z : State) → Bare m → step m p z ≡ puts (sliceOf s p (onwardT m - p)) z
@@ -191,10 +192,10 @@ module _ (ns : List Name) (fresh : Fresh [] ns) (legal : All LegalName ns) (few 
         → written e z ≡ through written (toCome (metAt ns s last p) e) (step (metAt ns s last p) p z)
     unfolding written sliceOf renamedExpr
     bare-follows p e q z d v h =
-        ap (λ (is : List Item). render (enc ns) is z) (splits a becomes ns s e (metAt ns s last p) v h)
-        ∙ render-append (enc ns) (headItems e) (each (λ x. exprItems (rename becomes (unlast a x))) (kids e)) z
-        ∙ ap (render (enc ns) (each (λ x. exprItems (rename becomes (unlast a x))) (kids e))) (head-copied ns fresh few-names s by last L legal p e q d (bare-kept (metAt ns s last p) h) z ∙ sym (copied p (metAt ns s last p) z h))
-        ∙ sym (each-through (enc ns) (λ x. rename becomes (unlast a x)) (kids e) (step (metAt ns s last p) p z))
+        ap (λ (is : List Item). render (tabled ns) is z) (splits a becomes ns s e (metAt ns s last p) v h)
+        ∙ render-append (tabled ns) (headItems e) (each (λ x. exprItems (rename becomes (unlast a x))) (kids e)) z
+        ∙ ap (render (tabled ns) (each (λ x. exprItems (rename becomes (unlast a x))) (kids e))) (head-copied ns fresh few-names s by last L legal p e q d (bare-kept (metAt ns s last p) h) z ∙ sym (copied p (metAt ns s last p) z h))
+        ∙ sym (each-through (tabled ns) (λ x. rename becomes (unlast a x)) (kids e) (step (metAt ns s last p) p z))
         ∙ ap (λ (es : List Expr). through written es (step (metAt ns s last p) p z)) (sym (kept-come (metAt ns s last p) e (bare-kept (metAt ns s last p) h)))
 
     bare-at : (p : ℕ) (e : Expr) (q : ℕ) (m : Met) (z : State) → exprIn ns s p ≡ value e q → m ≡ metAt ns s last p → View ns s e m → Bare m → written e z ≡ through written (toCome m e) (step m p z)
@@ -207,21 +208,21 @@ module _ (ns : List Name) (fresh : Fresh [] ns) (legal : All LegalName ns) (few 
     unfolding written step writeStep renameItems rename exprItems render putItem
     last-follows p e var init next z (vLast {f = f} {v = v} {xs = xs} {i = i} t l m d) h =
         let u = asked-last P ns s e var init next (vLast t l m d) h in
-        ap (λ (y : Expr). render (enc ns) (exprItems (rename becomes y)) z) (last-call a f xs v i t)
+        ap (λ (y : Expr). render (tabled ns) (exprItems (rename becomes y)) z) (last-call a f xs v i t)
         ∙ sym (chosen-is (holderId ns a var) (lastVar a v) (puts (1 ∷ []) z) (heldId var l refl) (name-of-holder ns a var ∙ ap (lastVar a) m))
-        ∙ ap (λ (y : ℕ). render (enc ns) (chosenItems (enc ns) s spots (length ns) made a n k ids y) (puts (1 ∷ []) z)) (sym (rowed var l u))
+        ∙ ap (λ (y : ℕ). render (tabled ns) (chosenItems (tabled ns) s spots (length ns) made a n k ids y) (puts (1 ∷ []) z)) (sym (rowed var l u))
 
     var-follows : (p : ℕ) (e : Expr) (i next : ℕ) (z : State) → View ns s e (mt.Var i next) → written e z ≡ through written (toCome (mt.Var i next) e) (step (mt.Var i next) p z)
     unfolding written step writeStep renameItems rename unlast exprItems render putItem through toCome kids
     var-follows p e i next z (vVar l m) = sym (chosen-is i _ (puts (1 ∷ []) z) (oldId l) (name-of-old ns a i l ∙ m))
 
     -- a clock renamed: the bytes around it stay
-    clock-as : (c : ℕ) (m : Name) (h t f : List ℕ) (z : State) → IsId ns a c → nameOf ns a c ≡ m → sliceOf h 0 1 ≡ t → sliceOf h 3 1 ≡ f → render (enc ns) (clockedItems (enc ns) s spots (length ns) made a n k ids c h) z ≡ puts f (putName (enc ns) (becomes m) (puts t z))
+    clock-as : (c : ℕ) (m : Name) (h t f : List ℕ) (z : State) → IsId ns a c → nameOf ns a c ≡ m → sliceOf h 0 1 ≡ t → sliceOf h 3 1 ≡ f → render (tabled ns) (clockedItems (tabled ns) s spots (length ns) made a n k ids c h) z ≡ puts f (putName (tabled ns) (becomes m) (puts t z))
     unfolding clockedItems render putItem
     clock-as c m h t f z i e g j =
-        render-append (enc ns) (chosenItems (enc ns) s spots (length ns) made a n k ids c) (raw (sliceOf h 3 1) ∷ []) (puts (sliceOf h 0 1) z)
+        render-append (tabled ns) (chosenItems (tabled ns) s spots (length ns) made a n k ids c) (raw (sliceOf h 3 1) ∷ []) (puts (sliceOf h 0 1) z)
         ∙ ap (puts (sliceOf h 3 1)) (chosen-is c m (puts (sliceOf h 0 1) z) i e)
-        ∙ λ u. puts (j u) (putName (enc ns) (becomes m) (puts (g u) z))
+        ∙ λ u. puts (j u) (putName (tabled ns) (becomes m) (puts (g u) z))
 
     when-bytes : (b : Expr) (x : Name) (o : Bool) (h : List ℕ) → h ≡ code ns (headItems (eWhen b x o)) → (sliceOf h 0 1 ≡ 14 ∷ []) × (sliceOf h 3 1 ≡ flagByte o ∷ [])
     unfolding sliceOf code headItems two
@@ -241,11 +242,11 @@ module _ (ns : List Name) (fresh : Fresh [] ns) (legal : All LegalName ns) (few 
     unfolding written step writeStep renameItems rename unlast exprItems render putItem through toCome kids puts
     clock-follows p e q i u next z d g (vWhen {a = b} {x = x} {b = o} l m) =
         let w = when-bytes b x o (sliceOf s p (next - p)) (bytes-at p e q i u next d g) in
-        ap (λ (y : State). render (enc ns) (exprItems (rename becomes (unlast a b))) y) (sym (clock-as i x (sliceOf s p (next - p)) (14 ∷ []) (flagByte o ∷ []) z (oldId l) (name-of-old ns a i l ∙ m) (w .0) (w .1)))
+        ap (λ (y : State). render (tabled ns) (exprItems (rename becomes (unlast a b))) y) (sym (clock-as i x (sliceOf s p (next - p)) (14 ∷ []) (flagByte o ∷ []) z (oldId l) (name-of-old ns a i l ∙ m) (w .0) (w .1)))
     clock-follows p e q i u next z d g (vMerge {x = x} {a = b} {b = c} l m) =
         let w = merge-bytes x b c (sliceOf s p (next - p)) (bytes-at p e q i u next d g) in
-        render-append (enc ns) (exprItems (rename becomes (unlast a b))) (exprItems (rename becomes (unlast a c))) (putName (enc ns) (becomes x) (puts (15 ∷ []) z))
-        ∙ ap (λ (y : State). render (enc ns) (exprItems (rename becomes (unlast a c))) (render (enc ns) (exprItems (rename becomes (unlast a b))) y)) (sym (clock-as i x (sliceOf s p (next - p)) (15 ∷ []) [] z (oldId l) (name-of-old ns a i l ∙ m) (w .0) (w .1)))
+        render-append (tabled ns) (exprItems (rename becomes (unlast a b))) (exprItems (rename becomes (unlast a c))) (putName (tabled ns) (becomes x) (puts (15 ∷ []) z))
+        ∙ ap (λ (y : State). render (tabled ns) (exprItems (rename becomes (unlast a c))) (render (tabled ns) (exprItems (rename becomes (unlast a b))) y)) (sym (clock-as i x (sliceOf s p (next - p)) (15 ∷ []) [] z (oldId l) (name-of-old ns a i l ∙ m) (w .0) (w .1)))
 
     follows : (p : ℕ) (e : Expr) (q : ℕ) (m : Met) (z : State) → exprIn ns s p ≡ value e q → m ≡ metAt ns s last p → View ns s e m → Asked P e → written e z ≡ through written (toCome m e) (step m p z)
     unfolding toCome through Bare
@@ -259,9 +260,9 @@ module _ (ns : List Name) (fresh : Fresh [] ns) (legal : All LegalName ns) (few 
 
     -- THE LAW: what is written of an expression that was read, its names renamed
     pub rename-written : (at : ℕ) (e : Expr) (q : ℕ) (z : State) → exprIn ns s at ≡ value e q → Asked P e
-        → renameT (enc ns) s spots (length ns) made a n k ids held rows ns last at z ≡ render (enc ns) (exprItems (rename (renamed a (scopeAt n k) (namesOf ns a ids)) (unlast a e))) z
+        → renameT (tabled ns) s spots (length ns) made a n k ids held rows ns last at z ≡ render (tabled ns) (exprItems (rename (renamed a (scopeAt n k) (namesOf ns a ids)) (unlast a e))) z
     unfolding renameT written step becomes
     rename-written at e q z d h =
-        walks-by ns s few-names by short last L (writeStep (enc ns) (renameItems (enc ns) s spots (length ns) made a n k ids held rows)) written (λ (p : ℕ) (x y : State). x ≡ y) (Asked P)
+        walks-by ns s few-names by short last L (writeStep (tabled ns) (renameItems (tabled ns) s spots (length ns) made a n k ids held rows)) written (λ (p : ℕ) (x y : State). x ≡ y) (Asked P)
         (λ p e q m x y d g v t r. (step m p x, ap (written e) (sym r) ∙ follows p e q m x d g v t, refl, asked-under P ns s e m v t))
         at e q z z d h refl

@@ -13,7 +13,7 @@ use Rattle.pack.specs.Syntax.{Branch, Equation, Port, Ty}
 use Rattle.pack.specs.Forms.{nameAt}
 use Rattle.pack.specs.Legal.{Fresh, LegalName}
 use Rattle.pack.specs.Read.{branchIn, equationIn, equationsIn}
-use Rattle.pack.specs.Write.{enc}
+use Rattle.pack.specs.Table.{tabled}
 use Rattle.pack.proofs.Tables.{all-append}
 use Rattle.machines.specs.Laid.{sliceOf}
 use Rattle.machines.specs.Marks.{among}
@@ -89,21 +89,21 @@ module _ (ns : List Name) (fresh : Fresh [] ns) (legal : All LegalName ns) (few 
     valuePort : Equation → Port
     valuePort e = record { name = valueVar a (scopeAt n k) (firstLeft (e .lhs)); ty = valueType ports outputs (firstLeft (e .lhs)) }
 
-    sample-left : (x : ℕ) (z : Left) → IsId ns a x → Sampled x → Leaves ns s (samplePort (nameOf ns a x) ∷ []) z (sampleLocalT ns s (enc ns) made a spots env outs n k x z)
+    sample-left : (x : ℕ) (z : Left) → IsId ns a x → Sampled x → Leaves ns s (samplePort (nameOf ns a x) ∷ []) z (sampleLocalT ns s (tabled ns) made a spots env outs n k x z)
     unfolding sampleLocalT samplePort Sampled
     sample-left x z i h = leaves-one ns s fresh legal few-names by short made M (sampleNameT s spots (length ns) a n k x) (typedT env outs (length ns) x) (samplePort (nameOf ns a x)) z (sample-named ns fresh legal few s by spots placed a n k x (id-below ns a x i)) (sample-made a (scopeAt n k) (nameOf ns a x)) h
 
-    new-left : (seen ids : List ℕ) (z : Left) → All (IsId ns a) ids → All Sampled ids → Leaves ns s (sampleLocals (sampleType ports outputs) a (scopeAt n k) (namesOf ns a (freshIn seen ids))) z (newLocalsT ns s (enc ns) made a spots env outs n k seen ids z)
+    new-left : (seen ids : List ℕ) (z : Left) → All (IsId ns a) ids → All Sampled ids → Leaves ns s (sampleLocals (sampleType ports outputs) a (scopeAt n k) (namesOf ns a (freshIn seen ids))) z (newLocalsT ns s (tabled ns) made a spots env outs n k seen ids z)
     unfolding newLocalsT newLocalT freshIn namesOf sampleLocals All samplePort
     new-left seen [] z all h = leaves-none ns s z
     new-left seen (x ∷ xs) z all h =
-        by-bool (λ (b : Bool). Leaves ns s (sampleLocals (sampleType ports outputs) a (scopeAt n k) (namesOf ns a (cond b (freshIn seen xs) (x ∷ freshIn seen xs)))) z (newLocalsT ns s (enc ns) made a spots env outs n k seen xs (cond b z (sampleLocalT ns s (enc ns) made a spots env outs n k x z)))) (among x seen)
+        by-bool (λ (b : Bool). Leaves ns s (sampleLocals (sampleType ports outputs) a (scopeAt n k) (namesOf ns a (cond b (freshIn seen xs) (x ∷ freshIn seen xs)))) z (newLocalsT ns s (tabled ns) made a spots env outs n k seen xs (cond b z (sampleLocalT ns s (tabled ns) made a spots env outs n k x z)))) (among x seen)
         (λ e. new-left seen xs z (all .1) (h .1))
         (λ e.
-        let u = sampleLocalT ns s (enc ns) made a spots env outs n k x z in
-        leaves-more ns s (samplePort (nameOf ns a x) ∷ []) (sampleLocals (sampleType ports outputs) a (scopeAt n k) (namesOf ns a (freshIn seen xs))) z u (newLocalsT ns s (enc ns) made a spots env outs n k seen xs u) (sample-left x z (all .0) (h .0)) (new-left seen xs u (all .1) (h .1)))
+        let u = sampleLocalT ns s (tabled ns) made a spots env outs n k x z in
+        leaves-more ns s (samplePort (nameOf ns a x) ∷ []) (sampleLocals (sampleType ports outputs) a (scopeAt n k) (namesOf ns a (freshIn seen xs))) z u (newLocalsT ns s (tabled ns) made a spots env outs n k seen xs u) (sample-left x z (all .0) (h .0)) (new-left seen xs u (all .1) (h .1)))
 
-    value-left : (p : ℕ) (x : Equation) (q : ℕ) (z : Left) → EquationRead ns s p x q → 0 < length (x .lhs) → Leaves ns s (valuePort x ∷ []) z (valueLocalT ns s (enc ns) made a spots env outs n k p z)
+    value-left : (p : ℕ) (x : Equation) (q : ℕ) (z : Left) → EquationRead ns s p x q → 0 < length (x .lhs) → Leaves ns s (valuePort x ∷ []) z (valueLocalT ns s (tabled ns) made a spots env outs n k p z)
     unfolding valueLocalT valuePort
     value-left p x q z r l =
         let f = first-left-to ns s p (x .lhs) (r .to-rhs) (r .lhs) l in
@@ -126,7 +126,7 @@ module _ (ns : List Name) (fresh : Fresh [] ns) (legal : All LegalName ns) (few 
     -- what an equation reads
     record ReadAt (p : ℕ) (x : Equation) (q : ℕ) : Type 0 where
       ids : List ℕ
-      is : localReads ns s (enc ns) made a spots env outs n last held rows p ≡ ids
+      is : localReads ns s (tabled ns) made a spots env outs n last held rows p ≡ ids
       all : All (IsId ns a) ids
       named : namesOf ns a ids ≡ scopeReads a vars x
       room : p + 3 * length ids ≤ q
@@ -150,28 +150,28 @@ module _ (ns : List Name) (fresh : Fresh [] ns) (legal : All LegalName ns) (few 
         }
 
     equation-left : (p : ℕ) (x : Equation) (q : ℕ) (ids seen : List ℕ) (z : Left) → EquationRead ns s p x q → Fits P x → All (IsId ns a) ids → All Sampled ids
-        → Leaves ns s (sampleLocals (sampleType ports outputs) a (scopeAt n k) (namesOf ns a (freshIn seen ids)) ++ (valuePort x ∷ [])) z (equationLocalT ns s (enc ns) made a spots env outs n k ids seen p z)
+        → Leaves ns s (sampleLocals (sampleType ports outputs) a (scopeAt n k) (namesOf ns a (freshIn seen ids)) ++ (valuePort x ∷ [])) z (equationLocalT ns s (tabled ns) made a spots env outs n k ids seen p z)
     unfolding equationLocalT
     equation-left p x q ids seen z r f all h =
-        let u = newLocalsT ns s (enc ns) made a spots env outs n k seen ids z in
-        leaves-more ns s (sampleLocals (sampleType ports outputs) a (scopeAt n k) (namesOf ns a (freshIn seen ids))) (valuePort x ∷ []) z u (valueLocalT ns s (enc ns) made a spots env outs n k p u) (new-left seen ids z all h) (value-left p x q u r (f .0))
+        let u = newLocalsT ns s (tabled ns) made a spots env outs n k seen ids z in
+        leaves-more ns s (sampleLocals (sampleType ports outputs) a (scopeAt n k) (namesOf ns a (freshIn seen ids))) (valuePort x ∷ []) z u (valueLocalT ns s (tabled ns) made a spots env outs n k p u) (new-left seen ids z all h) (value-left p x q u r (f .0))
 
     -- an equation, and then the rest
     joined-left : (p : ℕ) (x : Equation) (xs : List Equation) (q : ℕ) (ids seen : List ℕ) (z w : Left) → EquationRead ns s p x q → Fits P x → All (IsId ns a) ids → All Sampled ids → namesOf ns a (freshIn seen ids) ≡ dropIn (namesOf ns a seen) (scopeReads a vars x)
-        → Leaves ns s (scopeLocals (sampleType ports outputs) (valueType ports outputs) a vars (scopeAt n k) (namesOf ns a (seen ++ freshIn seen ids)) xs) (equationLocalT ns s (enc ns) made a spots env outs n k ids seen p z) w
+        → Leaves ns s (scopeLocals (sampleType ports outputs) (valueType ports outputs) a vars (scopeAt n k) (namesOf ns a (seen ++ freshIn seen ids)) xs) (equationLocalT ns s (tabled ns) made a spots env outs n k ids seen p z) w
         → Leaves ns s (scopeLocals (sampleType ports outputs) (valueType ports outputs) a vars (scopeAt n k) (namesOf ns a seen) (x ∷ xs)) z w
     joined-left p x xs q ids seen z w r f all h g v =
         let new : List Port = sampleLocals (sampleType ports outputs) a (scopeAt n k) (namesOf ns a (freshIn seen ids)) in
         let rest : List Port = scopeLocals (sampleType ports outputs) (valueType ports outputs) a vars (scopeAt n k) (namesOf ns a (seen ++ freshIn seen ids)) xs in
         subst (λ (ls : List Port). Leaves ns s ls z w) (append-assoc new (valuePort x ∷ []) rest ∙ scope-list (namesOf ns a seen) (namesOf ns a (freshIn seen ids)) (namesOf ns a (seen ++ freshIn seen ids)) x xs g (names-append ns a fresh seen (freshIn seen ids)))
-        (leaves-more ns s (new ++ (valuePort x ∷ [])) rest z (equationLocalT ns s (enc ns) made a spots env outs n k ids seen p z) w (equation-left p x q ids seen z r f all h) v)
+        (leaves-more ns s (new ++ (valuePort x ∷ [])) rest z (equationLocalT ns s (tabled ns) made a spots env outs n k ids seen p z) w (equation-left p x q ids seen z r f all h) v)
 
     none-left : (seen : List ℕ) (z : Left) → Leaves ns s (scopeLocals (sampleType ports outputs) (valueType ports outputs) a vars (scopeAt n k) (namesOf ns a seen) []) z z
     unfolding scopeLocals
     none-left seen z = leaves-none ns s z
 
     equations-left : (c p : ℕ) (es : List Equation) (q : ℕ) (seen : List ℕ) (z : Left) → many (equationIn ns s) c p ≡ value es q → All (Fits P) es → All (IsId ns a) seen → 3 * length seen ≤ p
-        → Leaves ns s (scopeLocals (sampleType ports outputs) (valueType ports outputs) a vars (scopeAt n k) (namesOf ns a seen) es) z (equationLocalsT ns s (enc ns) made a spots env outs n last held rows k c p seen z)
+        → Leaves ns s (scopeLocals (sampleType ports outputs) (valueType ports outputs) a vars (scopeAt n k) (namesOf ns a seen) es) z (equationLocalsT ns s (tabled ns) made a spots env outs n last held rows k c p seen z)
     unfolding equationLocalsT All
     equations-left zero p [] q seen z e f all l = none-left seen z
     equations-left zero p (x ∷ xs) q seen z e f all l = absurd (many-cut (equationIn ns s) p x xs q e)
@@ -187,27 +187,27 @@ module _ (ns : List Name) (fresh : Fresh [] ns) (legal : All LegalName ns) (few 
         let g : namesOf ns a (freshIn seen (d .ids)) ≡ dropIn (namesOf ns a seen) (scopeReads a vars x) = names-fresh ns a fresh few seen (d .ids) all (d .all) ∙ ap (dropIn (namesOf ns a seen)) (d .named) in
         let o = fresh-length seen (d .ids) in
         let y = length-append seen (freshIn seen (d .ids)) in
-        let u = equationLocalT ns s (enc ns) made a spots env outs n k (d .ids) seen p z in
-        let w : equationLocalsT ns s (enc ns) made a spots env outs n last held rows k c (equationEnd ns s p) (joinT (localReads ns s (enc ns) made a spots env outs n last held rows p) seen) (equationLocalT ns s (enc ns) made a spots env outs n k (localReads ns s (enc ns) made a spots env outs n last held rows p) seen p z)
-        ≡ equationLocalsT ns s (enc ns) made a spots env outs n last held rows k c (m .0) now u =
-        (λ t. equationLocalsT ns s (enc ns) made a spots env outs n last held rows k c (equation-end-to ns s p x (m .0) r t) (joinT (d .is t) seen) (equationLocalT ns s (enc ns) made a spots env outs n k (d .is t) seen p z))
-        ∙ (λ t. equationLocalsT ns s (enc ns) made a spots env outs n last held rows k c (m .0) (j t) u) in
+        let u = equationLocalT ns s (tabled ns) made a spots env outs n k (d .ids) seen p z in
+        let w : equationLocalsT ns s (tabled ns) made a spots env outs n last held rows k c (equationEnd ns s p) (joinT (localReads ns s (tabled ns) made a spots env outs n last held rows p) seen) (equationLocalT ns s (tabled ns) made a spots env outs n k (localReads ns s (tabled ns) made a spots env outs n last held rows p) seen p z)
+        ≡ equationLocalsT ns s (tabled ns) made a spots env outs n last held rows k c (m .0) now u =
+        (λ t. equationLocalsT ns s (tabled ns) made a spots env outs n last held rows k c (equation-end-to ns s p x (m .0) r t) (joinT (d .is t) seen) (equationLocalT ns s (tabled ns) made a spots env outs n k (d .is t) seen p z))
+        ∙ (λ t. equationLocalsT ns s (tabled ns) made a spots env outs n last held rows k c (m .0) (j t) u) in
         let v = equations-left c (m .0) xs q now u (m .2) (f .1) (all-append (IsId ns a) seen (freshIn seen (d .ids)) all (ids-fresh ns a fresh few seen (d .ids) (d .all))) (omega arith) in
         subst (Leaves ns s (scopeLocals (sampleType ports outputs) (valueType ports outputs) a vars (scopeAt n k) (namesOf ns a seen) (x ∷ xs)) z) (sym w)
         (joined-left p x xs (m .0) (d .ids) seen z _ r (f .0) (d .all) (d .each) g v)
 
     -- THE LAW: a scope, whose count of equations stands at an offset
     pub scope-left : (at : ℕ) (es : List Equation) (q : ℕ) (z : Left) → equationsIn ns s at ≡ value es q → All (Fits P) es
-        → Leaves ns s (scopeLocals (sampleType ports outputs) (valueType ports outputs) a vars (scopeAt n k) [] es) z (scopeLocalsT ns s (enc ns) made a spots env outs n last held rows k at z)
+        → Leaves ns s (scopeLocals (sampleType ports outputs) (valueType ports outputs) a vars (scopeAt n k) [] es) z (scopeLocalsT ns s (tabled ns) made a spots env outs n last held rows k at z)
     unfolding scopeLocalsT equationsIn namesOf All
     scope-left at es q z e f =
         let c = counted-value (equationIn ns s) s at es q e in
-        subst (Leaves ns s (scopeLocals (sampleType ports outputs) (valueType ports outputs) a vars (scopeAt n k) [] es) z) (sym (number-to s at (length es) (c .0) (λ i p. equationLocalsT ns s (enc ns) made a spots env outs n last held rows k i p [] z) (c .1)))
+        subst (Leaves ns s (scopeLocals (sampleType ports outputs) (valueType ports outputs) a vars (scopeAt n k) [] es) z) (sym (number-to s at (length es) (c .0) (λ i p. equationLocalsT ns s (tabled ns) made a spots env outs n last held rows k i p [] z) (c .1)))
         (equations-left (length es) (c .0) es q [] z (c .2) f tt (omega arith))
 
   -- THE LAW: the scopes of branches
   pub branches-left : (k c p : ℕ) (bs : List Branch) (q : ℕ) (z : Left) → many (branchIn ns s) c p ≡ value bs q → k + c ≤ n → All (FitsIn P) bs
-      → Leaves ns s (branchLocals (sampleType ports outputs) (valueType ports outputs) a vars k bs) z (branchLocalsT ns s (enc ns) made a spots env outs n last held rows k c p z)
+      → Leaves ns s (branchLocals (sampleType ports outputs) (valueType ports outputs) a vars k bs) z (branchLocalsT ns s (tabled ns) made a spots env outs n last held rows k c p z)
   unfolding branchLocalsT branchLocals All
   branches-left k zero p [] q z e l f = leaves-none ns s z
   branches-left k zero p (x ∷ xs) q z e l f = absurd (many-cut (branchIn ns s) p x xs q e)
@@ -215,15 +215,15 @@ module _ (ns : List Name) (fresh : Fresh [] ns) (legal : All LegalName ns) (few 
   branches-left k (suc c) p (x ∷ xs) q z e l f =
       let m = many-more (branchIn ns s) c p x xs q e in
       let r = branch-value ns s p x (m .0) (m .1) in
-      let u = scopeLocalsT ns s (enc ns) made a spots env outs n last held rows k (r .to-equations) z in
-      let w : branchLocalsT ns s (enc ns) made a spots env outs n last held rows (suc k) c (branchEnd ns s p) (scopeLocalsT ns s (enc ns) made a spots env outs n last held rows k (bodyIn ns s p) z) ≡ branchLocalsT ns s (enc ns) made a spots env outs n last held rows (suc k) c (m .0) u =
-      λ j. branchLocalsT ns s (enc ns) made a spots env outs n last held rows (suc k) c (branch-end-to ns s p x (m .0) r j) (scopeLocalsT ns s (enc ns) made a spots env outs n last held rows k (body-to ns s p x (m .0) r j) z) in
+      let u = scopeLocalsT ns s (tabled ns) made a spots env outs n last held rows k (r .to-equations) z in
+      let w : branchLocalsT ns s (tabled ns) made a spots env outs n last held rows (suc k) c (branchEnd ns s p) (scopeLocalsT ns s (tabled ns) made a spots env outs n last held rows k (bodyIn ns s p) z) ≡ branchLocalsT ns s (tabled ns) made a spots env outs n last held rows (suc k) c (m .0) u =
+      λ j. branchLocalsT ns s (tabled ns) made a spots env outs n last held rows (suc k) c (branch-end-to ns s p x (m .0) r j) (scopeLocalsT ns s (tabled ns) made a spots env outs n last held rows k (body-to ns s p x (m .0) r j) z) in
       subst (Leaves ns s (scopeLocals (sampleType ports outputs) (valueType ports outputs) a vars (branch k) [] (x .equations) ++ branchLocals (sampleType ports outputs) (valueType ports outputs) a vars (suc k) xs) z) (sym w)
-      (leaves-more ns s (scopeLocals (sampleType ports outputs) (valueType ports outputs) a vars (branch k) [] (x .equations)) (branchLocals (sampleType ports outputs) (valueType ports outputs) a vars (suc k) xs) z u (branchLocalsT ns s (enc ns) made a spots env outs n last held rows (suc k) c (m .0) u)
+      (leaves-more ns s (scopeLocals (sampleType ports outputs) (valueType ports outputs) a vars (branch k) [] (x .equations)) (branchLocals (sampleType ports outputs) (valueType ports outputs) a vars (suc k) xs) z u (branchLocalsT ns s (tabled ns) made a spots env outs n last held rows (suc k) c (m .0) u)
       (subst (λ (t : Scope). Leaves ns s (scopeLocals (sampleType ports outputs) (valueType ports outputs) a vars t [] (x .equations)) z u) (scope-branch n k (omega arith)) (scope-left k (r .to-equations) (x .equations) (m .0) z (r .equations) (f .0)))
       (branches-left (suc k) c (m .0) xs q u (m .2) (omega arith) (f .1)))
 
   -- the else scope
   pub else-left : (at : ℕ) (es : List Equation) (q : ℕ) (z : Left) → equationsIn ns s at ≡ value es q → All (Fits P) es
-      → Leaves ns s (scopeLocals (sampleType ports outputs) (valueType ports outputs) a vars other [] es) z (scopeLocalsT ns s (enc ns) made a spots env outs n last held rows n at z)
-  else-left at es q z e f = subst (λ (t : Scope). Leaves ns s (scopeLocals (sampleType ports outputs) (valueType ports outputs) a vars t [] es) z (scopeLocalsT ns s (enc ns) made a spots env outs n last held rows n at z)) (scope-else n) (scope-left n at es q z e f)
+      → Leaves ns s (scopeLocals (sampleType ports outputs) (valueType ports outputs) a vars other [] es) z (scopeLocalsT ns s (tabled ns) made a spots env outs n last held rows n at z)
+  else-left at es q z e f = subst (λ (t : Scope). Leaves ns s (scopeLocals (sampleType ports outputs) (valueType ports outputs) a vars t [] es) z (scopeLocalsT ns s (tabled ns) made a spots env outs n last held rows n at z)) (scope-else n) (scope-left n at es q z e f)

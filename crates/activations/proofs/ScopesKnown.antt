@@ -17,7 +17,8 @@ use Rattle.pack.specs.Syntax.{Branch, Equation, Expr, eVar}
 use Rattle.pack.specs.Forms.{nameAt}
 use Rattle.pack.specs.Legal.{Fresh, LegalName}
 use Rattle.pack.specs.Read.{branchIn, equationIn, equationsIn, exprIn, nameIn, namesIn}
-use Rattle.pack.specs.Write.{Item, each, enc, equationItems, exprItems, list, nameItems, nm, raw}
+use Rattle.pack.specs.Write.{Item, each, equationItems, exprItems, list, nameItems, nm, raw}
+use Rattle.pack.specs.Table.{tabled}
 use Rattle.pack.specs.Intern.{putItem, putName, render}
 use Rattle.pack.proofs.Interns.{render-append}
 use Rattle.pack.proofs.Tables.{all-append}
@@ -156,66 +157,66 @@ module _ (ns : List Name) (fresh : Fresh [] ns) (legal : All LegalName ns) (few 
 
   module _ (k : ℕ) where
     -- the equation of a sample
-    sample-alike : (x : ℕ) (z : State) → IsId ns a x → render (enc ns) (sampleItems s spots (length ns) a n k x) z ≡ render (enc ns) (equationItems (eqn (sampleVar a (scopeAt n k) (nameOf ns a x)) (onto a n (scopeAt n k) (eVar (nameOf ns a x))))) z
+    sample-alike : (x : ℕ) (z : State) → IsId ns a x → render (tabled ns) (sampleItems s spots (length ns) a n k x) z ≡ render (tabled ns) (equationItems (eqn (sampleVar a (scopeAt n k) (nameOf ns a x)) (onto a n (scopeAt n k) (eVar (nameOf ns a x))))) z
     unfolding sampleItems render putItem exprItems
     sample-alike x z i =
-        ap (λ (m : Name). render (enc ns) (ontoItems a n (scopeAt n k) ++ (raw (1 ∷ []) ∷ idItems s spots (length ns) a x)) (putName (enc ns) m (puts (two 1) z))) (sample-named ns fresh legal few s by spots placed a n k x (id-below ns a x i))
-        ∙ render-append (enc ns) (ontoItems a n (scopeAt n k)) (raw (1 ∷ []) ∷ idItems s spots (length ns) a x) (putName (enc ns) (sampleVar a (scopeAt n k) (nameOf ns a x)) (puts (two 1) z))
-        ∙ id-written ns fresh legal few s by spots placed a x (id-below ns a x i) (puts (1 ∷ []) (render (enc ns) (ontoItems a n (scopeAt n k)) (putName (enc ns) (sampleVar a (scopeAt n k) (nameOf ns a x)) (puts (two 1) z))))
-        ∙ sym (render-append (enc ns) (ontoItems a n (scopeAt n k)) (exprItems (eVar (nameOf ns a x))) (putName (enc ns) (sampleVar a (scopeAt n k) (nameOf ns a x)) (puts (two 1) z)))
-        ∙ ap (λ (is : List Item). render (enc ns) is (putName (enc ns) (sampleVar a (scopeAt n k) (nameOf ns a x)) (puts (two 1) z))) (sym (onto-items a n (scopeAt n k) (eVar (nameOf ns a x))))
-        ∙ ap (λ (is : List Item). render (enc ns) is z) (sym (equation-parts (sampleVar a (scopeAt n k) (nameOf ns a x)) (onto a n (scopeAt n k) (eVar (nameOf ns a x)))))
+        ap (λ (m : Name). render (tabled ns) (ontoItems a n (scopeAt n k) ++ (raw (1 ∷ []) ∷ idItems s spots (length ns) a x)) (putName (tabled ns) m (puts (two 1) z))) (sample-named ns fresh legal few s by spots placed a n k x (id-below ns a x i))
+        ∙ render-append (tabled ns) (ontoItems a n (scopeAt n k)) (raw (1 ∷ []) ∷ idItems s spots (length ns) a x) (putName (tabled ns) (sampleVar a (scopeAt n k) (nameOf ns a x)) (puts (two 1) z))
+        ∙ id-written ns fresh legal few s by spots placed a x (id-below ns a x i) (puts (1 ∷ []) (render (tabled ns) (ontoItems a n (scopeAt n k)) (putName (tabled ns) (sampleVar a (scopeAt n k) (nameOf ns a x)) (puts (two 1) z))))
+        ∙ sym (render-append (tabled ns) (ontoItems a n (scopeAt n k)) (exprItems (eVar (nameOf ns a x))) (putName (tabled ns) (sampleVar a (scopeAt n k) (nameOf ns a x)) (puts (two 1) z)))
+        ∙ ap (λ (is : List Item). render (tabled ns) is (putName (tabled ns) (sampleVar a (scopeAt n k) (nameOf ns a x)) (puts (two 1) z))) (sym (onto-items a n (scopeAt n k) (eVar (nameOf ns a x))))
+        ∙ ap (λ (is : List Item). render (tabled ns) is z) (sym (equation-parts (sampleVar a (scopeAt n k) (nameOf ns a x)) (onto a n (scopeAt n k) (eVar (nameOf ns a x)))))
 
-    new-written : (seen ids : List ℕ) (z : State) → All (IsId ns a) ids → render (enc ns) (newItems s spots (length ns) a n k seen ids) z ≡ render (enc ns) (each equationItems (sampleEquations a n (scopeAt n k) (namesOf ns a (freshIn seen ids)))) z
+    new-written : (seen ids : List ℕ) (z : State) → All (IsId ns a) ids → render (tabled ns) (newItems s spots (length ns) a n k seen ids) z ≡ render (tabled ns) (each equationItems (sampleEquations a n (scopeAt n k) (namesOf ns a (freshIn seen ids)))) z
     unfolding newItems freshIn namesOf sampleEquations each render All
     new-written seen [] z all = refl
-    new-written seen (x ∷ xs) z all = by-bool (λ (b : Bool). render (enc ns) (cond b (newItems s spots (length ns) a n k seen xs) (sampleItems s spots (length ns) a n k x ++ newItems s spots (length ns) a n k seen xs)) z ≡ render (enc ns) (each equationItems (sampleEquations a n (scopeAt n k) (namesOf ns a (cond b (freshIn seen xs) (x ∷ freshIn seen xs))))) z) (among x seen)
+    new-written seen (x ∷ xs) z all = by-bool (λ (b : Bool). render (tabled ns) (cond b (newItems s spots (length ns) a n k seen xs) (sampleItems s spots (length ns) a n k x ++ newItems s spots (length ns) a n k seen xs)) z ≡ render (tabled ns) (each equationItems (sampleEquations a n (scopeAt n k) (namesOf ns a (cond b (freshIn seen xs) (x ∷ freshIn seen xs))))) z) (among x seen)
         (λ e. new-written seen xs z (all .1))
-        (λ e. render-append (enc ns) (sampleItems s spots (length ns) a n k x) (newItems s spots (length ns) a n k seen xs) z
-        ∙ ap (render (enc ns) (newItems s spots (length ns) a n k seen xs)) (sample-alike x z (all .0))
-        ∙ new-written seen xs (render (enc ns) (equationItems (eqn (sampleVar a (scopeAt n k) (nameOf ns a x)) (onto a n (scopeAt n k) (eVar (nameOf ns a x))))) z) (all .1)
-        ∙ sym (render-append (enc ns) (equationItems (eqn (sampleVar a (scopeAt n k) (nameOf ns a x)) (onto a n (scopeAt n k) (eVar (nameOf ns a x))))) (each equationItems (sampleEquations a n (scopeAt n k) (namesOf ns a (freshIn seen xs)))) z))
+        (λ e. render-append (tabled ns) (sampleItems s spots (length ns) a n k x) (newItems s spots (length ns) a n k seen xs) z
+        ∙ ap (render (tabled ns) (newItems s spots (length ns) a n k seen xs)) (sample-alike x z (all .0))
+        ∙ new-written seen xs (render (tabled ns) (equationItems (eqn (sampleVar a (scopeAt n k) (nameOf ns a x)) (onto a n (scopeAt n k) (eVar (nameOf ns a x))))) z) (all .1)
+        ∙ sym (render-append (tabled ns) (equationItems (eqn (sampleVar a (scopeAt n k) (nameOf ns a x)) (onto a n (scopeAt n k) (eVar (nameOf ns a x))))) (each equationItems (sampleEquations a n (scopeAt n k) (namesOf ns a (freshIn seen xs)))) z))
 
     -- THE LAW: a right side, over the samples of what it reads
     pub over-written : (ids : List ℕ) (at : ℕ) (e : Expr) (q : ℕ) (z : State) → All (IsId ns a) ids → exprIn ns s at ≡ value e q → Asked P e
-        → overT (enc ns) s spots (length ns) made a n k ids held rows ns last at z ≡ render (enc ns) (exprItems (overSamples a n (scopeAt n k) (namesOf ns a ids) (unlast a e))) z
+        → overT (tabled ns) s spots (length ns) made a n k ids held rows ns last at z ≡ render (tabled ns) (exprItems (overSamples a n (scopeAt n k) (namesOf ns a ids) (unlast a e))) z
     unfolding overT overSamples namesOf
     over-written [] at e q z all d h = pinned-written ns fresh few-names legal s by short last L spots placed a n k at e q z d
     over-written (v ∷ vs) at e q z all d h = rename-written ns fresh legal few s by short last L spots placed a made M n k held rows P rowed (v ∷ vs) all at e q z d h
 
     value-alike : (p : ℕ) (x : List Name) (q : ℕ) (e : Expr) (z : State) → namesIn ns s p ≡ value x q → 0 < length x
-        → render (enc ns) (exprItems e) (render (enc ns) (valueItems s spots (length ns) a n k p) z) ≡ render (enc ns) (equationItems (eqn (valueVar a (scopeAt n k) (firstLeft x)) e)) z
+        → render (tabled ns) (exprItems e) (render (tabled ns) (valueItems s spots (length ns) a n k p) z) ≡ render (tabled ns) (equationItems (eqn (valueVar a (scopeAt n k) (firstLeft x)) e)) z
     unfolding valueItems render putItem
     value-alike p x q e z d l =
         let f = first-left-to ns s p x q d l in
-        ap (λ (m : Name). render (enc ns) (exprItems e) (putName (enc ns) (valueVar a (scopeAt n k) m) (puts (two 1) z))) (ap (packName s spots) (f .1) ∙ placed (f .0) (f .2) ∙ f .3)
-        ∙ ap (λ (is : List Item). render (enc ns) is z) (sym (equation-parts (valueVar a (scopeAt n k) (firstLeft x)) e))
+        ap (λ (m : Name). render (tabled ns) (exprItems e) (putName (tabled ns) (valueVar a (scopeAt n k) m) (puts (two 1) z))) (ap (packName s spots) (f .1) ∙ placed (f .0) (f .2) ∙ f .3)
+        ∙ ap (λ (is : List Item). render (tabled ns) is z) (sym (equation-parts (valueVar a (scopeAt n k) (firstLeft x)) e))
 
     -- an equation: its new samples, then its value
     equation-known : (p : ℕ) (x : Equation) (q : ℕ) (ids seen : List ℕ) (z : State) → EquationRead ns s p x q → Fits P x → All (IsId ns a) ids
-        → equationT (enc ns) s spots (length ns) made ns last held rows a n k ids seen p z
-        ≡ render (enc ns) (equationItems (eqn (valueVar a (scopeAt n k) (firstLeft (x .lhs))) (overSamples a n (scopeAt n k) (namesOf ns a ids) (unlast a (x .rhs))))) (render (enc ns) (each equationItems (sampleEquations a n (scopeAt n k) (namesOf ns a (freshIn seen ids)))) z)
+        → equationT (tabled ns) s spots (length ns) made ns last held rows a n k ids seen p z
+        ≡ render (tabled ns) (equationItems (eqn (valueVar a (scopeAt n k) (firstLeft (x .lhs))) (overSamples a n (scopeAt n k) (namesOf ns a ids) (unlast a (x .rhs))))) (render (tabled ns) (each equationItems (sampleEquations a n (scopeAt n k) (namesOf ns a (freshIn seen ids)))) z)
     unfolding equationT
     equation-known p x q ids seen z r f all =
-        ap (λ (i : ℕ). overT (enc ns) s spots (length ns) made a n k ids held rows ns last i (render (enc ns) (valueItems s spots (length ns) a n k p) (render (enc ns) (newItems s spots (length ns) a n k seen ids) z))) (right-side-to ns s p x q r)
-        ∙ ap (λ (y : State). overT (enc ns) s spots (length ns) made a n k ids held rows ns last (r .to-rhs) (render (enc ns) (valueItems s spots (length ns) a n k p) y)) (new-written seen ids z all)
-        ∙ over-written ids (r .to-rhs) (x .rhs) q (render (enc ns) (valueItems s spots (length ns) a n k p) (render (enc ns) (each equationItems (sampleEquations a n (scopeAt n k) (namesOf ns a (freshIn seen ids)))) z)) all (r .rhs) (f .1)
-        ∙ value-alike p (x .lhs) (r .to-rhs) (overSamples a n (scopeAt n k) (namesOf ns a ids) (unlast a (x .rhs))) (render (enc ns) (each equationItems (sampleEquations a n (scopeAt n k) (namesOf ns a (freshIn seen ids)))) z) (r .lhs) (f .0)
+        ap (λ (i : ℕ). overT (tabled ns) s spots (length ns) made a n k ids held rows ns last i (render (tabled ns) (valueItems s spots (length ns) a n k p) (render (tabled ns) (newItems s spots (length ns) a n k seen ids) z))) (right-side-to ns s p x q r)
+        ∙ ap (λ (y : State). overT (tabled ns) s spots (length ns) made a n k ids held rows ns last (r .to-rhs) (render (tabled ns) (valueItems s spots (length ns) a n k p) y)) (new-written seen ids z all)
+        ∙ over-written ids (r .to-rhs) (x .rhs) q (render (tabled ns) (valueItems s spots (length ns) a n k p) (render (tabled ns) (each equationItems (sampleEquations a n (scopeAt n k) (namesOf ns a (freshIn seen ids)))) z)) all (r .rhs) (f .1)
+        ∙ value-alike p (x .lhs) (r .to-rhs) (overSamples a n (scopeAt n k) (namesOf ns a ids) (unlast a (x .rhs))) (render (tabled ns) (each equationItems (sampleEquations a n (scopeAt n k) (namesOf ns a (freshIn seen ids)))) z) (r .lhs) (f .0)
 
     -- the definition, an equation and the rest
     scope-step : (old : List Name) (new : List Name) (e : Equation) (es : List Equation) (z : State) → new ≡ dropIn old (scopeReads a vars e)
-        → render (enc ns) (each equationItems (scopeEquations a n vars (scopeAt n k) old (e ∷ es))) z
-        ≡ render (enc ns) (each equationItems (scopeEquations a n vars (scopeAt n k) (old ++ new) es)) (render (enc ns) (equationItems (eqn (valueVar a (scopeAt n k) (firstLeft (e .lhs))) (rewritten a n vars (scopeAt n k) e))) (render (enc ns) (each equationItems (sampleEquations a n (scopeAt n k) new)) z))
+        → render (tabled ns) (each equationItems (scopeEquations a n vars (scopeAt n k) old (e ∷ es))) z
+        ≡ render (tabled ns) (each equationItems (scopeEquations a n vars (scopeAt n k) (old ++ new) es)) (render (tabled ns) (equationItems (eqn (valueVar a (scopeAt n k) (firstLeft (e .lhs))) (rewritten a n vars (scopeAt n k) e))) (render (tabled ns) (each equationItems (sampleEquations a n (scopeAt n k) new)) z))
     unfolding scopeEquations each
     scope-step old new e es z g =
         let rest : List Name → List Equation = λ w. eqn (valueVar a (scopeAt n k) (firstLeft (e .lhs))) (rewritten a n vars (scopeAt n k) e) ∷ scopeEquations a n vars (scopeAt n k) (old ++ w) es in
-        ap (λ (w : List Name). render (enc ns) (each equationItems (sampleEquations a n (scopeAt n k) w ++ rest w)) z) (sym g)
-        ∙ ap (λ (is : List Item). render (enc ns) is z) (each-append equationItems (sampleEquations a n (scopeAt n k) new) (rest new))
-        ∙ render-append (enc ns) (each equationItems (sampleEquations a n (scopeAt n k) new)) (each equationItems (rest new)) z
-        ∙ render-append (enc ns) (equationItems (eqn (valueVar a (scopeAt n k) (firstLeft (e .lhs))) (rewritten a n vars (scopeAt n k) e))) (each equationItems (scopeEquations a n vars (scopeAt n k) (old ++ new) es)) (render (enc ns) (each equationItems (sampleEquations a n (scopeAt n k) new)) z)
+        ap (λ (w : List Name). render (tabled ns) (each equationItems (sampleEquations a n (scopeAt n k) w ++ rest w)) z) (sym g)
+        ∙ ap (λ (is : List Item). render (tabled ns) is z) (each-append equationItems (sampleEquations a n (scopeAt n k) new) (rest new))
+        ∙ render-append (tabled ns) (each equationItems (sampleEquations a n (scopeAt n k) new)) (each equationItems (rest new)) z
+        ∙ render-append (tabled ns) (equationItems (eqn (valueVar a (scopeAt n k) (firstLeft (e .lhs))) (rewritten a n vars (scopeAt n k) e))) (each equationItems (scopeEquations a n vars (scopeAt n k) (old ++ new) es)) (render (tabled ns) (each equationItems (sampleEquations a n (scopeAt n k) new)) z)
 
     reads-at : (p : ℕ) (x : Equation) (q : ℕ) → EquationRead ns s p x q → Fits P x
-        → (ids : List ℕ) × (readsAt (enc ns) s spots (length ns) made ns last held rows env outs a n p ≡ ids) × All (IsId ns a) ids × (namesOf ns a ids ≡ scopeReads a vars x) × (p + 3 * length ids ≤ q) × Once ids
+        → (ids : List ℕ) × (readsAt (tabled ns) s spots (length ns) made ns last held rows env outs a n p ≡ ids) × All (IsId ns a) ids × (namesOf ns a ids ≡ scopeReads a vars x) × (p + 3 * length ids ≤ q) × Once ids
     unfolding readsAt scopeReads
     reads-at p x q r f =
         let h = reads-known ns fresh few s by short last L a held rows env outs vars P rowed old-told held-told none-told (r .to-rhs) (x .rhs) q (r .rhs) (f .1) in
@@ -224,18 +225,18 @@ module _ (ns : List Name) (fresh : Fresh [] ns) (legal : All LegalName ns) (few 
         (readsT held rows env outs (length ns) ns s last (r .to-rhs), ap (readsT held rows env outs (length ns) ns s last) (right-side-to ns s p x q r), h .0, h .1, omega arith, h .3)
 
     -- no equation left; the rest where what was read and seen is told by names
-    none-left : (seen : List ℕ) (z : State) → z ≡ render (enc ns) (each equationItems (scopeEquations a n vars (scopeAt n k) (namesOf ns a seen) [])) z
+    none-left : (seen : List ℕ) (z : State) → z ≡ render (tabled ns) (each equationItems (scopeEquations a n vars (scopeAt n k) (namesOf ns a seen) [])) z
     unfolding scopeEquations each render
     none-left seen z = refl
 
     same-rest : (x : Equation) (xs : List Equation) (old new now ids : List Name) (z : State) → now ≡ old ++ new → ids ≡ scopeReads a vars x
-        → render (enc ns) (each equationItems (scopeEquations a n vars (scopeAt n k) now xs)) (render (enc ns) (equationItems (eqn (valueVar a (scopeAt n k) (firstLeft (x .lhs))) (overSamples a n (scopeAt n k) ids (unlast a (x .rhs))))) (render (enc ns) (each equationItems (sampleEquations a n (scopeAt n k) new)) z))
-        ≡ render (enc ns) (each equationItems (scopeEquations a n vars (scopeAt n k) (old ++ new) xs)) (render (enc ns) (equationItems (eqn (valueVar a (scopeAt n k) (firstLeft (x .lhs))) (rewritten a n vars (scopeAt n k) x))) (render (enc ns) (each equationItems (sampleEquations a n (scopeAt n k) new)) z))
+        → render (tabled ns) (each equationItems (scopeEquations a n vars (scopeAt n k) now xs)) (render (tabled ns) (equationItems (eqn (valueVar a (scopeAt n k) (firstLeft (x .lhs))) (overSamples a n (scopeAt n k) ids (unlast a (x .rhs))))) (render (tabled ns) (each equationItems (sampleEquations a n (scopeAt n k) new)) z))
+        ≡ render (tabled ns) (each equationItems (scopeEquations a n vars (scopeAt n k) (old ++ new) xs)) (render (tabled ns) (equationItems (eqn (valueVar a (scopeAt n k) (firstLeft (x .lhs))) (rewritten a n vars (scopeAt n k) x))) (render (tabled ns) (each equationItems (sampleEquations a n (scopeAt n k) new)) z))
     unfolding rewritten
-    same-rest x xs old new now ids z g h = λ j. render (enc ns) (each equationItems (scopeEquations a n vars (scopeAt n k) (g j) xs)) (render (enc ns) (equationItems (eqn (valueVar a (scopeAt n k) (firstLeft (x .lhs))) (overSamples a n (scopeAt n k) (h j) (unlast a (x .rhs))))) (render (enc ns) (each equationItems (sampleEquations a n (scopeAt n k) new)) z))
+    same-rest x xs old new now ids z g h = λ j. render (tabled ns) (each equationItems (scopeEquations a n vars (scopeAt n k) (g j) xs)) (render (tabled ns) (equationItems (eqn (valueVar a (scopeAt n k) (firstLeft (x .lhs))) (overSamples a n (scopeAt n k) (h j) (unlast a (x .rhs))))) (render (tabled ns) (each equationItems (sampleEquations a n (scopeAt n k) new)) z))
 
     equations-known : (c p : ℕ) (es : List Equation) (q : ℕ) (seen : List ℕ) (z : State) → many (equationIn ns s) c p ≡ value es q → All (Fits P) es → All (IsId ns a) seen → 3 * length seen ≤ p
-        → equationsT (enc ns) s spots (length ns) made ns last held rows env outs a n k c p seen z ≡ render (enc ns) (each equationItems (scopeEquations a n vars (scopeAt n k) (namesOf ns a seen) es)) z
+        → equationsT (tabled ns) s spots (length ns) made ns last held rows env outs a n k c p seen z ≡ render (tabled ns) (each equationItems (scopeEquations a n vars (scopeAt n k) (namesOf ns a seen) es)) z
     unfolding equationsT All
     equations-known zero p [] q seen z e f all l = none-left seen z
     equations-known zero p (x ∷ xs) q seen z e f all l = absurd (many-cut (equationIn ns s) p x xs q e)
@@ -250,24 +251,24 @@ module _ (ns : List Name) (fresh : Fresh [] ns) (legal : All LegalName ns) (few 
         let g : namesOf ns a (freshIn seen (d .0)) ≡ dropIn (namesOf ns a seen) (scopeReads a vars x) = names-fresh ns a fresh few seen (d .0) all (d .2) ∙ ap (dropIn (namesOf ns a seen)) (d .3) in
         let u = fresh-length seen (d .0) in
         let w = length-append seen (freshIn seen (d .0)) in
-        ap (λ (t : List ℕ). equationsT (enc ns) s spots (length ns) made ns last held rows env outs a n k c (equationEnd ns s p) (joinT t seen) (equationT (enc ns) s spots (length ns) made ns last held rows a n k t seen p z)) (d .1)
-        ∙ ap (λ (t : ℕ). equationsT (enc ns) s spots (length ns) made ns last held rows env outs a n k c t (joinT (d .0) seen) (equationT (enc ns) s spots (length ns) made ns last held rows a n k (d .0) seen p z)) (equation-end-to ns s p x (m .0) r)
-        ∙ ap (λ (t : List ℕ). equationsT (enc ns) s spots (length ns) made ns last held rows env outs a n k c (m .0) t (equationT (enc ns) s spots (length ns) made ns last held rows a n k (d .0) seen p z)) j
-        ∙ ap (equationsT (enc ns) s spots (length ns) made ns last held rows env outs a n k c (m .0) (seen ++ freshIn seen (d .0))) (equation-known p x (m .0) (d .0) seen z r (f .0) (d .2))
+        ap (λ (t : List ℕ). equationsT (tabled ns) s spots (length ns) made ns last held rows env outs a n k c (equationEnd ns s p) (joinT t seen) (equationT (tabled ns) s spots (length ns) made ns last held rows a n k t seen p z)) (d .1)
+        ∙ ap (λ (t : ℕ). equationsT (tabled ns) s spots (length ns) made ns last held rows env outs a n k c t (joinT (d .0) seen) (equationT (tabled ns) s spots (length ns) made ns last held rows a n k (d .0) seen p z)) (equation-end-to ns s p x (m .0) r)
+        ∙ ap (λ (t : List ℕ). equationsT (tabled ns) s spots (length ns) made ns last held rows env outs a n k c (m .0) t (equationT (tabled ns) s spots (length ns) made ns last held rows a n k (d .0) seen p z)) j
+        ∙ ap (equationsT (tabled ns) s spots (length ns) made ns last held rows env outs a n k c (m .0) (seen ++ freshIn seen (d .0))) (equation-known p x (m .0) (d .0) seen z r (f .0) (d .2))
         ∙ equations-known c (m .0) xs q (seen ++ freshIn seen (d .0)) _ (m .2) (f .1) (all-append (IsId ns a) seen (freshIn seen (d .0)) all (ids-fresh ns a fresh few seen (d .0) (d .2))) (omega arith)
         ∙ same-rest x xs (namesOf ns a seen) (namesOf ns a (freshIn seen (d .0))) (namesOf ns a (seen ++ freshIn seen (d .0))) (namesOf ns a (d .0)) z (names-append ns a fresh seen (freshIn seen (d .0))) (d .3)
         ∙ sym (scope-step (namesOf ns a seen) (namesOf ns a (freshIn seen (d .0))) x xs z g)
 
     -- THE LAW: a scope, whose count of equations stands at an offset
     pub scope-known : (at : ℕ) (es : List Equation) (q : ℕ) (z : State) → equationsIn ns s at ≡ value es q → All (Fits P) es
-        → scopeT (enc ns) s spots (length ns) made ns last held rows env outs a n k at z ≡ render (enc ns) (each equationItems (scopeEquations a n vars (scopeAt n k) [] es)) z
+        → scopeT (tabled ns) s spots (length ns) made ns last held rows env outs a n k at z ≡ render (tabled ns) (each equationItems (scopeEquations a n vars (scopeAt n k) [] es)) z
     unfolding scopeT equationsIn namesOf All
     scope-known at es q z e f =
         let c = counted-value (equationIn ns s) s at es q e in
         number-to s at (length es) (c .0) _ (c .1) ∙ equations-known (length es) (c .0) es q [] z (c .2) f tt (omega arith)
 
   branches-known : (k c p : ℕ) (bs : List Branch) (q : ℕ) (z : State) → many (branchIn ns s) c p ≡ value bs q → k + c ≤ n → All (FitsIn P) bs
-      → branchesT (enc ns) s spots (length ns) made ns last held rows env outs a n k c p z ≡ render (enc ns) (each equationItems (branchEquations a n vars k bs)) z
+      → branchesT (tabled ns) s spots (length ns) made ns last held rows env outs a n k c p z ≡ render (tabled ns) (each equationItems (branchEquations a n vars k bs)) z
   unfolding branchesT branchEquations each render All
   branches-known k zero p [] q z e l f = refl
   branches-known k zero p (x ∷ xs) q z e l f = absurd (many-cut (branchIn ns s) p x xs q e)
@@ -275,20 +276,20 @@ module _ (ns : List Name) (fresh : Fresh [] ns) (legal : All LegalName ns) (few 
   branches-known k (suc c) p (x ∷ xs) q z e l f =
       let m = many-more (branchIn ns s) c p x xs q e in
       let r = branch-value ns s p x (m .0) (m .1) in
-      (λ j. branchesT (enc ns) s spots (length ns) made ns last held rows env outs a n (suc k) c (branch-end-to ns s p x (m .0) r j) (scopeT (enc ns) s spots (length ns) made ns last held rows env outs a n k (body-to ns s p x (m .0) r j) z))
-      ∙ ap (branchesT (enc ns) s spots (length ns) made ns last held rows env outs a n (suc k) c (m .0)) (scope-known k (r .to-equations) (x .equations) (m .0) z (r .equations) (f .0) ∙ ap (λ (t : Scope). render (enc ns) (each equationItems (scopeEquations a n vars t [] (x .equations))) z) (scope-branch n k (omega arith)))
-      ∙ branches-known (suc k) c (m .0) xs q (render (enc ns) (each equationItems (scopeEquations a n vars (branch k) [] (x .equations))) z) (m .2) (omega arith) (f .1)
-      ∙ sym (render-append (enc ns) (each equationItems (scopeEquations a n vars (branch k) [] (x .equations))) (each equationItems (branchEquations a n vars (suc k) xs)) z)
-      ∙ ap (λ (is : List Item). render (enc ns) is z) (sym (each-append equationItems (scopeEquations a n vars (branch k) [] (x .equations)) (branchEquations a n vars (suc k) xs)))
+      (λ j. branchesT (tabled ns) s spots (length ns) made ns last held rows env outs a n (suc k) c (branch-end-to ns s p x (m .0) r j) (scopeT (tabled ns) s spots (length ns) made ns last held rows env outs a n k (body-to ns s p x (m .0) r j) z))
+      ∙ ap (branchesT (tabled ns) s spots (length ns) made ns last held rows env outs a n (suc k) c (m .0)) (scope-known k (r .to-equations) (x .equations) (m .0) z (r .equations) (f .0) ∙ ap (λ (t : Scope). render (tabled ns) (each equationItems (scopeEquations a n vars t [] (x .equations))) z) (scope-branch n k (omega arith)))
+      ∙ branches-known (suc k) c (m .0) xs q (render (tabled ns) (each equationItems (scopeEquations a n vars (branch k) [] (x .equations))) z) (m .2) (omega arith) (f .1)
+      ∙ sym (render-append (tabled ns) (each equationItems (scopeEquations a n vars (branch k) [] (x .equations))) (each equationItems (branchEquations a n vars (suc k) xs)) z)
+      ∙ ap (λ (is : List Item). render (tabled ns) is z) (sym (each-append equationItems (scopeEquations a n vars (branch k) [] (x .equations)) (branchEquations a n vars (suc k) xs)))
 
   -- THE LAW: all scopes of an activation that was read
   pub scopes-known : (branches b : ℕ) (bs : List Branch) (to : ℕ) (es : List Equation) (q : ℕ) (z : State) → u16 s branches ≡ value n b → many (branchIn ns s) n b ≡ value bs to → equationsIn ns s to ≡ value es q → All (FitsIn P) bs → All (Fits P) es
-      → scopesT (enc ns) s spots (length ns) made ns last held rows env outs a n branches to z ≡ render (enc ns) (each equationItems (branchEquations a n vars 0 bs ++ scopeEquations a n vars other [] es)) z
+      → scopesT (tabled ns) s spots (length ns) made ns last held rows env outs a n branches to z ≡ render (tabled ns) (each equationItems (branchEquations a n vars 0 bs ++ scopeEquations a n vars other [] es)) z
   unfolding scopesT
   scopes-known branches b bs to es q z c d e f g =
-      ap (λ (x : Num). scopeT (enc ns) s spots (length ns) made ns last held rows env outs a n n to (branchesT (enc ns) s spots (length ns) made ns last held rows env outs a n 0 n (x .next) z)) (number-num s branches n b c)
-      ∙ ap (scopeT (enc ns) s spots (length ns) made ns last held rows env outs a n n to) (branches-known 0 n b bs to z d (omega arith) f)
-      ∙ scope-known n to es q (render (enc ns) (each equationItems (branchEquations a n vars 0 bs)) z) e g
-      ∙ ap (λ (t : Scope). render (enc ns) (each equationItems (scopeEquations a n vars t [] es)) (render (enc ns) (each equationItems (branchEquations a n vars 0 bs)) z)) (scope-else n)
-      ∙ sym (render-append (enc ns) (each equationItems (branchEquations a n vars 0 bs)) (each equationItems (scopeEquations a n vars other [] es)) z)
-      ∙ ap (λ (is : List Item). render (enc ns) is z) (sym (each-append equationItems (branchEquations a n vars 0 bs) (scopeEquations a n vars other [] es)))
+      ap (λ (x : Num). scopeT (tabled ns) s spots (length ns) made ns last held rows env outs a n n to (branchesT (tabled ns) s spots (length ns) made ns last held rows env outs a n 0 n (x .next) z)) (number-num s branches n b c)
+      ∙ ap (scopeT (tabled ns) s spots (length ns) made ns last held rows env outs a n n to) (branches-known 0 n b bs to z d (omega arith) f)
+      ∙ scope-known n to es q (render (tabled ns) (each equationItems (branchEquations a n vars 0 bs)) z) e g
+      ∙ ap (λ (t : Scope). render (tabled ns) (each equationItems (scopeEquations a n vars t [] es)) (render (tabled ns) (each equationItems (branchEquations a n vars 0 bs)) z)) (scope-else n)
+      ∙ sym (render-append (tabled ns) (each equationItems (branchEquations a n vars 0 bs)) (each equationItems (scopeEquations a n vars other [] es)) z)
+      ∙ ap (λ (is : List Item). render (tabled ns) is z) (sym (each-append equationItems (branchEquations a n vars 0 bs) (scopeEquations a n vars other [] es)))

@@ -22,7 +22,8 @@ use Rattle.pack.specs.Syntax.{Node, Port, Ty, tArray, tBool, tChar, tFloat32, t
 use Rattle.pack.specs.Forms.{nameAt}
 use Rattle.pack.specs.Legal.{Fresh, LegalName, ShapedTy}
 use Rattle.pack.specs.Read.{nameIn, nodeIn, portIn, portsIn, typeIn}
-use Rattle.pack.specs.Write.{enc, one, tyItems}
+use Rattle.pack.specs.Write.{one, tyItems}
+use Rattle.pack.specs.Table.{tabled}
 use Rattle.pack.specs.Intern.{putItem, render}
 use Rattle.pack.proofs.Bounds.{w-typeIn}
 use Rattle.pack.proofs.Copies.{Lies, lies-by, lies-copied}
@@ -174,16 +175,16 @@ module _ (ns : List Name) (fresh : Fresh [] ns) (few : length ns < 65536) (s : L
       let a = ap length (l .bytes) in
       omega (arith, length-drop at s, length-append (code ns (tyItems t)) (drop q s))
 
-  bool-written : (c : ℕ) (t : Ty) → Coded ns s c (some t) → c < 2 → (z : State) → puts (typeBytes ns s c) z ≡ render (enc ns) (tyItems t) z
+  bool-written : (c : ℕ) (t : Ty) → Coded ns s c (some t) → c < 2 → (z : State) → puts (typeBytes ns s c) z ≡ render (tabled ns) (tyItems t) z
   unfolding typeBytes render putItem tyItems one
-  bool-written c t h l z = rw (lt-ltb c 2 l) (ap (λ y. render (enc ns) (tyItems y) z) (sym (coded-one ns s c t h l)))
+  bool-written c t h l z = rw (lt-ltb c 2 l) (ap (λ y. render (tabled ns) (tyItems y) z) (sym (coded-one ns s c t h l)))
 
-  read-written : All LegalName ns → (c : ℕ) (t : Ty) → Coded ns s c (some t) → 2 ≤ c → (z : State) → puts (typeBytes ns s c) z ≡ render (enc ns) (tyItems t) z
+  read-written : All LegalName ns → (c : ℕ) (t : Ty) → Coded ns s c (some t) → 2 ≤ c → (z : State) → puts (typeBytes ns s c) z ≡ render (tabled ns) (tyItems t) z
   unfolding typeBytes sliceOf
   read-written legal c t h l z = rw (le-ltb c 2 l) (sym (lies-copied ns legal s c (tyItems t) (endOf (typeIn ns s c)) (lies-type c t (endOf (typeIn ns s c)) (coded-read ns s c t h l)) z))
 
   -- THE LAW: a type is written by its bytes
-  pub type-written : All LegalName ns → (c : ℕ) (t : Ty) → Coded ns s c (some t) → (z : State) → puts (typeBytes ns s c) z ≡ render (enc ns) (tyItems t) z
+  pub type-written : All LegalName ns → (c : ℕ) (t : Ty) → Coded ns s c (some t) → (z : State) → puts (typeBytes ns s c) z ≡ render (tabled ns) (tyItems t) z
   type-written legal c t h z = ⊎-elim (λ l. bool-written c t h l z) (λ l. read-written legal c t h l z) (lt-or-le c 2)
 
   module _ (short : length s ≤ 65536) where

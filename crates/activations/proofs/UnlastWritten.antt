@@ -14,7 +14,8 @@ use Rattle.pack.specs.Syntax.{Expr, Exprs, eArray, eCall, eIterate, eStruct, eT
 use Rattle.pack.specs.Forms.{nameAt}
 use Rattle.pack.specs.Legal.{Fresh, LegalName}
 use Rattle.pack.specs.Read.{exprIn}
-use Rattle.pack.specs.Write.{Item, arrays, countOf, each, enc, exprItems, flagByte, iterByte, nm, raw}
+use Rattle.pack.specs.Write.{Item, arrays, countOf, each, exprItems, flagByte, iterByte, nm, raw}
+use Rattle.pack.specs.Table.{tabled}
 use Rattle.pack.specs.Intern.{putItem, render}
 use Rattle.pack.proofs.Interns.{render-append}
 use Rattle.machines.specs.Laid.{sliceOf}
@@ -99,10 +100,10 @@ each-through old f (e ∷ es) z = each-through old f es (render old (exprItems (
 module _ (ns : List Name) (fresh : Fresh [] ns) (few : length ns < 65536) (legal : All LegalName ns) (s : List ℕ) (by : Bytes s) (short : length s ≤ 65536) (last : ℕ) (L : LastIs ns last)
     (spots : List ℕ) (placed : (i : ℕ) → i < length ns → packName s spots i ≡ nameAt ns i) (a : Name) where
   written : Expr → State → State
-  written e z = render (enc ns) (exprItems (unlast a e)) z
+  written e z = render (tabled ns) (exprItems (unlast a e)) z
 
   -- what is copied at a node that is not replaced
-  copied : (p : ℕ) (m : Met) (z : State) → Kept m → metStep (enc ns) s spots a m p z ≡ puts (sliceOf s p (onwardT m - p)) z
+  copied : (p : ℕ) (m : Met) (z : State) → Kept m → metStep (tabled ns) s spots a m p z ≡ puts (sliceOf s p (onwardT m - p)) z
   unfolding metStep metItems copyItems render putItem onwardT Kept
   copied p (mt.Last v i q) z h = absurd h
   copied p (mt.Bad u q) z h = refl
@@ -113,28 +114,28 @@ module _ (ns : List Name) (fresh : Fresh [] ns) (few : length ns < 65536) (legal
   copied p mt.Nothing z h = refl
 
   kept-follows : (p : ℕ) (e : Expr) (q : ℕ) (z : State) → exprIn ns s p ≡ value e q → View ns s e (metAt ns s last p) → Kept (metAt ns s last p)
-      → written e z ≡ through written (toCome (metAt ns s last p) e) (metStep (enc ns) s spots a (metAt ns s last p) p z)
+      → written e z ≡ through written (toCome (metAt ns s last p) e) (metStep (tabled ns) s spots a (metAt ns s last p) p z)
   unfolding written sliceOf
   kept-follows p e q z d v h =
-      ap (λ (is : List Item). render (enc ns) is z) (splits a ns s e (metAt ns s last p) v h)
-      ∙ render-append (enc ns) (headItems e) (each (λ x. exprItems (unlast a x)) (kids e)) z
-      ∙ ap (render (enc ns) (each (λ x. exprItems (unlast a x)) (kids e))) (head-copied ns fresh few s by last L legal p e q d h z ∙ sym (copied p (metAt ns s last p) z h))
-      ∙ sym (each-through (enc ns) (unlast a) (kids e) (metStep (enc ns) s spots a (metAt ns s last p) p z))
-      ∙ ap (λ (es : List Expr). through written es (metStep (enc ns) s spots a (metAt ns s last p) p z)) (sym (kept-come (metAt ns s last p) e h))
+      ap (λ (is : List Item). render (tabled ns) is z) (splits a ns s e (metAt ns s last p) v h)
+      ∙ render-append (tabled ns) (headItems e) (each (λ x. exprItems (unlast a x)) (kids e)) z
+      ∙ ap (render (tabled ns) (each (λ x. exprItems (unlast a x)) (kids e))) (head-copied ns fresh few s by last L legal p e q d h z ∙ sym (copied p (metAt ns s last p) z h))
+      ∙ sym (each-through (tabled ns) (unlast a) (kids e) (metStep (tabled ns) s spots a (metAt ns s last p) p z))
+      ∙ ap (λ (es : List Expr). through written es (metStep (tabled ns) s spots a (metAt ns s last p) p z)) (sym (kept-come (metAt ns s last p) e h))
 
   -- a call that is replaced becomes its holder
-  last-follows : (p : ℕ) (e : Expr) (var init next : ℕ) (z : State) → View ns s e (mt.Last var init next) → written e z ≡ metStep (enc ns) s spots a (mt.Last var init next) p z
+  last-follows : (p : ℕ) (e : Expr) (var init next : ℕ) (z : State) → View ns s e (mt.Last var init next) → written e z ≡ metStep (tabled ns) s spots a (mt.Last var init next) p z
   unfolding written metStep metItems exprItems
   last-follows p e var init next z (vLast {f = f} {v = v} {xs = xs} {i = i} k l n d) =
-      ap (λ (y : Expr). render (enc ns) (exprItems y) z) (last-call a f xs v i k)
-      ∙ ap (λ (y : Name). render (enc ns) (raw (1 ∷ []) ∷ nm (lastVar a y) ∷ []) z) (sym (placed var l ∙ n))
+      ap (λ (y : Expr). render (tabled ns) (exprItems y) z) (last-call a f xs v i k)
+      ∙ ap (λ (y : Name). render (tabled ns) (raw (1 ∷ []) ∷ nm (lastVar a y) ∷ []) z) (sym (placed var l ∙ n))
 
-  at-met : (p : ℕ) (e : Expr) (q : ℕ) (m : Met) (z : State) → exprIn ns s p ≡ value e q → m ≡ metAt ns s last p → View ns s e m → Kept m → written e z ≡ through written (toCome m e) (metStep (enc ns) s spots a m p z)
+  at-met : (p : ℕ) (e : Expr) (q : ℕ) (m : Met) (z : State) → exprIn ns s p ≡ value e q → m ≡ metAt ns s last p → View ns s e m → Kept m → written e z ≡ through written (toCome m e) (metStep (tabled ns) s spots a m p z)
   at-met p e q m z d g v h =
-      subst (λ (y : Met). written e z ≡ through written (toCome y e) (metStep (enc ns) s spots a y p z)) (sym g)
+      subst (λ (y : Met). written e z ≡ through written (toCome y e) (metStep (tabled ns) s spots a y p z)) (sym g)
       (kept-follows p e q z d (subst (View ns s e) g v) (subst Kept g h))
 
-  follows : (p : ℕ) (e : Expr) (q : ℕ) (m : Met) (z : State) → exprIn ns s p ≡ value e q → m ≡ metAt ns s last p → View ns s e m → written e z ≡ through written (toCome m e) (metStep (enc ns) s spots a m p z)
+  follows : (p : ℕ) (e : Expr) (q : ℕ) (m : Met) (z : State) → exprIn ns s p ≡ value e q → m ≡ metAt ns s last p → View ns s e m → written e z ≡ through written (toCome m e) (metStep (tabled ns) s spots a m p z)
   unfolding toCome through Kept
   follows p e q (mt.Last var init next) z d g v = last-follows p e var init next z v
   follows p e q (mt.Bad u n) z d g v = at-met p e q (mt.Bad u n) z d g v tt
@@ -145,6 +146,6 @@ module _ (ns : List Name) (fresh : Fresh [] ns) (few : length ns < 65536) (legal
   follows p e q mt.Nothing z d g v = at-met p e q mt.Nothing z d g v tt
 
   -- THE LAW: what is written of an expression that was read
-  pub unlast-written : (at : ℕ) (e : Expr) (q : ℕ) (z : State) → exprIn ns s at ≡ value e q → unlastT ns s last (enc ns) spots a at z ≡ render (enc ns) (exprItems (unlast a e)) z
+  pub unlast-written : (at : ℕ) (e : Expr) (q : ℕ) (z : State) → exprIn ns s at ≡ value e q → unlastT ns s last (tabled ns) spots a at z ≡ render (tabled ns) (exprItems (unlast a e)) z
   unfolding unlastT written
-  unlast-written at e q z d = walks-one ns s few by short last L (metStep (enc ns) s spots a) written follows at e q z d
+  unlast-written at e q z d = walks-one ns s few by short last L (metStep (tabled ns) s spots a) written follows at e q z d

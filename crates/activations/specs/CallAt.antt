@@ -2,16 +2,14 @@
 use Prim.Native.Nat.{ℕ, _≤_}
 use mathlib.Core.List.{List}
 use lib.ListN.{length}
-use Rattle.pack.specs.Legal.{place}
-use Rattle.pack.specs.Intern.{table}
 use Rattle.pack.specs.declared.record.Pack.{Pack}
 use Rattle.activations.specs.declared.base.Base.{Base}
 use Rattle.activation_rules.specs.LastCalls.{lastName}
-use Rattle.activations.specs.Lookups.{someMadeT}
+use Rattle.activations.specs.Lookups.{someMadeT, placeIn}
 
 -- what is known of the pack as a whole
 unfoldable pub baseT : List ℕ → List ℕ → Pack → List ℕ → Base
-baseT old s x spots = record { names = x .names; last = place (table old) lastName; enums = x .enums; made = someMadeT s spots (x .names) }
+baseT old s x spots = record { names = x .names; last = placeIn old lastName; enums = x .enums; made = someMadeT s spots (x .names) }
 
 -- tables as long as a pack asks: two bytes a name, 11 a node and 10 an activation
 pub record Blank (spots nodes acts : List ℕ) : Type 0 where

@@ -6,7 +6,7 @@ use lib.ListN.{length, getD}
 use lib.Dec.{ltb}
 use Rattle.wire.specs.Writer.{State, puts, st, stateOf}
 use Rattle.pack.specs.Names.{Name}
-use Rattle.pack.specs.Intern.{putBuilt, table}
+use Rattle.pack.specs.Intern.{putBuilt}
 use Rattle.machines.specs.Sure.{numberIn, with}
 use Rattle.machines.specs.Marks.{among}
 use Rattle.machines.specs.Emits.{packName}
@@ -18,7 +18,7 @@ use Rattle.activation_rules.specs.MadeNames.{lastVar, scopeAt, valueVar}
 use Rattle.activations.specs.Vars.{branchVar}
 use Rattle.activations.specs.Cells.{putT}
 use Rattle.activations.specs.Places.{bodyIn, branchEnd, equationEnd, firstLeftIn, rightSideIn}
-use Rattle.activations.specs.Lookups.{placeBuilt}
+use Rattle.activations.specs.Lookups.{placeBuilt, placeIn}
 use Rattle.activations.specs.TypeCodes.{typedT, valueTypeT}
 use Rattle.activations.specs.TypesAt.{typeBytes}
 use Rattle.activations.specs.NumbersAt.{sampleNameT}
@@ -49,7 +49,7 @@ module _ (ns : List Name) (s old : List ℕ) (made : Bool) where
   -- a local of the name that a writer holds and of the type of the code c
   unfoldable pub localT : State → ℕ → Left → Left
   localT x c z = record {
-    later = leaveT (length ns) (placeBuilt (table old) (length ns) made x) c (z .later);
+    later = leaveT (length ns) (placeBuilt (placeIn old) (length ns) made x) c (z .later);
     state = puts (typeBytes ns s c) (putBuilt old x (z .state));
     count = moreT (z .count);
   }

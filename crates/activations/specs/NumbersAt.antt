@@ -11,7 +11,7 @@ use Rattle.pack.specs.Write.{Item, nm, raw}
 use Rattle.pack.specs.Intern.{table}
 use Rattle.machines.specs.Emits.{packName}
 use Rattle.activation_rules.specs.MadeNames.{lastVar, sampleVar, scopeAt}
-use Rattle.activations.specs.Lookups.{placeBuilt}
+use Rattle.activations.specs.Lookups.{placeBuilt, placeIn}
 use Rattle.activations.specs.Ids.{oldOr}
 
 -- a pack's bytes, where each name stands in it, how many there are; an activation's name
@@ -30,7 +30,7 @@ module _ (s spots : List ℕ) (names : ℕ) (a : Name) where
 
   -- the number of the sample, where its name is an old one
   unfoldable pub sampleT : List ℕ → Bool → ℕ → ℕ → ℕ → ℕ
-  sampleT old made n k x = oldOr names (placeBuilt (table old) names made (puts (sampleNameT n k x) (st 255 0 [] []))) 65536
+  sampleT old made n k x = oldOr names (placeBuilt (placeIn old) names made (puts (sampleNameT n k x) (st 255 0 [] []))) 65536
 
 -- the holder's number in the row of v, in n rows of three words from h on
 unfoldable pub lastRowT : List ℕ → ℕ → ℕ → ℕ → ℕ

@@ -2,16 +2,14 @@
 use machines::rows::pack_name;
 use machines::rows::part;
 use pack::intern::Found;
-use pack::intern::find_name;
 use pack::intern::same;
+use pack::table::seek_name;
 use wire::writer::Writer;
 use wire::writer::capped;
 ghost use mathlib.Core.List.{[]};
 ghost use mathlib.Core.Path.{_≡_};
 ghost use Rattle.wire.specs.Writer.{stateOf};
-ghost use Rattle.pack.specs.Legal.{place};
-ghost use Rattle.pack.specs.Intern.{table};
-ghost use Rattle.activations.specs.Lookups.{madeAt, someMadeT, placeBuilt};
+ghost use Rattle.activations.specs.Lookups.{madeAt, someMadeT, placeBuilt, placeIn};
 
 // How many names there are; the index of `last` among them, their number where it is none; where enums stand; whether a name
 // begins as made ones do.
@@ -24,9 +22,9 @@ pub struct Base {
 
 // The index of a text among the old names, their number where it is none.
 pub fn lookup(old: &[u8], t: &[u8]) -> usize
-    ensures { λ r. ⌜ r ≡ place (table (now (old .entry))) (now (t .entry)) ⌝ }
+    ensures { λ r. ⌜ r ≡ placeIn (now (old .entry)) (now (t .entry)) ⌝ }
 {
-    let f = find_name(old, t);
+    let f = seek_name(old, t);
     match f {
         Found::At(k) => k,
         Found::Missing(k) => k,
@@ -36,7 +34,7 @@ pub fn lookup(old: &[u8], t: &[u8]) -> usize
 // The index of a made name that stands in a buffer at the writer t, their number where it is no old one. All made names begin
 // alike, so that most packs need no search.
 pub fn lookup_made(old: &[u8], b: Base, buf: &[u8], t: Writer) -> usize
-    ensures { λ r. ⌜ r ≡ placeBuilt (table (now (old .entry))) (b .names) (b .made) (stateOf (now (buf .entry)) [] t) ⌝ }
+    ensures { λ r. ⌜ r ≡ placeBuilt (placeIn (now (old .entry))) (b .names) (b .made) (stateOf (now (buf .entry)) [] t) ⌝ }
 {
     let full = t.full;
     if full {

@@ -14,13 +14,17 @@ use pack::check::Verdict;
 use pack::check::read_pack;
 use pack::finish::Outcome;
 use pack::finish::finish;
+use pack::intern::lay_names;
 use pack::record::Pack;
 ghost use mathlib.Core.Path.{_≡_};
-ghost use Prim.Native.Nat.{_<_, _≤_};
+ghost use Prim.Native.Nat.{_-_, _<_, _≤_};
 ghost use lib.ListN.{length};
 ghost use Rattle.pack.specs.Syntax.{Package};
+ghost use Rattle.pack.specs.Table.{tabled};
+ghost use Rattle.pack.specs.Intern.{table};
 ghost use Rattle.pack.specs.Outcome.{Gives, outputOf, reportOf, returned, written};
 ghost use Rattle.pack.specs.Verdict.{Stands};
+ghost use Rattle.machines.specs.Laid.{sliceOf};
 ghost use Rattle.machines.specs.Filled.{Answers, OpenedAs};
 ghost use Rattle.activation_rules.specs.Activations.{madeActivations, withoutActivations};
 ghost use Rattle.activation_rules.specs.Call.{activationsOf, lowerActivations};
@@ -66,7 +70,7 @@ fn write_all(
     ensures fits { λ r. ⌜ (r .number ≤ 9) × (r .value < 4294967296) ⌝ }
 {
     let mut out = [0u8; 65536];
-    let mut made = [0u8; 65536];
+    let mut made = [0u8; 143362];
     let w = put_sections(
         old,
         s,
@@ -86,13 +90,14 @@ fn write_all(
         &mut out,
         &mut made,
     );
-    finish(old, &made, &out, w, output)
+    finish(between(s, 2, x.enums), &made, &out, w, output)
 }
 
 // A pack whose sections stand where x says, by tables that are filled here.
 fn lower_opened(
     s: &[u8],
     x: Pack,
+    old: &[u8],
     spots: &mut [u16],
     nodes: &mut [u16],
     acts: &mut [u16],
@@ -105,12 +110,11 @@ fn lower_opened(
     output: &mut [u8],
     report: &mut [u8],
 ) -> Outcome
-    requires { ⌜ (length (now s) ≤ 65536) × OpenedAs (now s) x × Blank (now spots) (now nodes) (now acts) × Scratch (now later) (now env) (now outs) (now held) (now reads) (now seen) ⌝ }
+    requires { ⌜ (length (now s) ≤ 65536) × OpenedAs (now s) x × Blank (now spots) (now nodes) (now acts) × Scratch (now later) (now env) (now outs) (now held) (now reads) (now seen) × (now old ≡ tabled (table (sliceOf (now s) 2 (x .enums - 2)))) ⌝ }
     ensures answers { λ r. ⌜ ((p : Package) → Stands (now (s .entry)) x p → Answers (activationsOf (length (now (output .entry))) (length (now (report .entry))) p) (r .number) (r .value) (now (output .entry)) (now (output .exit)) (now (report .entry)) (now (report .exit))) ⌝ }
     ensures fits { λ r. ⌜ (r .number ≤ 9) × (r .value < 4294967296) ⌝ }
 {
     let names = x.names;
-    let old = between(s, 2, x.enums);
     place_names(s, names, spots);
     let b = base_of(old, s, x, spots);
     let m = place_nodes(s, names, x.nodes, nodes);
@@ -170,9 +174,12 @@ fn lower_whole(s: &[u8], x: Pack, output: &mut [u8], report: &mut [u8]) -> Outco
     let mut reads = [0u16; 21848];
     let mut seen = [0u16; 21848];
     let mut later = [0u16; 32768];
+    let mut olds = [0u8; 143362];
+    let e = lay_names(between(s, 2, x.enums), &mut olds);
     lower_opened(
         s,
         x,
+        &olds[..e],
         &mut spots,
         &mut nodes,
         &mut acts,
@@ -187,6 +194,23 @@ fn lower_whole(s: &[u8], x: Pack, output: &mut [u8], report: &mut [u8]) -> Outco
     )
 }
 
+// The same, kept apart: a function that calls itself is not inlined, so that the tables of a call and those of the check do not
+// stand on the stack at once. No pack is longer than the check allows.
+fn lower_apart(s: &[u8], x: Pack, output: &mut [u8], report: &mut [u8]) -> Outcome
+    requires { ⌜ (length (now s) ≤ 65536) × OpenedAs (now s) x ⌝ }
+    ensures answers { λ r. ⌜ ((p : Package) → Stands (now (s .entry)) x p → Answers (activationsOf (length (now (output .entry))) (length (now (report .entry))) p) (r .number) (r .value) (now (output .entry)) (now (output .exit)) (now (report .entry)) (now (report .exit))) ⌝ }
+    ensures fits { λ r. ⌜ (r .number ≤ 9) × (r .value < 4294967296) ⌝ }
+{
+    if Pack::BYTES < s.len() {
+        let r = lower_apart(&s[..65536], x, output, report);
+        return Outcome {
+            number: r.number,
+            value: 0,
+        };
+    }
+    lower_whole(s, x, output, report)
+}
+
 // Lowers the activations of a pack: the lowered pack in `output`, or a report of what is refused in `report`.
 pub fn lower_activations(pack: &[u8], output: &mut [u8], report: &mut [u8]) -> Outcome
     ensures answers { λ r. ⌜ Answers (lowerActivations (now (pack .entry)) (length (now (output .entry))) (length (now (report .entry)))) (r .number) (r .value) (now (output .entry)) (now (output .exit)) (now (report .entry)) (now (report .exit)) ⌝ }
@@ -196,7 +220,7 @@ pub fn lower_activations(pack: &[u8], output: &mut [u8], report: &mut [u8]) -> O
     let k = opened.pack;
     let v = opened.verdict;
     match v {
-        Verdict::Whole => lower_whole(pack, k, output, report),
+        Verdict::Whole => lower_apart(pack, k, output, report),
         Verdict::TooLong => Outcome {
             number: 1,
             value: 65536,

@@ -17,8 +17,8 @@ ghost use Prim.Native.Nat.{_≤_, _<_, _-_, _^_};
 ghost use lib.ListN.{length};
 ghost use Rattle.wire.specs.Writer.{puts, stateOf};
 ghost use Rattle.pack.specs.Names.{Name};
-ghost use Rattle.pack.specs.Intern.{putBuilt, table};
-ghost use Rattle.activations.specs.Lookups.{placeBuilt};
+ghost use Rattle.pack.specs.Intern.{putBuilt};
+ghost use Rattle.activations.specs.Lookups.{placeBuilt, placeIn};
 ghost use Rattle.activations.specs.TypesAt.{typeBytes};
 ghost use Rattle.activations.specs.LocalsAt.{branchLocalT, clockLocalsT, flagLocalsT, holderLocalT, holderLocalsT, leaveT, leftOf, localT, moreT};
 
@@ -36,7 +36,7 @@ fn one_more(n: usize) -> usize
 
 // The type's code c for a made name, where that is an old one.
 fn leave(old: &[u8], b: Base, buf: &[u8], t: Writer, c: usize, later: &mut [u16])
-    ensures { λ r. ⌜ now (later .exit) ≡ leaveT (b .names) (placeBuilt (table (now (old .entry))) (b .names) (b .made) (stateOf (now (buf .entry)) [] t)) c (now (later .entry)) ⌝ }
+    ensures { λ r. ⌜ now (later .exit) ≡ leaveT (b .names) (placeBuilt (placeIn (now (old .entry))) (b .names) (b .made) (stateOf (now (buf .entry)) [] t)) c (now (later .entry)) ⌝ }
 {
     let x = lookup_made(old, b, buf, t);
     if x < b.names {

@@ -4,19 +4,19 @@ use crate::nodes::put_nodes;
 use crate::origins::put_origins;
 use machines::rows::between;
 use machines::sure::number;
+use pack::intern::start;
 use pack::record::Pack;
 use wire::writer::Writer;
 use wire::writer::put_bytes;
 use wire::writer::put_u16;
-ghost use mathlib.Core.List.{[]};
 ghost use mathlib.Core.Path.{_≡_};
 ghost use Prim.Native.Nat.{_≤_};
 ghost use lib.ListN.{length};
-ghost use Rattle.wire.specs.Writer.{st, stateOf};
+ghost use Rattle.wire.specs.Writer.{stateOf};
 ghost use Rattle.pack.specs.Syntax.{Package};
 ghost use Rattle.pack.specs.Verdict.{Stands};
 ghost use Rattle.pack.specs.Write.{packageItems};
-ghost use Rattle.pack.specs.Intern.{render};
+ghost use Rattle.pack.specs.Intern.{render, started};
 ghost use Rattle.activation_rules.specs.Activations.{madeActivations, withoutActivations};
 ghost use Rattle.activations.specs.Basis.{Basis, Scratch};
 ghost use Rattle.activations.specs.Bringing.{Settled};
@@ -43,10 +43,10 @@ pub fn put_sections(
     made: &mut [u8],
 ) -> Writer
     requires { ⌜ (length (now s) ≤ 65536) × (b .names ≤ 65536) × (n ≤ 6656) × Scratch (now later) (now env) (now outs) (now held) (now reads) (now seen) ⌝ }
-    ensures { λ r. ⌜ ((p : Package) → Stands (now (s .entry)) x p → Basis (p .names) (p .enums) (now (old .entry)) (now (s .entry)) (now (spots .entry)) b → Settled (p .names) (now (s .entry)) (p .enums) (p .nodes) (p .activations) (now (nodes .entry)) (now (acts .entry)) m n → stateOf (now (out .exit)) (now (made .exit)) r ≡ render (now (old .entry)) (packageItems (withoutActivations p (madeActivations p))) (st (length (now (out .entry))) (length (now (made .entry))) [] [])) ⌝ }
+    ensures { λ r. ⌜ ((p : Package) → Stands (now (s .entry)) x p → Basis (p .names) (p .enums) (now (old .entry)) (now (s .entry)) (now (spots .entry)) b → Settled (p .names) (now (s .entry)) (p .enums) (p .nodes) (p .activations) (now (nodes .entry)) (now (acts .entry)) m n → stateOf (now (out .exit)) (now (made .exit)) r ≡ render (now (old .entry)) (packageItems (withoutActivations p (madeActivations p))) (started (now (out .entry)) (now (made .entry)))) ⌝ }
 {
     let o = number(s, x.origins);
-    let c = put_bytes(between(s, x.enums, x.nodes), out, Writer::start());
+    let c = put_bytes(between(s, x.enums, x.nodes), out, start());
     let d = put_u16(out, c, m);
     let e = put_nodes(
         old,

@@ -8,15 +8,15 @@ use lib.ListN.{length}
 use lib.Dec.{ltb}
 use Rattle.wire.specs.Bytes.{two}
 use Rattle.wire.specs.Lists.{Bytes}
-use Rattle.wire.specs.Writer.{st}
 use Rattle.pack.specs.Limits.{maxBytes}
 use Rattle.pack.specs.Names.{Name}
 use Rattle.pack.specs.Syntax.{Package}
 use Rattle.pack.specs.Outcome.{Gives, Outcome, answered, answers, reportOf, reported, sized, writes, written}
+use Rattle.pack.specs.Table.{tabled}
 use Rattle.pack.specs.Report.{Refusal}
 use Rattle.pack.specs.Verdict.{Stands}
 use Rattle.pack.specs.Write.{Item, encode, packageItems, shorts}
-use Rattle.pack.specs.Intern.{render}
+use Rattle.pack.specs.Intern.{render, table, unwritten}
 use Rattle.pack.specs.declared.record.Pack.{Pack}
 use Rattle.pack.proofs.Finished.{carried}
 use Rattle.machines.specs.declared.sure.Num.{Num}
@@ -90,15 +90,15 @@ module _ (s : List ℕ) (k : Pack) (p : Package) (h : Stands s k p) (bytes : Byt
 
     -- where nothing is
     pub answers-written : refused ≡ 0 → (number value : ℕ) (output output′ report : List ℕ)
-        → ((ns : List Name) → length ns ≡ k .names → (old : List ℕ) → old ≡ sliceOf s 2 (k .enums - 2) → (eqs ens : ℕ → List Item) → AllWrite old (equationsAt ns s spots to) mats n eqs → AllWrite old (enumsAt ns s spots to) mats n ens
-        → Gives (answered (length output) old (render old (sectionsT ns s mats ats regs spots n eqs ens k) (st maxBytes maxBytes [] []))) number value output output′)
+        → ((ns : List Name) → length ns ≡ k .names → (old : List ℕ) → old ≡ tabled (table (sliceOf s 2 (k .enums - 2))) → (eqs ens : ℕ → List Item) → AllWrite old (equationsAt ns s spots to) mats n eqs → AllWrite old (enumsAt ns s spots to) mats n ens
+        → Gives (answered (length output) (sliceOf s 2 (k .enums - 2)) (render old (sectionsT ns s mats ats regs spots n eqs ens k) unwritten)) number value output output′)
         → Answers (machinesOf (length output) (length report) p) number value output output′ report report
     unfolding machinesOf finished
     answers-written none number value output output′ report g =
         let nothing = no-refusal (madeMachines p .refusals) (sym all-refused ∙ none) in
         let w = written-known s k p h bytes spots to its-tables mats ats regs its-fate nothing n counted (length output) (length report) in
         record {
-          gives = carried _ _ number value output output′ (w .1) (g (p .names) (h .count) (sliceOf s 2 (k .enums - 2)) refl (w .0 .eqs) (w .0 .ens) (w .0 .equations) (w .0 .enums));
+          gives = carried _ _ number value output output′ (w .1) (g (p .names) (h .count) (tabled (table (sliceOf s 2 (k .enums - 2)))) refl (w .0 .eqs) (w .0 .ens) (w .0 .equations) (w .0 .enums));
           report-is = written-quiet (length output) (withoutMachines p (madeMachines p)) report ∙ ap (λ (x : Outcome). reportOf x report) (sym (quiet nothing));
         }
       where

@@ -1,22 +1,23 @@
 -- Laws for the code of the call, step by step.
 use Prim.Native.Nat.{ℕ, _+_, _-_, _<_, _≤_}
 use native.Mathlib.Omega.{arith}
-use mathlib.Core.List.{List, [], _++_}
+use mathlib.Core.List.{List, _++_}
 use mathlib.Core.Path.{_≡_, sym, ap, subst, _∙_}
-use lib.ListN.{length, length-append}
+use lib.ListN.{length, drop, length-append, length-drop, length-take}
 use borrow.Author.Tests.{lt-ltb, le-ltb}
 use Rattle.wire.specs.Bytes.{two}
-use Rattle.wire.specs.Writer.{State, st}
-use Rattle.pack.specs.Limits.{maxBytes}
+use Rattle.wire.specs.Writer.{State}
 use Rattle.pack.specs.Names.{Name}
 use Rattle.pack.specs.Write.{Item}
-use Rattle.pack.specs.Intern.{render}
+use Rattle.pack.specs.Intern.{render, table, unwritten}
 use Rattle.pack.specs.Outcome.{Gives, answered, numberOf, outputOf, overwritten, reportOf, reported, valueOf}
+use Rattle.pack.specs.Table.{tabled}
 use Rattle.pack.specs.declared.record.Pack.{Pack}
 use Rattle.pack.proofs.Finished.{carried}
 use Rattle.machines.specs.declared.sure.Num.{Num}
 use Rattle.machines.specs.Sure.{numberIn}
 use Rattle.machines.specs.Tables.{machinesPlaced, namesPlaced}
+use Rattle.machines.specs.Laid.{sliceOf}
 use Rattle.machines.specs.Brought.{smallOf, totalT}
 use Rattle.machines.specs.Relaid.{AllWrite}
 use Rattle.machines.specs.Settling.{HasRegions, fillT, machineEnd, nodeNameT, nodesOf, nth, refusedT, settleT}
@@ -89,8 +90,16 @@ room-for s spots to mats regs ats names n b room w f h =
 pub write-as : (old old′ x : List ℕ) → old′ ≡ x → old ≡ x → (f : ℕ → List ℕ → List ℕ → List ℕ → List Item) (mats : List ℕ) (n : ℕ) (g : ℕ → List Item) → AllWrite old f mats n g → AllWrite old′ f mats n g
 write-as old old′ x a b f mats n g h = subst (λ (o : List ℕ). AllWrite o f mats n g) (b ∙ sym a) h
 
-pub finished-as : (room : ℕ) (old old′ x : List ℕ) (is : List Item) (z e : State) (number value : ℕ) (d d′ : List ℕ) → old′ ≡ x → old ≡ x → z ≡ render old′ is e → e ≡ st maxBytes maxBytes [] []
-    → Gives (answered room old′ z) number value d d′ → Gives (answered room old (render old is (st maxBytes maxBytes [] []))) number value d d′
-finished-as room old old′ x is z e number value d d′ a b c f g =
+pub finished-as : (room : ℕ) (names names′ old old′ x : List ℕ) (is : List Item) (z e : State) (number value : ℕ) (d d′ : List ℕ) → names′ ≡ names → old′ ≡ x → old ≡ x → z ≡ render old′ is e → e ≡ unwritten
+    → Gives (answered room names′ z) number value d d′ → Gives (answered room names (render old is unwritten)) number value d d′
+finished-as room names names′ old old′ x is z e number value d d′ n a b c f g =
     let o : old′ ≡ old = a ∙ sym b in
-    carried _ _ number value d d′ (ap (answered room old′) (c ∙ ap (render old′ is) f) ∙ λ j. answered room (o j) (render (o j) is (st maxBytes maxBytes [] []))) g
+    carried _ _ number value d d′ (ap (answered room names′) (c ∙ ap (render old′ is) f) ∙ λ j. answered room (n j) (render (o j) is unwritten)) g
+
+-- the table of the names that stand there
+pub tabled-as : (t u names : List ℕ) → t ≡ tabled (table u) → u ≡ names → t ≡ tabled (table names)
+tabled-as t u names e f = e ∙ ap (λ (l : List ℕ). tabled (table l)) f
+
+pub names-short : (s names : List ℕ) (a n : ℕ) → length s ≤ 65536 → names ≡ sliceOf s a n → length names ≤ 65536
+unfolding sliceOf
+names-short s names a n h e = omega (arith, ap length e, length-take n (drop a s), length-drop a s)

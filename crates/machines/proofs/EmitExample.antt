@@ -10,16 +10,15 @@ use Rattle.wire.specs.Bytes.{bytes, two}
 use Rattle.wire.specs.Code.{readOf}
 use Rattle.wire.specs.Decimal.{decimal, digits}
 use Rattle.wire.specs.Preorder.{trees}
-use Rattle.wire.specs.Writer.{put, puts, st, swapped}
-use Rattle.pack.specs.Limits.{maxName, maxLevel}
+use Rattle.pack.specs.Limits.{maxLevel}
 use Rattle.pack.specs.Names.{Name, eqName, member}
 use Rattle.pack.specs.RawNames.{rawName}
 use Rattle.pack.specs.Syntax.{Transition, eConst, eVar, lBool, Equation, tBool}
 use Rattle.machine_rules.specs.Resolved.{Machine, Regions, rCons, rNil, sCons, sNil}
 use Rattle.pack.specs.Forms.{exprArity, exprAt, exprFields, exprHead, exprOf, exprOver, exprRows, exprsOf, flagOf, literal, literalOf, nameAt, nth, firstType, plainTypes, typeArity, typeAt, typeFields, typeHead, typeOf, typeOver}
 use Rattle.pack.specs.Read.{equationsIn, exprIn, nameIn, transitionIn, equationIn, nameByte, namesIn, portIn, portsIn, typeIn}
-use Rattle.pack.specs.Write.{binByte, each, enc, enumItems, equationItems, exprItems, flagByte, list, litBytes, lookup, nameItems, unByte}
-use Rattle.pack.specs.Intern.{putAdded, putEntry, putFound, putItem, putName, putNew, render, table, tableF}
+use Rattle.pack.specs.Write.{binByte, each, enumItems, equationItems, exprItems, flagByte, list, litBytes, lookup, nameItems, unByte, spell, spellOne, andThen, before, oldIn, newIn}
+use Rattle.pack.specs.Table.{tabled}
 use Rattle.pack.proofs.WrittenBack.{allSmall, small-bytes}
 use Rattle.machine_rules.specs.MadeNames.{activeVar, nextVar, smPrefix, stateVar}
 use Rattle.machine_rules.specs.Resolve.{prefixTransitions}
@@ -192,12 +191,12 @@ small-g : (uncoveredT ns s t 2 8 0 ≡ 24) × (uncoveredS (103 ∷ []) (small .s
 unfolding uncoveredT firstMiss missT allMiss orNext ownT givesT tells asked endOf numberIn sureOf readOf with equationIn namesIn nameIn exprIn exprAt exprHead exprFields exprRows exprArity exprOf exprsOf exprOver literal literalOf flagOf nameAt nth trees counted many index below guard bind mapA byte u16 uncoveredS uncoveredR unlessCovered unlessOther coversR firstOf isSome ownValue isOnly eqName
 small-g = (refl, refl)
 
--- the equations, written to empty buffers: what is copied comes to the same as what is spelt
-small-equations : render (enc ns) (regionsT s spots t lets ns reg 0 2 ++ portOutputsT s t lets ns 14) (st 400 400 [] []) ≡ render (enc ns) (each equationItems (equationsOf small)) (st 400 400 [] [])
-unfolding portOutputsT outputsT outputT valueT valuesT inStateT enteredT givingFrom sideBytes sideT sideFrom uncoveredT firstMiss missT allMiss orNext ownT givesT tells asked maxLevel equationsOf outputEquations valueS valueR coversS coversR fromOption isSome ownValue isOnly portIn equationIn namesIn typeIn firstType typeOf typeOver plainTypes typeAt typeHead typeFields typeArity nameIn nth counted regionsT regionT activeT stateT nextT nextRhsT chainT lastOr testT transitionsT movesT moveT inRegion lettersAt packName rawName sliceOf prefixOf activeEquation stateEquation endOf numberIn sureOf readOf with exprIn exprAt exprHead exprFields exprRows exprArity exprOf exprsOf exprOver literal literalOf flagOf nameAt trees many index below guard bind mapA byte u16 topEquations equationsS equationsR regionEquations activeIn stateRhs held justEntered nextChain orElse transitionsOf isName sizeS sizeR each list nameItems equationItems exprItems litBytes flagByte unByte binByte bytes two render putItem putName putFound putNew putAdded putEntry lookup table tableF eqName maxName enc puts put swapped activeVar stateVar nextVar smPrefix decimal digits
+-- the equations: what is copied comes to the same as what is spelt
+small-equations : spell ns (regionsT s spots t lets ns reg 0 2 ++ portOutputsT s t lets ns 14) [] ≡ spell ns (each equationItems (equationsOf small)) []
+unfolding portOutputsT outputsT outputT valueT valuesT inStateT enteredT givingFrom sideBytes sideT sideFrom uncoveredT firstMiss missT allMiss orNext ownT givesT tells asked maxLevel equationsOf outputEquations valueS valueR coversS coversR fromOption isSome ownValue isOnly portIn equationIn namesIn typeIn firstType typeOf typeOver plainTypes typeAt typeHead typeFields typeArity nameIn nth counted regionsT regionT activeT stateT nextT nextRhsT chainT lastOr testT transitionsT movesT moveT inRegion lettersAt packName rawName sliceOf prefixOf activeEquation stateEquation endOf numberIn sureOf readOf with exprIn exprAt exprHead exprFields exprRows exprArity exprOf exprsOf exprOver literal literalOf flagOf nameAt trees many index below guard bind mapA byte u16 topEquations equationsS equationsR regionEquations activeIn stateRhs held justEntered nextChain orElse transitionsOf isName sizeS sizeR each list nameItems equationItems exprItems litBytes flagByte unByte binByte bytes two spell spellOne andThen before oldIn newIn lookup eqName activeVar stateVar nextVar smPrefix decimal digits
 small-equations = refl
 
 -- and so it is by the law, for every writer
-small-law : Alike (enc ns) (regionsT s spots t lets ns reg 0 2 ++ portOutputsT s t lets ns 14) (each equationItems (equationsOf small))
+small-law : Alike (tabled ns) (regionsT s spots t lets ns reg 0 2 ++ portOutputsT s t lets ns 14) (each equationItems (equationsOf small))
 unfolding sizeS sizeR
 small-law = machine-equations ns small-names small-legal (omega arith) s these-bytes spots t reg lets small-spots small 36 2 14 19 held-top small-ports small-accepted

@@ -15,7 +15,8 @@ use Rattle.machine_rules.specs.Resolved.{Machine, rCons, rNil}
 use Rattle.pack.specs.Forms.{nameAt}
 use Rattle.pack.specs.Legal.{Each, Fresh, LegalName, place}
 use Rattle.pack.specs.Read.{exprIn, portsIn}
-use Rattle.pack.specs.Write.{Item, each, enc, equationItems, exprItems, nm, raw}
+use Rattle.pack.specs.Write.{Item, each, equationItems, exprItems, nm, raw}
+use Rattle.pack.specs.Table.{tabled}
 use Rattle.pack.specs.Intern.{putItem, putName, render}
 use Rattle.pack.proofs.Copies.{copied-expr, render-known}
 use Rattle.pack.proofs.Tables.{code, place-at-name}
@@ -34,11 +35,11 @@ use Rattle.machines.proofs.OutputsEmitted.{outputs-machine}
 -- names that are all legal and stand once, and a pack of bytes
 module _ (ns : List Name) (fresh : Fresh [] ns) (legal : All LegalName ns) (few : length ns < 65536) (s : List ℕ) (by : Bytes s) where
   -- an expression that was read is written by its bytes, an old name by its number
-  pub copied-raw : (a b : ℕ) (e : Expr) → exprIn ns s a ≡ value e b → (z : State) → render (enc ns) (raw (sliceOf s a (b - a)) ∷ []) z ≡ render (enc ns) (exprItems e) z
+  pub copied-raw : (a b : ℕ) (e : Expr) → exprIn ns s a ≡ value e b → (z : State) → render (tabled ns) (raw (sliceOf s a (b - a)) ∷ []) z ≡ render (tabled ns) (exprItems e) z
   unfolding render putItem sliceOf
   copied-raw a b e h z = sym (copied-expr ns fresh legal s by few a e b h z)
 
-  pub numbered : (x : ℕ) → x < length ns → (z : State) → puts (two x) z ≡ putName (enc ns) (nameAt ns x) z
+  pub numbered : (x : ℕ) → x < length ns → (z : State) → puts (two x) z ≡ putName (tabled ns) (nameAt ns x) z
   unfolding render putItem code Each
   numbered x h z =
       let p = place-at-name ns x fresh h in
@@ -58,7 +59,7 @@ module _ (ns : List Name) (fresh : Fresh [] ns) (legal : All LegalName ns) (few 
 
     -- THE LAW: the equations of the regions and of the outputs
     pub machine-equations : (x : Machine) (q j at u : ℕ) → HeldR ns s t reg lets 0 0 8 1 0 0 (rCons (x .initial) true (x .states) rNil) q j → portsIn ns s at ≡ value (x .outputs) u → refusalOf x ≡ none
-        → Alike (enc ns) (regionsT s spots t lets ns reg 0 (suc (sizeS (x .states))) ++ portOutputsT s t lets ns at) (each equationItems (equationsOf x))
+        → Alike (tabled ns) (regionsT s spots t lets ns reg 0 (suc (sizeS (x .states))) ++ portOutputsT s t lets ns at) (each equationItems (equationsOf x))
     machine-equations x q j at u h e c = λ z.
-        alike-append (enc ns) _ _ _ _ (equations-machine ns s spots t reg lets (enc ns) named-spot copied-raw x q j h) (outputs-machine ns s spots t reg lets (enc ns) named-spot copied-raw numbered fresh x q j at u h e (accepted x c)) z
-        ∙ ap (λ (is : List Item). render (enc ns) is z) (sym (equations-split x))
+        alike-append (tabled ns) _ _ _ _ (equations-machine ns s spots t reg lets (tabled ns) named-spot copied-raw x q j h) (outputs-machine ns s spots t reg lets (tabled ns) named-spot copied-raw numbered fresh x q j at u h e (accepted x c)) z
+        ∙ ap (λ (is : List Item). render (tabled ns) is z) (sym (equations-split x))

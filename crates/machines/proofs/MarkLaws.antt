@@ -16,7 +16,7 @@ use Rattle.pack.specs.Write.{enc}
 use Rattle.pack.specs.Intern.{table, tableF}
 use Rattle.machines.specs.Marks.{Marks, among, markFrom, markOf, marksOf, maybe}
 use Rattle.pack.proofs.Tables.{eqName-true}
-use Rattle.pack.proofs.Written.{table-enc}
+use Rattle.pack.proofs.TableIndex.{table-enc}
 use Rattle.machines.proofs.RepeatLaws.{enc-snoc}
 
 -- the making of a mark: a byte more, the end

@@ -10,21 +10,21 @@ use borrow.Author.Tests.{eq-eqb, ne-eqb}
 use Rattle.wire.specs.Answer.{value}
 use Rattle.wire.specs.Bytes.{two}
 use Rattle.wire.specs.Lists.{All, Bytes}
-use Rattle.wire.specs.Writer.{st}
 use Rattle.wire.proofs.Answers.{u16-value}
-use Rattle.pack.specs.Limits.{maxBytes}
 use Rattle.pack.specs.Names.{Name}
 use Rattle.pack.specs.Syntax.{Drawing, Package}
 use Rattle.pack.specs.Forms.{nameAt}
 use Rattle.pack.specs.Read.{enumIn, machineIn, nameSection}
 use Rattle.pack.specs.Report.{Refusal, entries, reportBytes}
 use Rattle.pack.specs.Outcome.{answered, reported, written}
+use Rattle.pack.specs.Table.{tabled}
 use Rattle.pack.specs.Verdict.{Stands}
 use Rattle.pack.specs.Write.{Item, enc}
-use Rattle.pack.specs.Intern.{render}
+use Rattle.pack.specs.Intern.{render, table, unwritten}
 use Rattle.pack.specs.declared.record.Pack.{Pack}
 use Rattle.pack.proofs.Tables.{formatNames}
 use Rattle.pack.proofs.Written.{finished-is}
+use Rattle.pack.proofs.TableIndex.{table-enc}
 use Rattle.machines.specs.declared.sure.Num.{Num}
 use Rattle.machines.specs.Laid.{sliceOf}
 use Rattle.machines.specs.Sure.{num, numberIn}
@@ -83,8 +83,12 @@ module _ (s : List ℕ) (k : Pack) (p : Package) (h : Stands s k p) (bytes : Byt
   inside : k .enums ≤ length s
   inside = let v = u16-value s (k .enums) _ _ (counted-many (enumIn (p .names) s) s (k .enums) (p .enums) (k .nodes) (h .enums) .0) in let i = v .inside in omega arith
 
+  -- the old names, as they stand
+  pub names-stand : sliceOf s 2 (k .enums - 2) ≡ enc (p .names)
+  names-stand = names-slice s (p .names) (k .enums) bytes inside (h .names)
+
   -- what the sections need of the pack and its names
-  pub pack-known : PackOf (p .names) s (sliceOf s 2 (k .enums - 2)) spots
+  pub pack-known : PackOf (p .names) s (tabled (table (sliceOf s 2 (k .enums - 2)))) spots
   pack-known =
       let t = formatNames .legal s bytes 0 (p .names) (k .enums) (h .names) in
       record {
@@ -92,7 +96,7 @@ module _ (s : List ℕ) (k : Pack) (p : Package) (h : Stands s k p) (bytes : Byt
         legal = t .2;
         fresh = t .1;
         few = t .0;
-        names = names-slice s (p .names) (k .enums) bytes inside (h .names);
+        names = ap (λ (l : List ℕ). tabled (table l)) names-stand ∙ ap tabled (table-enc (p .names));
         placed = λ i l. right-name s spots i (nameAt (p .names) i) (r .spot i l);
       }
 
@@ -152,13 +156,13 @@ module _ (s : List ℕ) (k : Pack) (p : Package) (h : Stands s k p) (bytes : Byt
 
     -- what is written, where nothing is
     pub written-known : madeMachines p .refusals ≡ [] → (n : ℕ) → n ≡ length (p .machines) → (output room : ℕ)
-        → (w : SectionsWritten p s (sliceOf s 2 (k .enums - 2)) spots to mats ats regs n (sharesOf p) k)
-        × (answered output (sliceOf s 2 (k .enums - 2)) (render (sliceOf s 2 (k .enums - 2)) (sectionsT (p .names) s mats ats regs spots n (w .eqs) (w .ens) k) (st maxBytes maxBytes [] [])) ≡ machinesOf output room p)
+        → (w : SectionsWritten p s (tabled (table (sliceOf s 2 (k .enums - 2)))) spots to mats ats regs n (sharesOf p) k)
+        × (answered output (sliceOf s 2 (k .enums - 2)) (render (tabled (table (sliceOf s 2 (k .enums - 2)))) (sectionsT (p .names) s mats ats regs spots n (w .eqs) (w .ens) k) unwritten) ≡ machinesOf output room p)
     unfolding machinesOf finished withoutMachines
     written-known e n c output room =
-        let w = sections-written p s (sliceOf s 2 (k .enums - 2)) spots to mats ats regs k h pack-known r (sharesOf p) (pack-lowered s p mats ats regs z e) n (c ∙ sym (shares-length p e)) in (
+        let w = sections-written p s (tabled (table (sliceOf s 2 (k .enums - 2)))) spots to mats ats regs k h pack-known r (sharesOf p) (pack-lowered s p mats ats regs z e) n (c ∙ sym (shares-length p e)) in (
           w,
-          finished-is output (withoutMachines p (madeMachines p)) (sliceOf s 2 (k .enums - 2)) _ (pack-known .names)
-              (w .sections (st maxBytes maxBytes [] []) ∙ ap (λ (is : List Item). render (sliceOf s 2 (k .enums - 2)) is (st maxBytes maxBytes [] [])) (sym (section-items p e)))
+          finished-is output (withoutMachines p (madeMachines p)) (sliceOf s 2 (k .enums - 2)) (tabled (table (sliceOf s 2 (k .enums - 2)))) _ names-stand (pack-known .names)
+              (w .sections unwritten ∙ ap (λ (is : List Item). render (tabled (table (sliceOf s 2 (k .enums - 2)))) is unwritten) (sym (section-items p e)))
               ∙ sym (ap (λ (rs : List Refusal). finished output room rs (withoutMachines p (madeMachines p))) e),
         )

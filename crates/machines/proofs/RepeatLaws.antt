@@ -18,7 +18,7 @@ use Rattle.pack.specs.declared.intern.Found as code
 use Rattle.pack.specs.declared.intern.Found.the-variants as codes
 use Rattle.machines.specs.Repeats.{againAt, againF, againIn, endAt, wordAt}
 use Rattle.machine_rules.specs.Checks.{repeated}
-use Rattle.pack.proofs.Written.{table-enc}
+use Rattle.pack.proofs.TableIndex.{table-enc}
 use Rattle.pack.proofs.Tables.{enc-append}
 use Rattle.machines.proofs.Refused.{eqName-turn}
 

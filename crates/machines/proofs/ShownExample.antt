@@ -18,7 +18,7 @@ use Rattle.pack.specs.Read.{activationIn, char, drawnOf, enumIn, equationsIn, m
 use Rattle.pack.specs.Report.{asRefusal, firstOf}
 use Rattle.pack.specs.Verdict.{Stands}
 use Rattle.pack.specs.declared.record.Pack.{Pack}
-use Rattle.pack.specs.Write.{enc}
+use Rattle.pack.specs.Table.{tabled}
 use Rattle.machine_rules.specs.Checks.{allNamesR, allNamesS, badInitial, badR, badS, badTarget, emptyTop, refusalOf, repeated, uncovered}
 use Rattle.machine_rules.specs.Resolve.{arrive, asMachine, resolveR, resolveS, resolvedStates, walkOn, withRefine}
 use Rattle.machine_rules.specs.Lower.{namesOf, sizeR, sizeS}
@@ -58,7 +58,7 @@ each-byte [] a i = omega arith
 each-byte (b ∷ l) a zero = a .0
 each-byte (b ∷ l) a (suc i) = each-byte l (a .1) i
 
-pack-here : PackOf ns s (enc ns) (2 ∷ 4 ∷ [])
+pack-here : PackOf ns s (tabled ns) (2 ∷ 4 ∷ [])
 unfolding All Fresh member eqName nameByte packName rawName nameAt
 pack-here = record { bytes = each-byte s bytes; legal = ((omega arith, omega arith, (refl, tt)), ((omega arith, omega arith, (refl, tt)), tt)); fresh = (refl, (refl, tt)); few = omega arith; names = refl; placed = placed }
   where
@@ -106,8 +106,8 @@ unfolding namesPlaced nextName
 spots-here = refl
 
 -- what is written of it is the lowered package
-sections-here : SectionsWritten whole s (enc ns) (2 ∷ 4 ∷ []) (machinesPlaced ns s 10 zeros) (12 ∷ []) (0 ∷ []) (1 ∷ []) 1 (share ∷ []) sections
+sections-here : SectionsWritten whole s (tabled ns) (2 ∷ 4 ∷ []) (machinesPlaced ns s 10 zeros) (12 ∷ []) (0 ∷ []) (1 ∷ []) 1 (share ∷ []) sections
 sections-here =
     let r = ready s sections whole zeros zeros stands-here (omega arith) (omega arith) (omega arith) zero-all in
-    sections-written whole s (enc ns) (2 ∷ 4 ∷ []) (machinesPlaced ns s 10 zeros) (12 ∷ []) (0 ∷ []) (1 ∷ []) sections stands-here pack-here
+    sections-written whole s (tabled ns) (2 ∷ 4 ∷ []) (machinesPlaced ns s 10 zeros) (12 ∷ []) (0 ∷ []) (1 ∷ []) sections stands-here pack-here
     (subst (λ (y : List ℕ). Ready s ns (M ∷ []) y (machinesPlaced ns s 10 zeros)) spots-here r) (share ∷ []) lowered-here 1 refl

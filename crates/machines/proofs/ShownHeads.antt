@@ -16,7 +16,8 @@ use Rattle.machine_rules.specs.Resolved.{Machine}
 use Rattle.pack.specs.Forms.{nameAt}
 use Rattle.pack.specs.Legal.{Each, Known, LegalName, place}
 use Rattle.pack.specs.Read.{kindOf, nodeIn, optionalIn, portsIn}
-use Rattle.pack.specs.Write.{Item, each, enc, equationItems, kindByte, list, nm, portItems, raw}
+use Rattle.pack.specs.Write.{Item, each, equationItems, kindByte, list, nm, portItems, raw}
+use Rattle.pack.specs.Table.{tabled}
 use Rattle.pack.specs.Intern.{render}
 use Rattle.pack.proofs.Tables.{code, place-at-name}
 use Rattle.pack.proofs.Interns.{render-append}
@@ -54,7 +55,7 @@ unfolding headPart headOf kindByte
 new-part xs k m old z = refl
 
 -- a name by its number
-name-put : (ns : List Name) (n : Name) (z : State) → All LegalName ns → Known ns n → puts (two (place ns n)) z ≡ render (enc ns) (nm n ∷ []) z
+name-put : (ns : List Name) (n : Name) (z : State) → All LegalName ns → Known ns n → puts (two (place ns n)) z ≡ render (tabled ns) (nm n ∷ []) z
 unfolding code two Each
 name-put ns n z a k = sym (render-known ns (nm n ∷ []) z a (k, tt))
 

@@ -20,7 +20,8 @@ use Rattle.machine_rules.specs.Resolved.{Machine}
 use Rattle.pack.specs.Forms.{nameAt}
 use Rattle.pack.specs.Legal.{Each, Fresh, Known, LegalName, place}
 use Rattle.pack.specs.Read.{nodeIn, optionalIn}
-use Rattle.pack.specs.Write.{Item, each, enc, list, originByte, originItems}
+use Rattle.pack.specs.Write.{Item, each, list, originByte, originItems}
+use Rattle.pack.specs.Table.{tabled}
 use Rattle.pack.specs.Intern.{render}
 use Rattle.pack.proofs.Tables.{code, place-at-name}
 use Rattle.pack.proofs.Interns.{render-append}
@@ -65,7 +66,7 @@ module _ (ns : List Name) (s : List ℕ) (legal : All LegalName ns) (fresh : Fre
   unfolding Each each originItems list
   origin-known o m f e a b = (a, (b, tt))
 
-  origin-same : (i j : ℕ) (o m : Name) (f e : ℕ) (z : State) → i < length ns → nameAt ns i ≡ o → j < length ns → nameAt ns j ≡ m → render (enc ns) (originT i j f e) z ≡ render (enc ns) (each originItems (origin o m f e ∷ [])) z
+  origin-same : (i j : ℕ) (o m : Name) (f e : ℕ) (z : State) → i < length ns → nameAt ns i ≡ o → j < length ns → nameAt ns j ≡ m → render (tabled ns) (originT i j f e) z ≡ render (tabled ns) (each originItems (origin o m f e ∷ [])) z
   origin-same i j o m f e z hi ei hj ej =
       let a : place ns o ≡ i = ap (place ns) (sym ei) ∙ place-at-name ns i fresh hi in
       let b : place ns m ≡ j = ap (place ns) (sym ej) ∙ place-at-name ns j fresh hj in
@@ -81,15 +82,15 @@ module _ (ns : List Name) (s : List ℕ) (legal : All LegalName ns) (fresh : Fre
       ap (λ (is : List Item). render old is z) (number-to s at absent q (λ o q. cond (eqb o absent) [] (originT o j f e)) (optional-none ns s at q h) ∙ (rw (eq-eqb absent absent refl)))
 
   owner-some : (at q j f e : ℕ) (o : Name) (m : Machine) (z : State) → optionalIn ns s at ≡ value (some o) q → j < length ns → nameAt ns j ≡ m .name → e ≡ equationCount m
-      → render (enc ns) (with (numberIn s at) (λ o q. cond (eqb o absent) [] (originT o j f e))) z ≡ render (enc ns) (each originItems (originFor (fateOf (some o) m) f)) z
+      → render (tabled ns) (with (numberIn s at) (λ o q. cond (eqb o absent) [] (originT o j f e))) z ≡ render (tabled ns) (each originItems (originFor (fateOf (some o) m) f)) z
   unfolding originFor fateOf
   owner-some at q j f e o m z h hj ej ee =
       let i = optional-some ns s at o q h in
-      ap (λ (is : List Item). render (enc ns) is z) (number-to s at (i .i) q (λ o q. cond (eqb o absent) [] (originT o j f e)) (i .is) ∙ (rw (ne-eqb (i .i) absent (i .present))))
+      ap (λ (is : List Item). render (tabled ns) is z) (number-to s at (i .i) q (λ o q. cond (eqb o absent) [] (originT o j f e)) (i .is) ∙ (rw (ne-eqb (i .i) absent (i .present))))
       ∙ origin-same (i .i) j o (m .name) f e z (i .small) (i .named) hj ej
-      ∙ ap (λ y. render (enc ns) (each originItems (origin o (m .name) f y ∷ [])) z) ee
+      ∙ ap (λ y. render (tabled ns) (each originItems (origin o (m .name) f y ∷ [])) z) ee
 
-  owner-known : (old : List ℕ) → old ≡ enc ns → (at q j f e : ℕ) (o : Name) (m : Machine) (z : State) → optionalIn ns s at ≡ value (some o) q → j < length ns → nameAt ns j ≡ m .name → e ≡ equationCount m
+  owner-known : (old : List ℕ) → old ≡ tabled ns → (at q j f e : ℕ) (o : Name) (m : Machine) (z : State) → optionalIn ns s at ≡ value (some o) q → j < length ns → nameAt ns j ≡ m .name → e ≡ equationCount m
       → render old (with (numberIn s at) (λ o q. cond (eqb o absent) [] (originT o j f e))) z ≡ render old (each originItems (originFor (fateOf (some o) m) f)) z
   owner-known old is at q j f e o m z h hj ej ee =
       ap (λ y. render y (with (numberIn s at) (λ o q. cond (eqb o absent) [] (originT o j f e))) z) is

@@ -12,7 +12,7 @@ use Rattle.machine_rules.specs.Resolved.{States}
 use Rattle.pack.specs.Forms.{nameAt}
 use Rattle.pack.specs.Legal.{Fresh, LegalName}
 use Rattle.pack.specs.Read.{machineIn}
-use Rattle.pack.specs.Write.{enc}
+use Rattle.pack.specs.Table.{tabled}
 use Rattle.machine_rules.specs.Resolve.{asMachine, resolvedStates, went}
 use Rattle.machine_rules.specs.Lower.{sizeS}
 use Rattle.machine_rules.specs.Checks.{refusalOf}
@@ -25,7 +25,7 @@ pub record PackOf (ns : List Name) (s old spots : List ℕ) : Type 0 where
   pub legal : All LegalName ns
   pub fresh : Fresh [] ns
   pub few : length ns < 65536
-  pub names : old ≡ enc ns
+  pub names : old ≡ tabled ns
   pub placed : (i : ℕ) → i < length ns → packName s spots i ≡ nameAt ns i
 
 -- the machine of index i is drawn where the table says, and its resolved form is this share

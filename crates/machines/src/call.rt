@@ -16,18 +16,18 @@ use pack::check::Verdict;
 use pack::check::read_pack;
 use pack::finish::Outcome;
 use pack::finish::finish;
+use pack::intern::lay_names;
 use pack::record::Pack;
-ghost use mathlib.Core.List.{List, [], _++_};
+ghost use mathlib.Core.List.{List, _++_};
 ghost use mathlib.Core.Path.{_≡_};
 ghost use Prim.Native.Nat.{ℕ, _-_, _≤_};
 ghost use lib.ListN.{length};
 ghost use Rattle.wire.specs.Bytes.{two};
-ghost use Rattle.wire.specs.Writer.{st};
-ghost use Rattle.pack.specs.Limits.{maxBytes};
 ghost use Rattle.pack.specs.Names.{Name};
 ghost use Rattle.pack.specs.Syntax.{Package};
 ghost use Rattle.pack.specs.Write.{Item};
-ghost use Rattle.pack.specs.Intern.{render};
+ghost use Rattle.pack.specs.Table.{tabled};
+ghost use Rattle.pack.specs.Intern.{render, table, unwritten};
 ghost use Rattle.pack.specs.Outcome.{Gives, answered, outputOf, reportOf, reported, returned};
 ghost use Rattle.pack.specs.Verdict.{Stands};
 ghost use Rattle.machines.specs.Ends.{EndsRight};
@@ -151,13 +151,15 @@ fn write_all(
     output: &mut [u8],
 ) -> Outcome
     requires { ⌜ (length (now s) ≤ 65536) × (n ≤ 65536) × Long (now t) (now reg) (now lets) × EndsRight (now s) (k .names) (now ends) ⌝ }
-    ensures { λ r. ⌜ ((ns : List Name) → length ns ≡ k .names → (old : List ℕ) → old ≡ sliceOf (now (s .entry)) 2 (k .enums - 2) → (eqs ens : ℕ → List Item) → AllWrite old (equationsAt ns (now (s .entry)) (now (spots .entry)) (now (to .entry))) (now (mats .entry)) n eqs → AllWrite old (enumsAt ns (now (s .entry)) (now (spots .entry)) (now (to .entry))) (now (mats .entry)) n ens → Gives (answered (length (now (output .entry))) old (render old (sectionsT ns (now (s .entry)) (now (mats .entry)) (now (ats .entry)) (now (regs .entry)) (now (spots .entry)) n eqs ens k) (st maxBytes maxBytes [] []))) (r .number) (r .value) (now (output .entry)) (now (output .exit))) ⌝ }
+    ensures { λ r. ⌜ ((ns : List Name) → length ns ≡ k .names → (old : List ℕ) → old ≡ tabled (table (sliceOf (now (s .entry)) 2 (k .enums - 2))) → (eqs ens : ℕ → List Item) → AllWrite old (equationsAt ns (now (s .entry)) (now (spots .entry)) (now (to .entry))) (now (mats .entry)) n eqs → AllWrite old (enumsAt ns (now (s .entry)) (now (spots .entry)) (now (to .entry))) (now (mats .entry)) n ens → Gives (answered (length (now (output .entry))) (sliceOf (now (s .entry)) 2 (k .enums - 2)) (render old (sectionsT ns (now (s .entry)) (now (mats .entry)) (now (ats .entry)) (now (regs .entry)) (now (spots .entry)) n eqs ens k) unwritten)) (r .number) (r .value) (now (output .entry)) (now (output .exit))) ⌝ }
 {
     let mut out = [0u8; 65536];
-    let mut made = [0u8; 65536];
-    let old = between(s, 2, k.enums);
+    let mut made = [0u8; 143362];
+    let mut olds = [0u8; 143362];
+    let names = between(s, 2, k.enums);
+    let e = lay_names(names, &mut olds);
     let w = put_sections(
-        old,
+        &olds[..e],
         s,
         k,
         spots,
@@ -173,7 +175,7 @@ fn write_all(
         &mut out,
         &mut made,
     );
-    finish(old, &made, &out, w, output)
+    finish(names, &made, &out, w, output)
 }
 
 // A pack whose sections stand where k says, by tables that are filled here.
@@ -270,6 +272,22 @@ fn lower_whole(s: &[u8], k: Pack, output: &mut [u8], report: &mut [u8]) -> Outco
     )
 }
 
+// The same, kept apart: a function that calls itself is not inlined, so that the tables of a call and those of the check do not
+// stand on the stack at once. No pack is longer than the check allows.
+fn lower_apart(s: &[u8], k: Pack, output: &mut [u8], report: &mut [u8]) -> Outcome
+    requires { ⌜ (length (now s) ≤ 65536) × OpenedAs (now s) k ⌝ }
+    ensures { λ r. ⌜ ((p : Package) → Stands (now (s .entry)) k p → Answers (machinesOf (length (now (output .entry))) (length (now (report .entry))) p) (r .number) (r .value) (now (output .entry)) (now (output .exit)) (now (report .entry)) (now (report .exit))) ⌝ }
+{
+    if Pack::BYTES < s.len() {
+        let r = lower_apart(&s[..65536], k, output, report);
+        return Outcome {
+            number: r.number,
+            value: 0,
+        };
+    }
+    lower_whole(s, k, output, report)
+}
+
 // Lowers the machines of a pack: the lowered pack in `output`, or a report of what is refused in `report`.
 pub fn lower_state_machines(pack: &[u8], output: &mut [u8], report: &mut [u8]) -> Outcome
     ensures { λ r. ⌜ Answers (lowerMachines (now (pack .entry)) (length (now (output .entry))) (length (now (report .entry)))) (r .number) (r .value) (now (output .entry)) (now (output .exit)) (now (report .entry)) (now (report .exit)) ⌝ }
@@ -278,7 +296,7 @@ pub fn lower_state_machines(pack: &[u8], output: &mut [u8], report: &mut [u8]) -
     let k = opened.pack;
     let v = opened.verdict;
     match v {
-        Verdict::Whole => lower_whole(pack, k, output, report),
+        Verdict::Whole => lower_apart(pack, k, output, report),
         Verdict::TooLong => Outcome {
             number: 1,
             value: 65536,

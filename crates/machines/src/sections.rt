@@ -7,18 +7,19 @@ use crate::parts::put_nodes;
 use crate::relaid::put_all_enums;
 use crate::rows::between;
 use crate::sure::number;
+use pack::intern::start;
 use pack::record::Pack;
 use wire::writer::Writer;
 use wire::writer::put_bytes;
 use wire::writer::put_u16;
-ghost use mathlib.Core.List.{List, []};
+ghost use mathlib.Core.List.{List};
 ghost use mathlib.Core.Path.{_≡_};
 ghost use Prim.Native.Nat.{ℕ, _≤_};
 ghost use lib.ListN.{length};
-ghost use Rattle.wire.specs.Writer.{st, stateOf};
+ghost use Rattle.wire.specs.Writer.{stateOf};
 ghost use Rattle.pack.specs.Names.{Name};
 ghost use Rattle.pack.specs.Write.{Item};
-ghost use Rattle.pack.specs.Intern.{render};
+ghost use Rattle.pack.specs.Intern.{render, started};
 ghost use Rattle.machines.specs.Ends.{EndsRight};
 ghost use Rattle.machines.specs.Relaid.{AllWrite, Long, enumsAt, equationsAt};
 ghost use Rattle.machines.specs.Parts.{enumsPartT, originsPartT, sectionsT};
@@ -114,9 +115,9 @@ pub fn put_sections(
     made: &mut [u8],
 ) -> Writer
     requires { ⌜ (length (now s) ≤ 65536) × (n ≤ 65536) × Long (now t) (now reg) (now lets) × EndsRight (now s) (k .names) (now ends) ⌝ }
-    ensures { λ r. ⌜ ((ns : List Name) → length ns ≡ k .names → (eqs ens : ℕ → List Item) → AllWrite (now (old .entry)) (equationsAt ns (now (s .entry)) (now (spots .entry)) (now (to .entry))) (now (mats .entry)) n eqs → AllWrite (now (old .entry)) (enumsAt ns (now (s .entry)) (now (spots .entry)) (now (to .entry))) (now (mats .entry)) n ens → stateOf (now (out .exit)) (now (made .exit)) r ≡ render (now (old .entry)) (sectionsT ns (now (s .entry)) (now (mats .entry)) (now (ats .entry)) (now (regs .entry)) (now (spots .entry)) n eqs ens k) (st (length (now (out .entry))) (length (now (made .entry))) [] [])) ⌝ }
+    ensures { λ r. ⌜ ((ns : List Name) → length ns ≡ k .names → (eqs ens : ℕ → List Item) → AllWrite (now (old .entry)) (equationsAt ns (now (s .entry)) (now (spots .entry)) (now (to .entry))) (now (mats .entry)) n eqs → AllWrite (now (old .entry)) (enumsAt ns (now (s .entry)) (now (spots .entry)) (now (to .entry))) (now (mats .entry)) n ens → stateOf (now (out .exit)) (now (made .exit)) r ≡ render (now (old .entry)) (sectionsT ns (now (s .entry)) (now (mats .entry)) (now (ats .entry)) (now (regs .entry)) (now (spots .entry)) n eqs ens k) (started (now (out .entry)) (now (made .entry)))) ⌝ }
 {
-    let w = Writer::start();
+    let w = start();
     let a = put_enums_part(
         old,
         s,

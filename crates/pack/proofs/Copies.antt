@@ -19,34 +19,34 @@ use Rattle.pack.specs.Limits.{maxName}
 use Rattle.pack.specs.Names.{Name}
 use Rattle.pack.specs.Syntax.{Equation, Expr, Port, eArray, eArrow, eBinary, eCall, eCast, eConst, eField, eIf, eIndex, eIterate, eMerge, ePre, eStruct, eTuple, eUnary, eVar, eWhen}
 use Rattle.pack.specs.Read.{equationsIn, exprIn, kindOf, nameIn, portsIn}
-use Rattle.pack.specs.Write.{Found, Item, each, enc, equationItems, exprItems, kindByte, list, lookup, nameItems, nm, portItems, raw}
+use Rattle.pack.specs.Write.{Found, Item, each, equationItems, exprItems, kindByte, list, nameItems, nm, portItems, raw}
 use Rattle.pack.specs.Legal.{Each, Fresh, Known, LegalName, place}
-use Rattle.pack.specs.Intern.{putFound, putItem, putName, render, table}
+use Rattle.pack.specs.Table.{seek, tabled}
+use Rattle.pack.specs.Intern.{putFound, putItem, putName, render}
 use Rattle.pack.proofs.Tables.{code, code-append, each-append, lookup-known}
 use Rattle.pack.proofs.TypeFormats.{Any, Fmt, fmtCounted, fmtName, fmtRaw}
 use Rattle.pack.proofs.ExprFormats.{Shaped, fmtExpr}
 use Rattle.pack.proofs.PartFormats.{fmtEquations, fmtPorts, kind-up}
 use Rattle.pack.proofs.Bounds.{w-equationsIn, w-exprIn, w-nameIn, w-portsIn}
-use Rattle.pack.proofs.Written.{table-enc}
+use Rattle.pack.proofs.TableIndex.{seek-tabled}
 use Rattle.pack.proofs.WrittenBack.{all-known}
 
 -- an old name keeps its number
-name-known : (ns : List Name) (n : Name) (z : State) → All LegalName ns → Known ns n → putName (enc ns) n z ≡ puts (two (place ns n)) z
+name-known : (ns : List Name) (n : Name) (z : State) → All LegalName ns → Known ns n → putName (tabled ns) n z ≡ puts (two (place ns n)) z
 unfolding putName putFound maxName
 name-known ns n z a k =
     let l = all-known LegalName ns n a k in
-    ap (λ b. cond b full (putFound (lookup (table (enc ns)) n 0) n z)) (le-ltb 255 (length n) (let h = l .1 in omega arith))
-    ∙ ap (λ (t : List Name). putFound (lookup t n 0) n z) (table-enc ns)
-    ∙ ap (λ (f : Found). putFound f n z) (lookup-known ns n 0 k)
+    ap (λ b. cond b full (putFound (seek (tabled ns) n) n z)) (le-ltb 255 (length n) (let h = l .1 in omega arith))
+    ∙ ap (λ (f : Found). putFound f n z) (seek-tabled ns n ∙ lookup-known ns n 0 k)
     ∙ (let h : 0 + place ns n ≡ place ns n = omega arith in ap (λ y. puts (two y) z) h)
 
 -- items with old names only are their bytes
-pub render-known : (ns : List Name) (is : List Item) (z : State) → All LegalName ns → Each (Known ns) is → render (enc ns) is z ≡ puts (code ns is) z
+pub render-known : (ns : List Name) (is : List Item) (z : State) → All LegalName ns → Each (Known ns) is → render (tabled ns) is z ≡ puts (code ns is) z
 unfolding render putItem code Each puts
 render-known ns [] z a h = refl
 render-known ns (raw xs ∷ is) z a h = render-known ns is (puts xs z) a h ∙ sym (puts-append xs (code ns is) z)
 render-known ns (nm n ∷ is) z a h =
-    ap (render (enc ns) is) (name-known ns n z a (h .0))
+    ap (render (tabled ns) is) (name-known ns n z a (h .0))
     ∙ render-known ns is (puts (two (place ns n)) z) a (h .1)
     ∙ sym (puts-append (two (place ns n)) (code ns is) z)
 
@@ -69,7 +69,7 @@ pub record Lies (ns : List Name) (s : List ℕ) (at : ℕ) (is : List Item) (q :
   pub to : q ≤ length s
 
 -- THE LAW: what stands there is written by a copy of its bytes
-pub lies-copied : (ns : List Name) → All LegalName ns → (s : List ℕ) (at : ℕ) (is : List Item) (q : ℕ) → Lies ns s at is q → (z : State) → render (enc ns) is z ≡ puts (take (q - at) (drop at s)) z
+pub lies-copied : (ns : List Name) → All LegalName ns → (s : List ℕ) (at : ℕ) (is : List Item) (q : ℕ) → Lies ns s at is q → (z : State) → render (tabled ns) is z ≡ puts (take (q - at) (drop at s)) z
 lies-copied ns a s at is q l z = render-known ns is z a (l .known) ∙ ap (λ y. puts y z) (between s (code ns is) at q (l .from) (l .to) (l .bytes))
 
 -- one after the other
@@ -181,14 +181,14 @@ module _ (ns : List Name) (fresh : Fresh [] ns) (few : length ns < 65536) (s : L
       (lies-both ns s q (list portItems is) t _ u (lies-ports q is t c) (lies-ports t os u d))))
 
 module _ (ns : List Name) (fresh : Fresh [] ns) (legal : All LegalName ns) (s : List ℕ) (by : Bytes s) (few : length ns < 65536) where
-  pub copied-expr : (at : ℕ) (e : Expr) (q : ℕ) → exprIn ns s at ≡ value e q → (z : State) → render (enc ns) (exprItems e) z ≡ puts (take (q - at) (drop at s)) z
+  pub copied-expr : (at : ℕ) (e : Expr) (q : ℕ) → exprIn ns s at ≡ value e q → (z : State) → render (tabled ns) (exprItems e) z ≡ puts (take (q - at) (drop at s)) z
   copied-expr at e q h z = lies-copied ns legal s at _ q (lies-expr ns fresh few s by at e q h) z
 
   -- a counted list: with its count, and after it
   pub copied-list : {A : Type 0} (r : List ℕ → ℕ → Answer A) (items : A → List Item) (shape : A → Type 0) → Fmt ns r items shape → ((s : List ℕ) → Within (length s) (λ p. counted (r s) s p))
-      → (at : ℕ) (xs : List A) (q : ℕ) → counted (r s) s at ≡ value xs q → (z : State) → render (enc ns) (list items xs) z ≡ puts (take (q - at) (drop at s)) z
+      → (at : ℕ) (xs : List A) (q : ℕ) → counted (r s) s at ≡ value xs q → (z : State) → render (tabled ns) (list items xs) z ≡ puts (take (q - at) (drop at s)) z
   copied-list r items shape F w at xs q h z = lies-copied ns legal s at _ q (lies-list ns fresh few s by r items shape F w at xs q h) z
 
   pub copied-each : {A : Type 0} (r : List ℕ → ℕ → Answer A) (items : A → List Item) (shape : A → Type 0) → Fmt ns r items shape → ((s : List ℕ) → Within (length s) (λ p. counted (r s) s p))
-      → (at : ℕ) (xs : List A) (q : ℕ) → counted (r s) s at ≡ value xs q → (z : State) → render (enc ns) (each items xs) z ≡ puts (take (q - (at + 2)) (drop (at + 2) s)) z
+      → (at : ℕ) (xs : List A) (q : ℕ) → counted (r s) s at ≡ value xs q → (z : State) → render (tabled ns) (each items xs) z ≡ puts (take (q - (at + 2)) (drop (at + 2) s)) z
   copied-each r items shape F w at xs q h z = lies-copied ns legal s (at + 2) _ q (lies-rest ns fresh few s by r items shape F w at xs q h) z

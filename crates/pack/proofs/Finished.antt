@@ -1,19 +1,21 @@
 -- Laws of the last step: the copy into the caller's buffer, the answer by size, and the answer by what the writer reached.
-use Prim.Native.Nat.{ℕ, _+_, _<_, _≤_, min}
+use Prim.Native.Nat.{ℕ, zero, suc, _+_, _-_, _<_, _≤_, min}
+use native.Mathlib.Nat.{sub-zero}
 use native.Mathlib.Numerals.{add-one}
 use native.Mathlib.Omega.{arith}
 use mathlib.Core.Bool.{true, false}
-use mathlib.Core.Path.{_≡_, refl, sym, _∙_}
-use mathlib.Core.List.{List, [], _++_, append-assoc}
-use lib.ListN.{length, take, drop, set, getD, length-append}
-use lib.Seq.{paste, paste-suc, take-length, drop-drop, take-append-seam, drop-append-add}
+use mathlib.Core.Logic.{⊎-elim}
+use mathlib.Core.Path.{_≡_, refl, sym, ap, _∙_}
+use mathlib.Core.List.{List, [], _∷_, _++_, append-assoc}
+use lib.ListN.{length, take, drop, set, getD, length-append, length-take, drop-of-length-le}
+use lib.Seq.{take-nil, paste, paste-suc, take-length, drop-drop, take-append-seam, drop-append-add}
 use borrow.Author.Tests.{lt-ltb, le-ltb}
 use Rattle.wire.specs.declared.writer.Writer.{Writer}
 use Rattle.wire.specs.Bytes.{two}
 use Rattle.wire.specs.Writer.{stateOf}
-use Rattle.wire.proofs.Writers.{take-part}
+use Rattle.wire.proofs.Writers.{lt-or-le, take-part}
 use Rattle.pack.specs.Limits.{maxBytes}
-use Rattle.pack.specs.Intern.{table}
+use Rattle.pack.specs.Table.{table, textsFrom}
 use Rattle.pack.specs.Outcome.{Outcome, answers, writes, numberOf, valueOf, outputOf, Gives, begins, overwritten, sized, packOf, answered}
 
 -- one byte more of a copy
@@ -78,10 +80,32 @@ pub answered-full : (room : ℕ) (old out made : List ℕ) (w : Writer) → w .f
 unfolding answered stateOf
 answered-full room old out made w e = rw e
 
-pub answered-part : (room : ℕ) (old out made : List ℕ) (w : Writer) (m n : ℕ) → w .full ≡ false → m ≡ min (0 + w .made) (length made)
-    → n ≡ min (0 + w .at) (length out) → sized room (packOf old (take m made) (take n out)) ≡ answered room old (stateOf out made w)
+take-drop-swap : (n m : ℕ) (t : List ℕ) → take (m - n) (drop n t) ≡ drop n (take m t)
+take-drop-swap zero m t = ap (λ k. take k t) (sub-zero m)
+take-drop-swap (suc n) zero [] = take-nil (zero - suc n)
+take-drop-swap (suc n) zero (x ∷ t) = let z : zero - suc n ≡ 0 = omega arith in ap (λ k. take k (drop n t)) z
+take-drop-swap (suc n) (suc m) [] = take-nil (suc m - suc n)
+take-drop-swap (suc n) (suc m) (x ∷ t) = let z : suc m - suc n ≡ m - n = omega arith in ap (λ k. take k (drop n t)) z ∙ take-drop-swap n m t
+
+-- the names of a table that ends at m
+texts-part : (t : List ℕ) (m b : ℕ) → m ≤ length t → b ≡ min (0 + 77826) m → take (m - b) (drop b t) ≡ drop textsFrom (take m t)
+unfolding textsFrom
+texts-part t m b l r = ⊎-elim
+    (λ (g : m < 77826).
+    let z : b ≡ m = omega arith in
+    let y : m - b ≡ 0 = omega arith in
+    ap (λ k. take k (drop b t)) y ∙ sym (drop-of-length-le (take m t) {i = 77826} (omega (arith, length-take m t))))
+    (λ (g : 77826 ≤ m).
+    let z : b ≡ 77826 = omega arith in
+    ap (λ k. take (m - k) (drop k t)) z ∙ take-drop-swap 77826 m t)
+    (lt-or-le m 77826)
+
+pub answered-part : (room : ℕ) (old out made : List ℕ) (w : Writer) (m n b : ℕ) → w .full ≡ false → m ≡ min (0 + w .made) (length made)
+    → n ≡ min (0 + w .at) (length out) → b ≡ min (0 + 77826) m
+    → sized room (packOf old (take (m - b) (drop b made)) (take n out)) ≡ answered room old (stateOf out made w)
 unfolding answered stateOf
-answered-part room old out made w m n e p q = rw (e, take-part made (w .made) m p, take-part out (w .at) n q)
+answered-part room old out made w m n b e p q r =
+    rw (e, texts-part made m b (omega arith) r, take-part made (w .made) m p, take-part out (w .at) n q)
 
 -- the parts of an answer, carried to another name of it
 pub carried : (x y : Outcome) (n v : ℕ) (d e : List ℕ) → x ≡ y → Gives x n v d e → Gives y n v d e

@@ -5,10 +5,10 @@ use native.Mathlib.Numerals.{add-one}
 use native.Mathlib.Omega.{arith}
 use mathlib.Core.Logic.{⊎-elim}
 use mathlib.Core.Bool.{Bool, true, false, cond, _&&_}
-use mathlib.Core.Path.{_≡_, refl, ap, _∙_}
+use mathlib.Core.Path.{_≡_, refl, sym, ap, _∙_}
 use mathlib.Core.List.{List, [], _∷_, _++_}
-use lib.ListN.{length, take, drop, getD, drop-of-length-le}
-use lib.Seq.{drop-cons}
+use lib.ListN.{length, take, drop, getD, replicate, drop-of-length-le, length-append, length-drop, length-take, length-replicate}
+use lib.Seq.{drop-cons, length-front, length-take-le, take-at}
 use lib.Dec.{ltb, leb, eqb}
 use borrow.Author.Tests.{lt-ltb, le-ltb, le-leb, lt-leb, eq-eqb, ne-eqb}
 use Rattle.wire.specs.declared.writer.Writer.{Writer}
@@ -17,8 +17,10 @@ use Rattle.wire.specs.Writer.{State, full, st, stateOf, put, puts, swapped}
 use Rattle.wire.proofs.Writers.{lt-or-le, puts-full, puts-fit, take-part, take-capped, drop-capped}
 use Rattle.pack.specs.Limits.{maxName}
 use Rattle.pack.specs.Names.{Name, eqName}
-use Rattle.pack.specs.Write.{Item, Found, At, Missing, lookup}
-use Rattle.pack.specs.Intern.{tableF, table, putEntry, putAdded, putNew, putFound, putName, putBuilt, putItem, render}
+use Rattle.pack.specs.Write.{Item, Found, At, Missing, enc, lookup}
+use Rattle.pack.specs.Table.{tableF, table, textsFrom, numberIn, seek, noted, enter, entered, blank, tabled}
+use Rattle.pack.specs.Intern.{notedIn, putEntry, putEntries, putAdded, putNew, putFound, putName, putBuilt, putItem, render, started}
+use Rattle.pack.proofs.TableIndex.{enter-length, noted-length, blank-length}
 
 and-false : (t : Bool) {u : Bool} → u ≡ false → t && u ≡ false
 and-false true e = e
@@ -123,13 +125,40 @@ table-length t = tableF-length (length t) t
 pub found-number : (t : List ℕ) (n : Name) (f : Found) → f ≡ lookup (table t) n 0 → number f ≤ length t
 found-number t n f e = rw e (omega (arith, lookup-number (table t) n 0, table-length t))
 
-pub entry-steps : (n : Name) (s : State) → swapped (puts n (put (length n) (swapped s))) ≡ putEntry n s
+-- the bound on an answer, of what it is
+pub number-of : (f g : Found) (k : ℕ) → f ≡ g → numberIn f ≤ k → numberIn g ≤ k
+number-of f g k e h = rw e at h
+
+pub entry-steps : (n : Name) (s x : State) → x ≡ notedIn n s → swapped (puts n (put (length n) (swapped x))) ≡ putEntry n s
 unfolding putEntry puts
-entry-steps n s = refl
+entry-steps n s x e = ap (λ (y : State). swapped (puts n (put (length n) (swapped y)))) e
+
+-- the index of new names with one more
+pub noted-is : (o m k n : List ℕ) (w : Writer) (e : ℕ) → e ≡ min (0 + w .made) (length m) → k ≡ noted n (take e m) ++ drop e m
+    → stateOf o k w ≡ notedIn n (stateOf o m w)
+unfolding stateOf notedIn
+noted-is o m k n w e p q = go (w .full)
+  where
+    part : take e m ≡ take (w .made) m
+    part = take-part m (w .made) e p
+
+    size : length k ≡ length m
+    size = ap length q ∙ length-front m (noted n (take e m)) e (noted-length (take e m) n)
+
+    front : take (w .made) k ≡ noted n (take (w .made) m)
+    front =
+        let l : length (noted n (take e m)) ≡ e = noted-length (take e m) n ∙ length-take-le e m (omega arith) in
+        let z : e ≡ min (0 + w .made) (length k) = omega (arith, size) in
+        sym (take-part k (w .made) e z) ∙ ap (take e) q ∙ take-at (noted n (take e m)) (drop e m) e l ∙ ap (noted n) part
+
+    go : (t : Bool) → cond t full (st (length o) (length k) (take (w .at) o) (take (w .made) k))
+        ≡ notedIn n (cond t full (st (length o) (length m) (take (w .at) o) (take (w .made) m)))
+    go true = refl
+    go false = rw (size, front)
 
 -- a full writer stays full
 pub entry-full : (n : Name) → putEntry n full ≡ full
-unfolding putEntry swapped
+unfolding putEntry swapped notedIn
 entry-full n = ap swapped (puts-full (length n ∷ n))
 
 added-full : (f : Found) (b : ℕ) (n : Name) → putAdded f b n full ≡ full
@@ -143,7 +172,7 @@ putFound-full (At k) n = puts-full (two k)
 putFound-full (Missing b) n = refl
 
 -- what was found in the part of `made` that the writer has used is what is found among the new names
-pub putNew-is : (o m n : List ℕ) (w : Writer) (b e : ℕ) (f : Found) → e ≡ min (0 + w .made) (length m) → f ≡ lookup (table (take e m)) n 0
+pub putNew-is : (o m n : List ℕ) (w : Writer) (b e : ℕ) (f : Found) → e ≡ min (0 + w .made) (length m) → f ≡ seek (take e m) n
     → putAdded f b n (stateOf o m w) ≡ putNew b n (stateOf o m w)
 unfolding stateOf putNew
 putNew-is o m n w b e f p q = go (w .full)
@@ -158,9 +187,22 @@ pub name-long : (old n : List ℕ) (s : State) → 255 < length n → full ≡ p
 unfolding putName maxName
 name-long old n s h = rw (lt-ltb 255 (length n) h)
 
-pub name-found : (old n : List ℕ) (s : State) (f : Found) → length n ≤ 255 → f ≡ lookup (table old) n 0 → putFound f n s ≡ putName old n s
+pub name-found : (old n : List ℕ) (s : State) (f : Found) → length n ≤ 255 → f ≡ seek old n → putFound f n s ≡ putName old n s
 unfolding putName maxName
 name-found old n s f h e = rw (le-ltb 255 (length n) h, e)
+
+-- a full writer stays full
+pub name-full : (old n : List ℕ) → full ≡ putName old n full
+unfolding putName
+name-full old n = go (ltb maxName (length n))
+  where
+    go : (t : Bool) → full ≡ cond t full (putFound (seek old n) n full)
+    go true = refl
+    go false = sym (putFound-full (seek old n) n)
+
+pub name-stopped : (old out made n : List ℕ) (w : Writer) → w .full ≡ true → stateOf out made w ≡ putName old n (stateOf out made w)
+unfolding stateOf
+name-stopped old out made n w e = rw e (name-full old n)
 
 -- a made name that was written to a buffer of 255 bytes is that name
 pub built-is : (old n : List ℕ) (cm : ℕ) (md : List ℕ) (s : State) → putBuilt old (puts n (st 255 cm [] md)) s ≡ putName old n s
@@ -168,11 +210,11 @@ unfolding putBuilt putName maxName
 built-is old n cm md s = rw (puts-fit 255 cm md n [] zero-le, zero-add) (⊎-elim over fits (lt-or-le 255 (length n)))
   where
     over : 255 < length n
-        → putBuilt old (cond (leb (length n) 255) (st 255 cm n md) full) s ≡ cond (ltb 255 (length n)) full (putFound (lookup (table old) n 0) n s)
+        → putBuilt old (cond (leb (length n) 255) (st 255 cm n md) full) s ≡ cond (ltb 255 (length n)) full (putFound (seek old n) n s)
     over g = rw (lt-leb _ _ g, lt-ltb _ _ g)
 
     fits : length n ≤ 255
-        → putBuilt old (cond (leb (length n) 255) (st 255 cm n md) full) s ≡ cond (ltb 255 (length n)) full (putFound (lookup (table old) n 0) n s)
+        → putBuilt old (cond (leb (length n) 255) (st 255 cm n md) full) s ≡ cond (ltb 255 (length n)) full (putFound (seek old n) n s)
     fits g = rw (le-leb _ _ g, le-ltb _ _ g)
 
 pub built-of : (old n : List ℕ) (x s : State) → x ≡ puts n (st 255 0 [] []) → putBuilt old x s ≡ putName old n s
@@ -192,3 +234,93 @@ pub render-append : (old : List ℕ) (is js : List Item) (s : State) → render 
 unfolding render
 render-append old [] js s = refl
 render-append old (i ∷ is) js s = render-append old is js (putItem old i s)
+
+-- a name more that fits
+pub entry-enters : (co cm : ℕ) (bs t : List ℕ) (n : Name) → length t + suc (length n) ≤ cm → putEntry n (st co cm bs t) ≡ st co cm bs (enter n t)
+unfolding putEntry notedIn swapped enter
+entry-enters co cm bs t n h =
+    rw (puts-fit cm co bs (length n ∷ n) (noted n t) (omega (arith, noted-length t n)), noted-length, le-leb _ _ h)
+
+pub entry-over : (co cm : ℕ) (bs t : List ℕ) (n : Name) → length t ≤ cm → cm < length t + suc (length n) → putEntry n (st co cm bs t) ≡ full
+unfolding putEntry notedIn swapped
+entry-over co cm bs t n g h =
+    rw (puts-fit cm co bs (length n ∷ n) (noted n t) (omega (arith, noted-length t n)), noted-length, lt-leb _ _ h)
+
+-- names that fit
+entries-fit : (ns : List Name) (co cm : ℕ) (bs t : List ℕ) → length t + length (enc ns) ≤ cm → putEntries ns (st co cm bs t) ≡ st co cm bs (entered ns t)
+unfolding putEntries entered enc
+entries-fit [] co cm bs t h = refl
+entries-fit (n ∷ ns) co cm bs t h =
+    let l = length-append n (enc ns) in
+    ap (putEntries ns) (entry-enters co cm bs t n (omega arith))
+    ∙ entries-fit ns co cm bs (enter n t) (omega (arith, enter-length n t))
+
+-- more steps than names change nothing
+tableF-enough : (f g : ℕ) (t : List ℕ) → length t ≤ f → length t ≤ g → tableF f t ≡ tableF g t
+unfolding tableF
+tableF-enough zero zero t h i = refl
+tableF-enough zero (suc g) [] h i = refl
+tableF-enough (suc f) zero [] h i = refl
+tableF-enough (suc f) (suc g) [] h i = refl
+tableF-enough zero (suc g) (l ∷ rest) h i = absurd (omega arith)
+tableF-enough (suc f) zero (l ∷ rest) h i = absurd (omega arith)
+tableF-enough (suc f) (suc g) (l ∷ rest) h i =
+    ap (λ (ns : List Name). take l rest ∷ ns) (tableF-enough f g (drop l rest) (omega (arith, length-drop l rest)) (omega (arith, length-drop l rest)))
+
+-- one name further
+entries-turn : (t : List ℕ) (at e : ℕ) → at < length t → e ≡ min (at + 1 + getD t at 0) (length t)
+    → table (drop at t) ≡ take (e - (at + 1)) (drop (at + 1) t) ∷ table (drop e t)
+unfolding table
+entries-turn t at e h p =
+    tableF-enough (length (drop at t)) (length t - 0) (drop at t) (omega arith) (omega (arith, length-drop at t))
+    ∙ table-turn t at 0 e h zero-le p
+    ∙ ap (λ (ns : List Name). take (e - (at + 1)) (drop (at + 1) t) ∷ ns)
+    (tableF-enough (length t - (0 + 1)) (length (drop e t)) (drop e t) (omega (arith, length-drop e t)) (omega arith))
+
+pub put-entries-turn : (t : List ℕ) (at e : ℕ) (s : State) → at < length t → e ≡ min (at + 1 + getD t at 0) (length t)
+    → putEntries (table (drop e t)) (putEntry (take (e - (at + 1)) (drop (at + 1) t)) s) ≡ putEntries (table (drop at t)) s
+unfolding putEntries
+put-entries-turn t at e s h p = ap (λ (ns : List Name). putEntries ns s) (sym (entries-turn t at e h p))
+
+pub put-entries-done : (t : List ℕ) (at : ℕ) (s : State) → length t ≤ at → putEntries (table (drop at t)) s ≡ s
+unfolding putEntries table
+put-entries-done t at s h = ap (λ (ns : List Name). putEntries ns s) (table-done (length (drop at t)) t at h)
+
+-- what a table's names take is no more than its bytes
+tableF-most : (f : ℕ) (t : List ℕ) → length (enc (tableF f t)) ≤ length t
+unfolding tableF enc
+tableF-most zero t = zero-le
+tableF-most (suc f) [] = zero-le
+tableF-most (suc f) (l ∷ rest) =
+    omega (arith, length-append (take l rest) (enc (tableF f (drop l rest))), length-take l rest, tableF-most f (drop l rest), length-drop l rest)
+
+take-replicate : (n m : ℕ) → n ≤ m → take n (replicate {A = ℕ} m 0) ≡ replicate n 0
+take-replicate zero m h = refl
+take-replicate (suc n) zero h = absurd (omega arith)
+take-replicate (suc n) (suc m) h = ap (λ (l : List ℕ). 0 ∷ l) (take-replicate n m (omega arith))
+
+pub started-blank : (o : List ℕ) (k : ℕ) → started o (replicate (textsFrom + k) 0) ≡ st (length o) (textsFrom + k) [] blank
+unfolding started blank
+started-blank o k = rw (length-replicate {A = ℕ} (textsFrom + k) 0, take-replicate textsFrom (textsFrom + k) (omega arith))
+
+pub buffer-size : 143362 ≡ textsFrom + 65536
+unfolding textsFrom
+buffer-size = refl
+
+laid-state : (names m : List ℕ) → length names ≤ 65536 → m ≡ replicate 143362 0
+    → putEntries (table names) (started [] m) ≡ st 0 (textsFrom + 65536) [] (tabled (table names))
+unfolding table tabled
+laid-state names m h b =
+    ap (λ (l : List ℕ). putEntries (tableF (length names) names) (started [] l)) (b ∙ ap (λ y. replicate y 0) buffer-size)
+    ∙ ap (putEntries (tableF (length names) names)) (started-blank [] 65536)
+    ∙ entries-fit (tableF (length names) names) 0 (textsFrom + 65536) [] blank (omega (arith, tableF-most (length names) names, blank-length))
+
+-- the table of names in a buffer that was blank
+pub laid-is : (names m k : List ℕ) (w : Writer) (e : ℕ) → length names ≤ 65536 → m ≡ replicate 143362 0
+    → stateOf [] k w ≡ putEntries (table names) (started [] m) → e ≡ min (0 + w .made) (length k) → take e k ≡ tabled (table names)
+unfolding stateOf
+laid-is names m k w e h b r p = take-part k (w .made) e p ∙ go (w .full) (r ∙ laid-state names m h b)
+  where
+    go : (t : Bool) → cond t full (st 0 (length k) (take (w .at) []) (take (w .made) k)) ≡ st 0 (textsFrom + 65536) [] (tabled (table names)) → take (w .made) k ≡ tabled (table names)
+    go true q = let z : _≡_ {A = ℕ} 0 1 = cc in absurd (omega arith)
+    go false q = cc

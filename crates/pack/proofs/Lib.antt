@@ -17,6 +17,8 @@ pub mod WrittenBack
 pub mod Copies
 pub mod Octets
 pub mod RoundTripAt
+pub mod TableIndex
 pub mod Interns
+pub mod TableLaws
 pub mod Written
 pub mod Finished

@@ -3,10 +3,9 @@ use Prim.Native.Nat.{ℕ, zero, suc, _+_, _<_, _≤_, zero-le}
 use native.Mathlib.Omega.{arith}
 use mathlib.Core.Bool.{Bool, true, false, cond, _&&_}
 use mathlib.Core.Logic.{_⊎_, inl, inr, ⊎-elim}
-use mathlib.Core.Path.{_≡_, refl, sym, ap, _∙_}
+use mathlib.Core.Path.{_≡_, refl, sym, ap, subst, _∙_}
 use mathlib.Core.List.{List, [], _∷_, _++_, append-nil, append-assoc}
 use lib.ListN.{length, length-append, replicate, length-replicate}
-use lib.Seq.{take-append-seam, drop-append-seam}
 use borrow.Author.Tests.{lt-ltb, le-leb, lt-leb}
 use Rattle.wire.specs.Bytes.{two}
 use Rattle.wire.specs.Writer.{State, full, st, puts, swapped}
@@ -15,9 +14,11 @@ use Rattle.pack.specs.Limits.{maxBytes, maxName}
 use Rattle.pack.specs.Names.{Name}
 use Rattle.pack.specs.Syntax.{Package}
 use Rattle.pack.specs.Write.{Item, raw, nm, enc, Found, At, Missing, lookup, Spelt, spelt, newIn, oldIn, spellOne, before, andThen, spell, joined, encode, short, shorts, packageItems}
-use Rattle.pack.specs.Intern.{tableF, table, putEntry, putAdded, putNew, putFound, putItem, render}
+use Rattle.pack.specs.Table.{textsFrom, seek, blank, tabled}
+use Rattle.pack.specs.Intern.{putEntry, putAdded, putNew, putFound, putItem, render, started, unwritten}
 use Rattle.pack.specs.Outcome.{Outcome, answers, sized, written, packOf, answered}
-use Rattle.pack.proofs.Interns.{putFound-full, name-long, name-found}
+use Rattle.pack.proofs.TableIndex.{enc-more, length-tabled, seek-tabled, tabled-more, tabled-none, table-enc, texts-tabled}
+use Rattle.pack.proofs.Interns.{buffer-size, entry-enters, entry-over, name-found, name-long, putFound-full, started-blank}
 
 -- the bytes and the new names that are spelt
 abbrev pub bytesOf : Spelt → List ℕ
@@ -36,86 +37,61 @@ Over co cm bs sh b ns = (sh ≡ false) ⊎ ((co < length bs + length b) ⊎ (cm 
 
 -- the state that is reached from the bytes bs
 abbrev pub Reached : State → ℕ → ℕ → List ℕ → Bool → List ℕ → List Name → Type 0
-Reached s co cm bs sh b ns = (Fits co cm bs sh b ns × (s ≡ st co cm (bs ++ b) (enc ns))) ⊎ (Over co cm bs sh b ns × (s ≡ full))
-
-enc-append : (ns ms : List Name) → enc (ns ++ ms) ≡ enc ns ++ enc ms
-unfolding enc
-enc-append [] ms = refl
-enc-append (n ∷ ns) ms = ap (λ (l : List ℕ). length n ∷ l) (ap (λ (l : List ℕ). n ++ l) (enc-append ns ms) ∙ sym (append-assoc n (enc ns) (enc ms)))
-
-enc-more : (ns : List Name) (n : Name) → enc (ns ++ (n ∷ [])) ≡ enc ns ++ (length n ∷ n)
-unfolding enc
-enc-more ns n = enc-append ns (n ∷ []) ∙ ap (λ (l : List ℕ). enc ns ++ (length n ∷ l)) (append-nil n)
-
-tableF-enc : (f : ℕ) (ns : List Name) → length (enc ns) ≤ f → tableF f (enc ns) ≡ ns
-unfolding tableF enc
-tableF-enc zero [] h = refl
-tableF-enc (suc f) [] h = refl
-tableF-enc zero (m ∷ ms) h = absurd (omega arith)
-tableF-enc (suc f) (m ∷ ms) h =
-    rw (take-append-seam m (enc ms), drop-append-seam m (enc ms))
-    (ap (λ (l : List Name). m ∷ l) (tableF-enc f ms (omega (arith, length-append m (enc ms)))))
-
--- the table of encoded names is those names
-pub table-enc : (ns : List Name) → table (enc ns) ≡ ns
-unfolding table
-table-enc ns = tableF-enc (length (enc ns)) ns (omega arith)
+Reached s co cm bs sh b ns = (Fits co cm bs sh b ns × (s ≡ st co (textsFrom + cm) (bs ++ b) (tabled ns))) ⊎ (Over co cm bs sh b ns × (s ≡ full))
 
 -- bytes alone
 puts-reach : (co cm : ℕ) (bs xs : List ℕ) (ns : List Name) → length bs ≤ co → length (enc ns) ≤ cm
-    → Reached (puts xs (st co cm bs (enc ns))) co cm bs true xs ns
+    → Reached (puts xs (st co (textsFrom + cm) bs (tabled ns))) co cm bs true xs ns
 puts-reach co cm bs xs ns h g = ⊎-elim
-    (λ (o : co < length bs + length xs). inr (inr (inl o), puts-fit co cm (enc ns) xs bs h ∙ rw (lt-leb _ _ o)))
-    (λ (o : length bs + length xs ≤ co). inl ((refl, o, g), puts-fit co cm (enc ns) xs bs h ∙ rw (le-leb _ _ o)))
+    (λ (o : co < length bs + length xs). inr (inr (inl o), puts-fit co (textsFrom + cm) (tabled ns) xs bs h ∙ rw (lt-leb _ _ o)))
+    (λ (o : length bs + length xs ≤ co). inl ((refl, o, g), puts-fit co (textsFrom + cm) (tabled ns) xs bs h ∙ rw (le-leb _ _ o)))
     (lt-or-le co (length bs + length xs))
 
 -- a new name
-entry-fits : (co cm : ℕ) (bs : List ℕ) (n : Name) (ns : List Name) → length (enc (ns ++ (n ∷ []))) ≤ cm
-    → putEntry n (st co cm bs (enc ns)) ≡ st co cm bs (enc (ns ++ (n ∷ [])))
-unfolding putEntry swapped
-entry-fits co cm bs n ns h =
-    let e = enc-more ns n in
-    let l : length (enc ns) + suc (length n) ≤ cm = omega (arith, ap length e, length-append (enc ns) (length n ∷ n), h) in
-    rw (puts-fit cm co bs (length n ∷ n) (enc ns) (omega arith), le-leb _ _ l, e)
+more-fits : (co cm : ℕ) (bs : List ℕ) (n : Name) (ns : List Name) → length (enc (ns ++ (n ∷ []))) ≤ cm
+    → putEntry n (st co (textsFrom + cm) bs (tabled ns)) ≡ st co (textsFrom + cm) bs (tabled (ns ++ (n ∷ [])))
+more-fits co cm bs n ns h =
+    let l = ap length (enc-more ns n) in
+    entry-enters co (textsFrom + cm) bs (tabled ns) n (omega (arith, length-append (enc ns) (length n ∷ n), length-tabled ns))
+    ∙ ap (st co (textsFrom + cm) bs) (sym (tabled-more ns n))
 
-entry-over : (co cm : ℕ) (bs : List ℕ) (n : Name) (ns : List Name) → length (enc ns) ≤ cm → cm < length (enc (ns ++ (n ∷ [])))
-    → putEntry n (st co cm bs (enc ns)) ≡ full
-unfolding putEntry swapped
-entry-over co cm bs n ns g h =
-    let e = enc-more ns n in
-    let l : cm < length (enc ns) + suc (length n) = omega (arith, ap length e, length-append (enc ns) (length n ∷ n), h) in
-    rw (puts-fit cm co bs (length n ∷ n) (enc ns) g, lt-leb _ _ l)
+more-over : (co cm : ℕ) (bs : List ℕ) (n : Name) (ns : List Name) → length (enc ns) ≤ cm → cm < length (enc (ns ++ (n ∷ [])))
+    → putEntry n (st co (textsFrom + cm) bs (tabled ns)) ≡ full
+more-over co cm bs n ns g h =
+    let l = ap length (enc-more ns n) in
+    let k = length-tabled ns in
+    entry-over co (textsFrom + cm) bs (tabled ns) n (omega arith) (omega (arith, length-append (enc ns) (length n ∷ n)))
 
 added-reach : (f : Found) (co cm : ℕ) (bs : List ℕ) (n : Name) (b : ℕ) (ns : List Name) → length bs ≤ co → length (enc ns) ≤ cm
-    → Reached (putAdded f b n (st co cm bs (enc ns))) co cm bs true (bytesOf (newIn f b n ns)) (namesOf (newIn f b n ns))
+    → Reached (putAdded f b n (st co (textsFrom + cm) bs (tabled ns))) co cm bs true (bytesOf (newIn f b n ns)) (namesOf (newIn f b n ns))
 unfolding putAdded newIn
 added-reach (At k) co cm bs n b ns h g = puts-reach co cm bs (two (b + k)) ns h g
 added-reach (Missing k) co cm bs n b ns h g = ⊎-elim
-    (λ (o : cm < length (enc (ns ++ (n ∷ [])))). inr (inr (inr o), ap (puts (two (b + k))) (entry-over co cm bs n ns g o) ∙ puts-full (two (b + k))))
-    (λ (o : length (enc (ns ++ (n ∷ []))) ≤ cm). rw (entry-fits co cm bs n ns o) (puts-reach co cm bs (two (b + k)) (ns ++ (n ∷ [])) h o))
+    (λ (o : cm < length (enc (ns ++ (n ∷ [])))). inr (inr (inr o), ap (puts (two (b + k))) (more-over co cm bs n ns g o) ∙ puts-full (two (b + k))))
+    (λ (o : length (enc (ns ++ (n ∷ []))) ≤ cm). rw (more-fits co cm bs n ns o) (puts-reach co cm bs (two (b + k)) (ns ++ (n ∷ [])) h o))
     (lt-or-le cm (length (enc (ns ++ (n ∷ [])))))
 
-putNew-enc : (co cm : ℕ) (bs : List ℕ) (n : Name) (b : ℕ) (ns : List Name)
-    → putNew b n (st co cm bs (enc ns)) ≡ putAdded (lookup ns n 0) b n (st co cm bs (enc ns))
+putNew-tabled : (co cm : ℕ) (bs : List ℕ) (n : Name) (b : ℕ) (ns : List Name)
+    → putNew b n (st co (textsFrom + cm) bs (tabled ns)) ≡ putAdded (lookup ns n 0) b n (st co (textsFrom + cm) bs (tabled ns))
 unfolding putNew
-putNew-enc co cm bs n b ns = rw (table-enc ns)
+putNew-tabled co cm bs n b ns = rw (seek-tabled ns n)
 
 putFound-reach : (f : Found) (co cm : ℕ) (bs : List ℕ) (n : Name) (ns : List Name) → length bs ≤ co → length (enc ns) ≤ cm
-    → Reached (putFound f n (st co cm bs (enc ns))) co cm bs true (bytesOf (oldIn f n ns)) (namesOf (oldIn f n ns))
+    → Reached (putFound f n (st co (textsFrom + cm) bs (tabled ns))) co cm bs true (bytesOf (oldIn f n ns)) (namesOf (oldIn f n ns))
 unfolding putFound oldIn
 putFound-reach (At k) co cm bs n ns h g = puts-reach co cm bs (two k) ns h g
-putFound-reach (Missing b) co cm bs n ns h g = rw (putNew-enc co cm bs n b ns) (added-reach (lookup ns n 0) co cm bs n b ns h g)
+putFound-reach (Missing b) co cm bs n ns h g = rw (putNew-tabled co cm bs n b ns) (added-reach (lookup ns n 0) co cm bs n b ns h g)
 
 -- one item
 one-reach : (olds : List Name) (i : Item) (co cm : ℕ) (bs : List ℕ) (ns : List Name) → length bs ≤ co → length (enc ns) ≤ cm
-    → Reached (putItem (enc olds) i (st co cm bs (enc ns))) co cm bs (short i) (bytesOf (spellOne olds i ns)) (namesOf (spellOne olds i ns))
+    → Reached (putItem (tabled olds) i (st co (textsFrom + cm) bs (tabled ns))) co cm bs (short i) (bytesOf (spellOne olds i ns)) (namesOf (spellOne olds i ns))
 unfolding putItem spellOne short maxName
 one-reach olds (raw xs) co cm bs ns h g = puts-reach co cm bs xs ns h g
 one-reach olds (nm n) co cm bs ns h g = ⊎-elim
-    (λ (o : 255 < length n). inr (inl (lt-leb _ _ o), sym (name-long (enc olds) n (st co cm bs (enc ns)) o)))
+    (λ (o : 255 < length n). inr (inl (lt-leb _ _ o), sym (name-long (tabled olds) n (st co (textsFrom + cm) bs (tabled ns)) o)))
     (λ (o : length n ≤ 255).
-    let e : lookup olds n 0 ≡ lookup (table (enc olds)) n 0 = rw (table-enc olds) in
-    rw (le-leb _ _ o, ← name-found (enc olds) n (st co cm bs (enc ns)) (lookup olds n 0) o e) (putFound-reach (lookup olds n 0) co cm bs n ns h g))
+    let e : lookup olds n 0 ≡ seek (tabled olds) n = sym (seek-tabled olds n) in
+    rw (le-leb _ _ o, ← name-found (tabled olds) n (st co (textsFrom + cm) bs (tabled ns)) (lookup olds n 0) o e) (putFound-reach (lookup olds n 0) co cm bs n ns h g))
     (lt-or-le 255 (length n))
 
 -- names only grow
@@ -174,7 +150,7 @@ unfolding putItem
 item-full old (raw xs) = puts-full xs
 item-full old (nm n) = ⊎-elim
     (λ (o : 255 < length n). sym (name-long old n full o))
-    (λ (o : length n ≤ 255). sym (name-found old n full (lookup (table old) n 0) o refl) ∙ putFound-full (lookup (table old) n 0) n)
+    (λ (o : length n ≤ 255). sym (name-found old n full (seek old n) o refl) ∙ putFound-full (seek old n) n)
     (lt-or-le 255 (length n))
 
 pub render-full : (old : List ℕ) (is : List Item) → render old is full ≡ full
@@ -191,7 +167,7 @@ then-reach : (s s′ : State) (co cm : ℕ) (bs b₁ b₂ : List ℕ) (t u : Boo
     → Reached s co cm (bs ++ b₁) u b₂ ns → Reached s′ co cm bs (t && u) (b₁ ++ b₂) ns
 then-reach s s′ co cm bs b₁ b₂ t u ns p e (inl (o, q)) = inl (
   (rw (p, o .0), omega (arith, o .1, length-append bs b₁, length-append b₁ b₂), o .2),
-  e ∙ q ∙ ap (λ (l : List ℕ). st co cm l (enc ns)) (append-assoc bs b₁ b₂),
+  e ∙ q ∙ ap (λ (l : List ℕ). st co (textsFrom + cm) l (tabled ns)) (append-assoc bs b₁ b₂),
 )
 then-reach s s′ co cm bs b₁ b₂ t u ns p e (inr (inl o, q)) = inr (inl (and-right t u o), e ∙ q)
 then-reach s s′ co cm bs b₁ b₂ t u ns p e (inr (inr (inl o), q)) = inr (inr (inl (omega (arith, length-append bs b₁, length-append b₁ b₂))), e ∙ q)
@@ -206,7 +182,7 @@ over-reach s co cm bs b₁ b₂ t u ns₁ ns₂ e g (inr (inr o)) = inr (inr (in
 
 -- the items of any package, after any bytes and new names that fit
 pub all-reach : (olds : List Name) (is : List Item) (co cm : ℕ) (bs : List ℕ) (ns : List Name) → length bs ≤ co → length (enc ns) ≤ cm
-    → Reached (render (enc olds) is (st co cm bs (enc ns))) co cm bs (shorts is) (bytesOf (spell olds is ns)) (namesOf (spell olds is ns))
+    → Reached (render (tabled olds) is (st co (textsFrom + cm) bs (tabled ns))) co cm bs (shorts is) (bytesOf (spell olds is ns)) (namesOf (spell olds is ns))
 unfolding render shorts
 all-reach olds [] co cm bs ns h g = rw (spell-none olds ns) (inl ((refl, omega arith, g), rw append-nil))
 all-reach olds (i ∷ is) co cm bs ns h g =
@@ -215,17 +191,20 @@ all-reach olds (i ∷ is) co cm bs ns h g =
     let c = bytesOf (spell olds is ms) in
     rw (spell-bytes olds i is ns, spell-names olds i is ns)
     (⊎-elim
-    (λ o. then-reach _ _ co cm bs b c (short i) (shorts is) _ (o .0 .0) (ap (render (enc olds) is) (o .1))
+    (λ o. then-reach _ _ co cm bs b c (short i) (shorts is) _ (o .0 .0) (ap (render (tabled olds) is) (o .1))
     (all-reach olds is co cm (bs ++ b) ms (omega (arith, o .0 .1, length-append bs b)) (o .0 .2)))
-    (λ o. over-reach _ co cm bs b c (short i) (shorts is) ms _ (ap (render (enc olds) is) (o .1) ∙ render-full (enc olds) is)
+    (λ o. over-reach _ co cm bs b c (short i) (shorts is) ms _ (ap (render (tabled olds) is) (o .1) ∙ render-full (tabled olds) is)
     (spell-grows olds is ms) (o .0))
     (one-reach olds i co cm bs ns h g))
 
 -- from empty buffers: exactly what is spelt, or full and too large
 pub spelt-reach : (olds : List Name) (is : List Item)
-    → Reached (render (enc olds) is (st maxBytes maxBytes [] [])) maxBytes maxBytes [] (shorts is) (bytesOf (spell olds is [])) (namesOf (spell olds is []))
-unfolding enc
-spelt-reach olds is = all-reach olds is maxBytes maxBytes [] [] zero-le zero-le
+    → Reached (render (tabled olds) is unwritten) maxBytes maxBytes [] (shorts is) (bytesOf (spell olds is [])) (namesOf (spell olds is []))
+unfolding enc unwritten
+spelt-reach olds is =
+    subst (λ (t : List ℕ). Reached (render (tabled olds) is (st maxBytes (textsFrom + maxBytes) [] t)) maxBytes maxBytes [] (shorts is) (bytesOf (spell olds is [])) (namesOf (spell olds is [])))
+    tabled-none
+    (all-reach olds is maxBytes maxBytes [] [] zero-le zero-le)
 
 -- the pack by its parts is the pack that is spelt
 joined-is : (olds : List Name) (x : Spelt) → packOf (enc olds) (enc (namesOf x)) (bytesOf x) ≡ joined olds x
@@ -248,7 +227,7 @@ cond-same false x y e = refl
 answered-reach : (room : ℕ) (olds : List Name) (s : State) (sh : Bool) (x : Spelt) → Reached s maxBytes maxBytes [] sh (bytesOf x) (namesOf x)
     → answered room (enc olds) s ≡ cond sh (sized room (joined olds x)) (answers 8 0)
 unfolding answered
-answered-reach room olds s sh x (inl (o, e)) = rw (e, o .0, joined-is olds x)
+answered-reach room olds s sh x (inl (o, e)) = rw (e, o .0, texts-tabled, joined-is olds x)
 answered-reach room olds s sh x (inr (inl o, e)) = rw (e, o)
 answered-reach room olds s sh x (inr (inr (inl o), e)) =
     rw e (sym (cond-same sh _ _ (sized-over room (joined olds x) (omega (arith, joined-length olds x)))))
@@ -256,16 +235,19 @@ answered-reach room olds s sh x (inr (inr (inr o), e)) =
     rw e (sym (cond-same sh _ _ (sized-over room (joined olds x) (omega (arith, joined-length olds x)))))
 
 pub written-is : (room : ℕ) (p : Package)
-    → answered room (enc (p .names)) (render (enc (p .names)) (packageItems p) (st maxBytes maxBytes [] [])) ≡ written room p
+    → answered room (enc (p .names)) (render (tabled (p .names)) (packageItems p) unwritten) ≡ written room p
 unfolding written encode
 written-is room p = answered-reach room (p .names) _ _ (spell (p .names) (packageItems p) []) (spelt-reach (p .names) (packageItems p))
 
 -- for a caller: the state s that its writer reached from empty buffers is that of the package's items
-pub finished-is : (room : ℕ) (p : Package) (old : List ℕ) (s : State) → old ≡ enc (p .names)
-    → s ≡ render old (packageItems p) (st maxBytes maxBytes [] []) → answered room old s ≡ written room p
-finished-is room p old s e f = rw (f, e) (written-is room p)
+pub finished-is : (room : ℕ) (p : Package) (names old : List ℕ) (s : State) → names ≡ enc (p .names) → old ≡ tabled (p .names)
+    → s ≡ render old (packageItems p) unwritten → answered room names s ≡ written room p
+finished-is room p names old s d e f = rw (f, e, d) (written-is room p)
 
 -- the two buffers of a caller, before anything is written
-pub empty-buffers : st (length {A = ℕ} (replicate 65536 0)) (length {A = ℕ} (replicate 65536 0)) [] [] ≡ st maxBytes maxBytes [] []
-unfolding maxBytes
-empty-buffers = rw (length-replicate {A = ℕ} 65536 0)
+pub empty-buffers : started (replicate 65536 0) (replicate 143362 0) ≡ unwritten
+unfolding unwritten maxBytes
+empty-buffers =
+    ap (λ y. started (replicate 65536 0) (replicate y 0)) buffer-size
+    ∙ started-blank (replicate 65536 0) 65536
+    ∙ ap (λ y. st y (textsFrom + 65536) [] blank) (length-replicate {A = ℕ} 65536 0)

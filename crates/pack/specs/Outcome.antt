@@ -11,7 +11,7 @@ use Rattle.pack.specs.Limits.{maxBytes}
 use Rattle.pack.specs.Syntax.{Package}
 use Rattle.pack.specs.Read.{Reading, tooLong, endsEarly, illegalAt, deepAt, bytesAfter, whole, read}
 use Rattle.pack.specs.Write.{packageItems, shorts, encode}
-use Rattle.pack.specs.Intern.{table}
+use Rattle.pack.specs.Table.{table, textsFrom}
 
 -- only a number and a value, a report, or a pack
 pub data Outcome : Type 0 where
@@ -90,7 +90,7 @@ check s = onPackage s (read s) (λ p. answers 0 (length s))
 unfoldable pub packOf : List ℕ → List ℕ → List ℕ → List ℕ
 packOf old made body = two (length (table old) + length (table made)) ++ (old ++ (made ++ body))
 
--- what the state of a writer answers that began with the old names
+-- what the state of a writer answers that began with the old names; the new ones stand behind their index
 unfoldable pub answered : ℕ → List ℕ → State → Outcome
 answered room old full = answers 8 0
-answered room old (st co cm bs md) = sized room (packOf old md bs)
+answered room old (st co cm bs md) = sized room (packOf old (drop textsFrom md) bs)

@@ -1,6 +1,7 @@
 // The last step of both lowerings: what the writer reached becomes a pack in the caller's buffer, where it fits.
 use crate::intern::count_names;
 use crate::record::Pack;
+use crate::table::TEXTS;
 use wire::writer::Writer;
 use wire::writer::capped;
 ghost use mathlib.Core.Path.{_≡_};
@@ -79,7 +80,7 @@ fn copy_out(old: &[u8], made: &[u8], body: &[u8], out: &mut [u8]) -> Outcome
     }
 }
 
-// What the writer w reached after the old names: new names in `made`, the rest in `body`.
+// What the writer w reached after the old names: the table of new names in `made`, the rest in `body`.
 pub fn finish(old: &[u8], made: &[u8], body: &[u8], w: Writer, out: &mut [u8]) -> Outcome
     ensures { λ r. ⌜ Gives (answered (length (now (out .entry))) (now (old .entry)) (stateOf (now (body .entry)) (now (made .entry)) w)) (r .number) (r .value) (now (out .entry)) (now (out .exit)) ⌝ }
 {
@@ -92,5 +93,6 @@ pub fn finish(old: &[u8], made: &[u8], body: &[u8], w: Writer, out: &mut [u8]) -
     }
     let m = capped(made.len(), 0, w.made);
     let n = capped(body.len(), 0, w.at);
-    copy_out(old, &made[..m], &body[..n], out)
+    let b = capped(m, 0, TEXTS);
+    copy_out(old, &made[b..m], &body[..n], out)
 }

@@ -1,5 +1,8 @@
 // Names by number: the old names of a pack, then new ones in order of first use. A table is names, each after its length byte.
 use crate::record::Pack;
+use crate::table::TEXTS;
+use crate::table::note;
+use crate::table::seek_name;
 use wire::writer::Writer;
 use wire::writer::capped;
 use wire::writer::put_byte;
@@ -10,11 +13,12 @@ use wire::writer::turned;
 ghost use mathlib.Core.Path.{_≡_};
 ghost use mathlib.Core.List.{List, []};
 ghost use Prim.Native.Nat.{ℕ, _+_, _≤_, _<_, _^_, min};
-ghost use lib.ListN.{length, getD};
+ghost use lib.ListN.{length, getD, take, replicate};
 ghost use Rattle.wire.specs.Writer.{stateOf};
 ghost use Rattle.pack.specs.Names.{eqName};
 ghost use Rattle.pack.specs.Write.{lookup};
-ghost use Rattle.pack.specs.Intern.{foundOf, table, putEntry, putNew, putName, putBuilt};
+ghost use Rattle.pack.specs.Table.{tabled};
+ghost use Rattle.pack.specs.Intern.{foundOf, table, putEntry, putEntries, putNew, putName, putBuilt, started};
 
 // A name's number in a table; where it is missing, how many names there are.
 pub enum Found {
@@ -79,13 +83,50 @@ pub fn count_names(t: &[u8]) -> usize
     k
 }
 
+// Nothing written yet, and no new name.
+pub fn start() -> Writer
+    ensures { λ r. ⌜ ((o m : List ℕ) → stateOf o m r ≡ started o m) ⌝ }
+{
+    Writer {
+        at: 0,
+        made: TEXTS,
+        full: false,
+    }
+}
+
 // A name more in the table of new names, after its length byte.
 fn put_entry(n: &[u8], made: &mut [u8], w: Writer) -> Writer
     requires { ⌜ length (now n) ≤ 255 ⌝ }
     ensures { λ r. ⌜ ((o : List ℕ) → stateOf o (now (made .exit)) r ≡ putEntry (now (n .entry)) (stateOf o (now (made .entry)) w)) ⌝ }
 {
+    let end = capped(made.len(), 0, w.made);
+    note(&mut made[..end], n);
     let a = put_byte(made, turned(w), n.len() as u8);
     turned(put_bytes(n, made, a))
+}
+
+// The names of src entered in order.
+fn put_entries(src: &[u8], made: &mut [u8], w: Writer) -> Writer
+    ensures { λ r. ⌜ ((o : List ℕ) → stateOf o (now (made .exit)) r ≡ putEntries (table (now (src .entry))) (stateOf o (now (made .entry)) w)) ⌝ }
+{
+    let mut v = w;
+    let mut at = 0;
+    while at < src.len() {
+        let b = at + 1;
+        let e = name_end(src, at);
+        v = put_entry(&src[b..e], made, v);
+        at = e;
+    }
+    v
+}
+
+// The table of a pack's names, in a buffer of zeros; how long it is.
+pub fn lay_names(names: &[u8], t: &mut [u8]) -> usize
+    requires { ⌜ (length (now names) ≤ 65536) × (now t ≡ replicate 143362 0) ⌝ }
+    ensures { λ r. ⌜ (r ≤ length (now (t .exit))) × (take r (now (t .exit)) ≡ tabled (table (now (names .entry)))) ⌝ }
+{
+    let w = put_entries(names, t, start());
+    capped(t.len(), 0, w.made)
 }
 
 // The number of a name that is not among the `old` old ones: found among the new ones, or added there.
@@ -94,7 +135,7 @@ fn put_new(old: usize, n: &[u8], out: &mut [u8], made: &mut [u8], w: Writer) -> 
     ensures { λ r. ⌜ stateOf (now (out .exit)) (now (made .exit)) r ≡ putNew old (now (n .entry)) (stateOf (now (out .entry)) (now (made .entry)) w) ⌝ }
 {
     let end = capped(made.len(), 0, w.made);
-    let f = find_name(&made[..end], n);
+    let f = seek_name(&made[..end], n);
     match f {
         Found::At(k) => put_u16(out, w, old + k),
         Found::Missing(k) => {
@@ -111,7 +152,11 @@ pub fn put_name(old: &[u8], n: &[u8], out: &mut [u8], made: &mut [u8], w: Writer
     if Pack::NAME < n.len() {
         return stopped(w);
     }
-    let f = find_name(old, n);
+    let full = w.full;
+    if full {
+        return w;
+    }
+    let f = seek_name(old, n);
     match f {
         Found::At(k) => put_u16(out, w, k),
         Found::Missing(k) => put_new(k, n, out, made, w),

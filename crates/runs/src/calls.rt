@@ -5,9 +5,9 @@ use pack::finish::Outcome;
 ghost use mathlib.Core.Path.{_≡_};
 ghost use Prim.Native.Nat.{ℕ};
 ghost use lib.ListN.{length, take};
-ghost use Rattle.machines.specs.Call.{lowerMachines};
+ghost use Rattle.machine_rules.specs.Call.{lowerMachines};
 ghost use Rattle.machines.specs.Filled.{Answers};
-ghost use Rattle.activations.specs.Call.{lowerActivations};
+ghost use Rattle.activation_rules.specs.Call.{lowerActivations};
 ghost use Rattle.runs.specs.Claim.{ActivationsLowered, MachinesLowered};
 
 // Lowers the machines of a pack: number, value and every byte are the definition's. Where it returns 0, every run of the

@@ -1,3 +1,5 @@
+use mathlib.Core.Path.{refl}
+use Rattle.machines.proofs.CallLaws.{names-short, tabled-as}
 use Rattle.activations.proofs.Answered.{blank, scratch}
 use borrow.Author.Needs.{needs}
 use Rattle.activations.proofs.call.lower_whole.Statement.{statement}
@@ -5,6 +7,15 @@ use Rattle.activations.proofs.call.lower_whole.Tie as tie
 use Rattle.activations.proofs.call.lower_whole.Reads as reads
 use Rattle.activations.proofs.call.lower_whole.Lts as lts
 use Rattle.activations.proofs.call.lower_opened.Reads as lower-opened-reads
+
+between-requires : tie.Need-between-requires
+between-requires c κs = search needs
+
+slice-aggregate-lay-names : tie.Need-slice-aggregate-lay-names
+slice-aggregate-lay-names c = search needs
+
+lay-names-requires : tie.Need-lay-names-requires
+lay-names-requires c κs = (names-short _ _ _ _ (c .before .before .before .before .before .pre .0) (c .before .between .ensures), refl)
 
 -- src/call.rt:128:15
 slice-aggregate-lower-opened : tie.Need-slice-aggregate-lower-opened
@@ -44,7 +55,7 @@ slice-aggregate-lower-opened-9 c = search needs
 
 -- src/call.rt:127:5
 lower-opened-requires : tie.Need-lower-opened-requires
-lower-opened-requires c κs = (c .before .before .before .before .before .before .before .before .before .before .before .before .before .before .pre .0, c .before .before .before .before .before .before .before .before .before .before .before .before .before .before .pre .1, blank, scratch)
+lower-opened-requires c κs = (c .before .before .before .before .before .before .before .before .before .before .before .before .before .before .before .before .before .before .before .pre .0, c .before .before .before .before .before .before .before .before .before .before .before .before .before .before .before .before .before .before .before .pre .1, blank, scratch, tabled-as _ _ _ (c .before .before .before .before .before .before .before .before .before .before .before .before .before .lay-names .ensures .1) (c .before .before .before .before .before .before .before .before .before .before .before .before .before .before .before .between .ensures))
 
 -- src/call.rt:114:1
 same-length : tie.Need-same-length
@@ -62,6 +73,9 @@ pub lower-whole-spec : {M : Type 1} → statement M
 lower-whole-spec =
     tie.close
     (tie.spec
+    between-requires
+    slice-aggregate-lay-names
+    lay-names-requires
     slice-aggregate-lower-opened
     slice-aggregate-lower-opened-2
     slice-aggregate-lower-opened-3

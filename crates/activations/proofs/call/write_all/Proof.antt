@@ -23,6 +23,9 @@ slice-aggregate-put-sections-2 c = search needs
 put-sections-requires : tie.Need-put-sections-requires
 put-sections-requires c κs = c .before .before .before .before .before .before .before .before .before .before .before .before .before .before .before .before .before .before .before .before .pre
 
+between-requires : tie.Need-between-requires
+between-requires c κs = search needs
+
 -- src/call.rt:73:17
 slice-aggregate-finish : tie.Need-slice-aggregate-finish
 slice-aggregate-finish c = search needs
@@ -65,7 +68,7 @@ same-length-7 c = search needs
 
 -- src/call.rt:46:1
 returns : tie.Need-returns
-returns c = (λ p h B S. gives-written _ _ p _ _ _ _ _ (B .pack .names) (c .before .before .before .before .before .before .before .before .before .before .before .before .before .before .before .before .before .before .before .before .put-sections .ensures p h B S ∙ ap (render _ _) empty-buffers) (c .before .before .finish .ensures), gives-fits _ _ _ _ _ _ _ (c .before .before .finish .ensures))
+returns c = (λ p h B S. gives-written _ _ _ _ _ p _ _ _ _ _ h (B .pack .bytes) (c .before .before .before .before .before .before .between .ensures) (B .pack .names) (c .before .before .before .before .before .before .before .before .before .before .before .before .before .before .before .before .before .before .before .before .before .put-sections .ensures p h B S ∙ ap (render _ _) empty-buffers) (c .before .before .finish .ensures), gives-fits _ _ _ _ _ _ _ (c .before .before .finish .ensures))
 
 pub write-all-spec : {M : Type 1} → statement M
 write-all-spec =
@@ -74,6 +77,7 @@ write-all-spec =
     slice-aggregate-put-sections
     slice-aggregate-put-sections-2
     put-sections-requires
+    between-requires
     slice-aggregate-finish
     slice-aggregate-finish-2
     finish-requires

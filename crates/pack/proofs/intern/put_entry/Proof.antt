@@ -1,9 +1,25 @@
+use native.Mathlib.Omega.{arith}
+use Prim.Native.Nat.{ℕ}
 use mathlib.Core.Path.{_∙_, ap}
+use mathlib.Core.List.{List, _++_}
+use lib.ListN.{drop, length-take}
 use Rattle.wire.specs.Writer.{put, puts, swapped}
-use Rattle.pack.proofs.Interns.{entry-steps}
+use Rattle.pack.proofs.Interns.{entry-steps, noted-is}
 use borrow.Author.Needs.{needs}
 use Rattle.pack.proofs.intern.put_entry.Statement.{statement}
 use Rattle.pack.proofs.intern.put_entry.Tie as tie
+
+capped-requires : tie.Need-capped-requires
+capped-requires c κs = search needs
+
+slice-relend-prefix-note : tie.Need-slice-relend-prefix-note
+slice-relend-prefix-note c = search needs
+
+slice-aggregate-note : tie.Need-slice-aggregate-note
+slice-aggregate-note c = simp length-take (omega arith)
+
+note-requires : tie.Need-note-requires
+note-requires c κs = search needs
 
 turned-requires : tie.Need-turned-requires
 turned-requires c κs = search needs
@@ -25,16 +41,19 @@ same-length c = search needs
 
 returns : tie.Need-returns
 returns c o =
-    let d = c .before .before .before .before .before .before .before in
     c .turned2 .ensures _ o
     ∙ ap swapped (c .before .before .before .put-bytes .ensures o
-    ∙ ap (puts _) (d .put-byte .ensures o ∙ ap (put _) (d .before .turned .ensures o _)))
-    ∙ entry-steps _ _
+    ∙ ap (puts _) (c .before .before .before .before .before .before .before .put-byte .ensures o ∙ ap (put _) (c .before .before .before .before .before .before .before .before .turned .ensures o _)))
+    ∙ entry-steps _ _ _ (noted-is o (c .before .before .before .before .before .before .before .before .before .before .before .before .before .before .before .before .before .args .made .now) _ (c .before .before .before .before .before .before .before .before .before .before .before .before .before .before .before .before .before .args .n .now) (c .before .before .before .before .before .before .before .before .before .before .before .before .before .before .before .before .before .args .w) _ (c .before .before .before .before .before .before .before .before .before .before .before .before .before .before .capped .ensures) (ap (λ (l : List ℕ). l ++ drop (c .before .before .before .before .before .before .before .before .before .before .before .before .before .before .capped .result) (c .before .before .before .before .before .before .before .before .before .before .before .before .before .before .before .before .before .args .made .now)) (c .before .before .before .before .before .before .before .before .before .before .before .before .note .ensures)))
 
 pub put-entry-spec : {M : Type 1} → statement M
 put-entry-spec =
     tie.close
     (tie.spec
+    capped-requires
+    slice-relend-prefix-note
+    slice-aggregate-note
+    note-requires
     turned-requires
     cast-put-byte
     put-byte-requires

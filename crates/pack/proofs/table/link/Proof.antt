@@ -1,0 +1,79 @@
+use Prim.Native.Nat.{_+_, _*_, _-_}
+use mathlib.Core.Path.{_∙_, ap, refl}
+use lib.ListN.{length}
+use Rattle.pack.specs.Table.{putWord}
+use Rattle.pack.proofs.TableLaws.{linked-steps}
+use borrow.Author.Needs.{needs}
+use Rattle.pack.proofs.table.link.Statement.{statement}
+use Rattle.pack.proofs.table.link.Tie as tie
+
+word-requires : tie.Need-word-requires
+word-requires c κs = search needs
+
+sub-p : tie.Need-sub-p
+sub-p c = search needs
+
+mul-put-word : tie.Need-mul-put-word
+mul-put-word c = search needs
+
+add-put-word : tie.Need-add-put-word
+add-put-word c = search needs
+
+put-word-requires : tie.Need-put-word-requires
+put-word-requires c κs = search needs
+
+mul-put-word-2 : tie.Need-mul-put-word-2
+mul-put-word-2 c = search needs
+
+add-put-word-2 : tie.Need-add-put-word-2
+add-put-word-2 c = search needs
+
+add-put-word-3 : tie.Need-add-put-word-3
+add-put-word-3 c = search needs
+
+put-word-requires-2 : tie.Need-put-word-requires-2
+put-word-requires-2 c κs = search needs
+
+add-put-word-4 : tie.Need-add-put-word-4
+add-put-word-4 c = search needs
+
+put-word-requires-3 : tie.Need-put-word-requires-3
+put-word-requires-3 c κs = search needs
+
+add-put-word-5 : tie.Need-add-put-word-5
+add-put-word-5 c = search needs
+
+put-word-requires-4 : tie.Need-put-word-requires-4
+put-word-requires-4 c κs = search needs
+
+same-length : tie.Need-same-length
+same-length c = search needs
+
+returns : tie.Need-returns
+returns c =
+    let a = c .before .before .before .before .before .before .before .before .before .before .before .before .before .before .before .before .before .before .before .args in
+    c .before .before .put-word4 .ensures
+    ∙ ap (λ l. putWord l 0 (a .c + 1)) (c .before .before .before .before .before .before .put-word3 .ensures
+    ∙ ap (λ l. putWord l (a .h) (a .c + 1)) (c .before .before .before .before .before .before .before .before .before .before .put-word2 .ensures
+    ∙ ap (λ l. putWord l (8194 + 4 * a .c + 2) (length (a .t .now) - 77826)) (c .before .before .before .before .before .before .before .before .before .before .before .before .before .before .put-word .ensures)))
+    ∙ linked-steps (a .t .now) (a .c) (a .h) (c .before .before .before .before .before .before .before .before .before .before .before .before .before .before .before .before .word .result) (length (a .t .now) - 77826) (c .before .before .before .before .before .before .before .before .before .before .before .before .before .before .before .before .word .ensures .0) refl
+
+pub link-spec : {M : Type 1} → statement M
+link-spec =
+    tie.close
+    (tie.spec
+    word-requires
+    sub-p
+    mul-put-word
+    add-put-word
+    put-word-requires
+    mul-put-word-2
+    add-put-word-2
+    add-put-word-3
+    put-word-requires-2
+    add-put-word-4
+    put-word-requires-3
+    add-put-word-5
+    put-word-requires-4
+    same-length
+    returns)
