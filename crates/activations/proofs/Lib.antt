@@ -85,6 +85,4 @@ pub mod BroughtKnown
 pub mod OriginsKnown
 pub mod SectionsWritten
 pub mod Answered
-pub mod ByVerdict
-pub mod CallOpened
 pub mod OutcomeFits
