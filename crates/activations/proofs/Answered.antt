@@ -33,7 +33,7 @@ use Rattle.machines.specs.Sure.{numberIn}
 use Rattle.machines.specs.Tables.{namesPlaced}
 use Rattle.machine_rules.specs.Call.{finished}
 use Rattle.machines.proofs.Answered.{answers-as}
-use Rattle.machines.proofs.CallOpened.{scratch-empty}
+use Rattle.machines.proofs.CallScratch.{scratch-empty}
 use Rattle.machines.proofs.NamesPlaced.{names-few, section-read}
 use Rattle.machines.proofs.Opened.{names-stand, pack-known}
 use Rattle.machines.proofs.Walked.{ready}
@@ -55,17 +55,6 @@ use Rattle.activations.specs.ReportAt.{entryT, isRefusedT}
 use Rattle.activations.proofs.ActCounts.{acts-few}
 use Rattle.activations.proofs.ActsPlaced.{Placed, placed, placed-drawn, placed-fate}
 use Rattle.activations.proofs.ReportKnown.{accepted-known, reported-known}
-
--- a pack that is written leaves the report as it was
-written-quiet : (room : ℕ) (p : Package) (report : List ℕ) → report ≡ reportOf (written room p) report
-unfolding written sized reportOf
-written-quiet room p report = go (shorts (packageItems p)) (ltb maxBytes (length (encode p))) (ltb room (length (encode p)))
-  where
-    go : (a b c : Bool) → report ≡ reportOf (cond a (cond b (answers 8 0) (cond c (answers 9 (length (encode p))) (writes (encode p)))) (answers 8 0)) report
-    go true true c = refl
-    go true false true = refl
-    go true false false = refl
-    go false b c = refl
 
 module _ (s : List ℕ) (k : Pack) (p : Package) (h : Stands s k p) (bytes : Bytes s) (short : length s ≤ 65536) where
   few : 2 + 2 * length (p .names) ≤ length s

@@ -83,6 +83,5 @@ pub mod BroughtKnown
 pub mod OriginsKnown
 pub mod SectionsWritten
 pub mod Answered
-pub mod ByVerdict
-pub mod CallOpened
 pub mod OutcomeFits
+pub mod Unlowered

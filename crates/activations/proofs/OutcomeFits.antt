@@ -41,12 +41,17 @@ unfolding answered numberOf valueOf
 answered-fits room old full = (omega arith, omega arith)
 answered-fits room old (st co cm bs md) = sized-fits room (packOf old (drop textsFrom md) bs)
 
-pub gives-fits : (room : ℕ) (old : List ℕ) (z : State) (number value : ℕ) (output output′ : List ℕ) → Gives (answered room old z) number value output output′ → (number ≤ 9) × (value < 4294967296)
-gives-fits room old z number value output output′ g =
-    let f = answered-fits room old z in
+table-fits : (x : Outcome) (number value : ℕ) (output output′ : List ℕ) → InTable x → Gives x number value output output′ → (number ≤ 9) × (value < 4294967296)
+table-fits x number value output output′ f g =
     let n = g .number-is in
     let v = g .value-is in
     (omega (arith, f .0), omega (arith, f .1))
+
+pub gives-fits : (room : ℕ) (old : List ℕ) (z : State) (number value : ℕ) (output output′ : List ℕ) → Gives (answered room old z) number value output output′ → (number ≤ 9) × (value < 4294967296)
+gives-fits room old z number value output output′ g = table-fits (answered room old z) number value output output′ (answered-fits room old z) g
+
+pub copy-fits : (room : ℕ) (b : List ℕ) (number value : ℕ) (output output′ : List ℕ) → Gives (sized room b) number value output output′ → (number ≤ 9) × (value < 4294967296)
+copy-fits room b number value output output′ g = table-fits (sized room b) number value output output′ (sized-fits room b) g
 
 -- number and value in one word are what the C interface returns
 pub returned-as : (x : Outcome) (number value : ℕ) (output output′ report report′ : List ℕ) → Answers x number value output output′ report report′ → number * 4294967296 + value ≡ returned x

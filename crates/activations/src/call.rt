@@ -13,6 +13,7 @@ use machines::table::place_names;
 use pack::check::Verdict;
 use pack::check::read_pack;
 use pack::finish::Outcome;
+use pack::finish::copy_pack;
 use pack::finish::finish;
 use pack::intern::lay_names;
 use pack::record::Pack;
@@ -211,6 +212,20 @@ fn lower_apart(s: &[u8], x: Pack, output: &mut [u8], report: &mut [u8]) -> Outco
     lower_whole(s, x, output, report)
 }
 
+// A pack that was opened. One without activations stays as it is, and needs no scratch.
+fn lower_checked(s: &[u8], x: Pack, output: &mut [u8], report: &mut [u8]) -> Outcome
+    requires { ⌜ (length (now s) ≤ 65536) × OpenedAs (now s) x ⌝ }
+    ensures answers { λ r. ⌜ Answers (lowerActivations (now (s .entry)) (length (now (output .entry))) (length (now (report .entry)))) (r .number) (r .value) (now (output .entry)) (now (output .exit)) (now (report .entry)) (now (report .exit)) ⌝ }
+    ensures fits { λ r. ⌜ (r .number ≤ 9) × (r .value < 4294967296) ⌝ }
+{
+    let a = number(s, x.activations);
+    let count = a.value;
+    if count == 0 {
+        return copy_pack(s, output);
+    }
+    lower_apart(s, x, output, report)
+}
+
 // Lowers the activations of a pack: the lowered pack in `output`, or a report of what is refused in `report`.
 pub fn lower_activations(pack: &[u8], output: &mut [u8], report: &mut [u8]) -> Outcome
     ensures answers { λ r. ⌜ Answers (lowerActivations (now (pack .entry)) (length (now (output .entry))) (length (now (report .entry)))) (r .number) (r .value) (now (output .entry)) (now (output .exit)) (now (report .entry)) (now (report .exit)) ⌝ }
@@ -220,7 +235,7 @@ pub fn lower_activations(pack: &[u8], output: &mut [u8], report: &mut [u8]) -> O
     let k = opened.pack;
     let v = opened.verdict;
     match v {
-        Verdict::Whole => lower_apart(pack, k, output, report),
+        Verdict::Whole => lower_checked(pack, k, output, report),
         Verdict::TooLong => Outcome {
             number: 1,
             value: 65536,

@@ -40,16 +40,23 @@ use Rattle.machines.proofs.Opened.{entries-known, reported-known, writt
 pub answers-as : (x y : Outcome) (number value : ℕ) (output output′ report report′ : List ℕ) → x ≡ y → Answers x number value output output′ report report′ → Answers y number value output output′ report report′
 answers-as x y number value output output′ report report′ e a = record { gives = carried x y number value output output′ e (a .gives); report-is = a .report-is ∙ ap (λ (z : Outcome). reportOf z report) e }
 
--- a pack that is written leaves the report as it was
-written-quiet : (room : ℕ) (p : Package) (report : List ℕ) → report ≡ reportOf (written room p) report
-unfolding written sized reportOf
-written-quiet room p report = go (shorts (packageItems p)) (ltb maxBytes (length (encode p))) (ltb room (length (encode p)))
+-- a pack leaves the report as it was
+pub sized-quiet : (room : ℕ) (b report : List ℕ) → report ≡ reportOf (sized room b) report
+unfolding sized reportOf
+sized-quiet room b report = go (ltb maxBytes (length b)) (ltb room (length b))
   where
-    go : (a b c : Bool) → report ≡ reportOf (cond a (cond b (answers 8 0) (cond c (answers 9 (length (encode p))) (writes (encode p)))) (answers 8 0)) report
-    go true true c = refl
-    go true false true = refl
-    go true false false = refl
-    go false b c = refl
+    go : (x y : Bool) → report ≡ reportOf (cond x (answers 8 0) (cond y (answers 9 (length b)) (writes b))) report
+    go true y = refl
+    go false true = refl
+    go false false = refl
+
+pub written-quiet : (room : ℕ) (p : Package) (report : List ℕ) → report ≡ reportOf (written room p) report
+unfolding written reportOf
+written-quiet room p report = go (shorts (packageItems p))
+  where
+    go : (a : Bool) → report ≡ reportOf (cond a (sized room (encode p)) (answers 8 0)) report
+    go true = sized-quiet room (encode p) report
+    go false = refl
 
 module _ (s : List ℕ) (k : Pack) (p : Package) (h : Stands s k p) (bytes : Bytes s) (short : length s ≤ 65536)
     (spots₀ to₀ nodes₀ mats₀ ats₀ regs₀ spots to nodes mats ats regs : List ℕ) (e : Empty spots₀ to₀ nodes₀ mats₀ ats₀ regs₀)

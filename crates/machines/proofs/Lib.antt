@@ -90,6 +90,8 @@ pub mod TablesKnown
 pub mod CallLaws
 pub mod Opened
 pub mod Answered
-pub mod CallOpened
+pub mod ByVerdict
+pub mod Unlowered
+pub mod CallScratch
 pub mod LettersKept
 pub mod OutcomeSmall

@@ -47,7 +47,7 @@ use Rattle.machines.proofs.EntryLaws.{called-fits, entry-length, own-mo
 use Rattle.machines.proofs.Refused.{made-refusals}
 use Rattle.machines.proofs.MachineJudged.{judged, names-lettered}
 use Rattle.machines.proofs.PackCounts.{counted-many, pack-counts}
-use Rattle.machines.proofs.CallOpened.{scratch-empty, scratch-long}
+use Rattle.machines.proofs.CallScratch.{scratch-empty, scratch-long}
 use Rattle.machines.proofs.LettersKept.{letters-kept}
 
 -- an entry has the machine's own name and two more, each with letters of the scratch and of the pack

@@ -5,6 +5,7 @@ use mathlib.Core.Path.{_≡_}
 use lib.ListN.{length, getD}
 use Rattle.pack.specs.Names.{Name}
 use Rattle.pack.specs.Syntax.{Package}
+use Rattle.pack.specs.Read.{read, whole}
 use Rattle.pack.specs.Outcome.{Gives, Outcome, reportOf}
 use Rattle.pack.specs.Verdict.{Stands}
 use Rattle.pack.specs.declared.record.Pack.{Pack}
@@ -47,10 +48,11 @@ pub record Reports (s spots to mats regs ats : List ℕ) (names n : ℕ) : Type 
   pub es : ℕ → List ℕ
   pub enters : EntersAll ns s spots to mats regs ats n es
 
--- a pack that was opened: a package stands where the record says
+-- a pack that was opened: it reads as a package, which stands where the record says
 pub record OpenedAs (s : List ℕ) (k : Pack) : Type 0 where
-  pub whole : Package
-  pub stands : Stands s k whole
+  pub held : Package
+  pub reads : read s ≡ whole held
+  pub stands : Stands s k held
 
 -- a call's number, value and both buffers are an outcome's
 pub record Answers (x : Outcome) (number value : ℕ) (output output' report report' : List ℕ) : Type 0 where

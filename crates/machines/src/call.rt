@@ -15,6 +15,7 @@ use crate::table::place_names;
 use pack::check::Verdict;
 use pack::check::read_pack;
 use pack::finish::Outcome;
+use pack::finish::copy_pack;
 use pack::finish::finish;
 use pack::intern::lay_names;
 use pack::record::Pack;
@@ -288,6 +289,19 @@ fn lower_apart(s: &[u8], k: Pack, output: &mut [u8], report: &mut [u8]) -> Outco
     lower_whole(s, k, output, report)
 }
 
+// A pack that was opened. One without machines stays as it is, and needs no scratch.
+fn lower_checked(s: &[u8], k: Pack, output: &mut [u8], report: &mut [u8]) -> Outcome
+    requires { ⌜ (length (now s) ≤ 65536) × OpenedAs (now s) k ⌝ }
+    ensures { λ r. ⌜ Answers (lowerMachines (now (s .entry)) (length (now (output .entry))) (length (now (report .entry)))) (r .number) (r .value) (now (output .entry)) (now (output .exit)) (now (report .entry)) (now (report .exit)) ⌝ }
+{
+    let m = number(s, k.machines);
+    let count = m.value;
+    if count == 0 {
+        return copy_pack(s, output);
+    }
+    lower_apart(s, k, output, report)
+}
+
 // Lowers the machines of a pack: the lowered pack in `output`, or a report of what is refused in `report`.
 pub fn lower_state_machines(pack: &[u8], output: &mut [u8], report: &mut [u8]) -> Outcome
     ensures { λ r. ⌜ Answers (lowerMachines (now (pack .entry)) (length (now (output .entry))) (length (now (report .entry)))) (r .number) (r .value) (now (output .entry)) (now (output .exit)) (now (report .entry)) (now (report .exit)) ⌝ }
@@ -296,7 +310,7 @@ pub fn lower_state_machines(pack: &[u8], output: &mut [u8], report: &mut [u8]) -
     let k = opened.pack;
     let v = opened.verdict;
     match v {
-        Verdict::Whole => lower_apart(pack, k, output, report),
+        Verdict::Whole => lower_checked(pack, k, output, report),
         Verdict::TooLong => Outcome {
             number: 1,
             value: 65536,

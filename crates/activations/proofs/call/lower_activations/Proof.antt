@@ -1,5 +1,5 @@
-use Rattle.activations.proofs.ByVerdict.{opened}
-use Rattle.activations.proofs.CallOpened.{answers-whole, bytes-after, ends-early, is-deep, is-illegal, too-long}
+use Rattle.machines.proofs.ByVerdict.{bytes-after, ends-early, is-deep, is-illegal, opened, too-long}
+use Rattle.activation_rules.specs.Call.{lowerActivations}
 use borrow.Author.Needs.{needs}
 use Rattle.activations.proofs.call.lower_activations.Statement.{statement}
 use Rattle.activations.proofs.call.lower_activations.Tie as tie
@@ -10,8 +10,8 @@ read-pack-requires c κs = search needs
 enum-told : tie.Need-enum-told
 enum-told c = search needs
 
-lower-apart-requires : tie.Need-lower-apart-requires
-lower-apart-requires c κs = opened _ _ (c .before .before .before .before .before .read-pack .ensures .0) _ (c .before .before .before .before .before .read-pack .ensures .1) (c .before .before .enum-told .given .1)
+lower-checked-requires : tie.Need-lower-checked-requires
+lower-checked-requires c κs = opened _ _ (c .before .before .before .before .before .read-pack .ensures .0) _ (c .before .before .before .before .before .read-pack .ensures .1) (c .before .before .enum-told .given .1)
 
 enum-told-2 : tie.Need-enum-told-2
 enum-told-2 c = search needs
@@ -35,22 +35,27 @@ same-length-2 : tie.Need-same-length-2
 same-length-2 c = search needs
 
 returns : tie.Need-returns
-returns c = (answers-whole _ _ (c .before .before .before .before .before .before .before .before .before .before .read-pack .ensures .0) _ (c .before .before .before .before .before .before .before .before .before .before .read-pack .ensures .1) (c .before .before .before .before .before .before .before .enum-told .given .1) _ _ _ _ _ _ (c .before .before .before .before .lower-apart .ensures .0), c .before .before .before .before .lower-apart .ensures .1)
+returns c = c .before .before .before .before .lower-checked .ensures
 
 returns-2 : tie.Need-returns-2
-returns-2 c = too-long _ _ (c .before .before .before .read-pack .ensures .0) _ _ (c .enum-told2 .given .1)
+unfolding lowerActivations
+returns-2 c = too-long _ _ (c .before .before .before .read-pack .ensures .0) _ _ _ (c .enum-told2 .given .1)
 
 returns-3 : tie.Need-returns-3
-returns-3 c = ends-early _ _ (c .before .before .before .read-pack .ensures .0) _ _ (c .enum-told3 .given .1)
+unfolding lowerActivations
+returns-3 c = ends-early _ _ (c .before .before .before .read-pack .ensures .0) _ _ _ (c .enum-told3 .given .1)
 
 returns-4 : tie.Need-returns-4
-returns-4 c = is-illegal _ _ (c .before .before .before .before .read-pack .ensures .0) _ _ _ (c .before .v .given .1)
+unfolding lowerActivations
+returns-4 c = is-illegal _ _ (c .before .before .before .before .read-pack .ensures .0) _ _ _ _ (c .before .v .given .1)
 
 returns-5 : tie.Need-returns-5
-returns-5 c = is-deep _ _ (c .before .before .before .before .read-pack .ensures .0) _ _ _ (c .before .v2 .given .1)
+unfolding lowerActivations
+returns-5 c = is-deep _ _ (c .before .before .before .before .read-pack .ensures .0) _ _ _ _ (c .before .v2 .given .1)
 
 returns-6 : tie.Need-returns-6
-returns-6 c = bytes-after _ _ (c .before .before .before .before .read-pack .ensures .0) _ _ _ (c .before .v3 .given .1)
+unfolding lowerActivations
+returns-6 c = bytes-after _ _ (c .before .before .before .before .read-pack .ensures .0) _ _ _ _ (c .before .v3 .given .1)
 
 pub lower-activations-spec : {M : Type 1} → statement M
 lower-activations-spec =
@@ -58,7 +63,7 @@ lower-activations-spec =
     (tie.spec
     read-pack-requires
     enum-told
-    lower-apart-requires
+    lower-checked-requires
     enum-told-2
     enum-told-3
     enum-known-v

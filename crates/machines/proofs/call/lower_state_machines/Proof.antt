@@ -1,4 +1,5 @@
-use Rattle.machines.proofs.CallOpened.{answers-whole, bytes-after, ends-early, is-deep, is-illegal, opened, too-long}
+use Rattle.machine_rules.specs.Call.{lowerMachines}
+use Rattle.machines.proofs.ByVerdict.{bytes-after, ends-early, is-deep, is-illegal, opened, too-long}
 use borrow.Author.Needs.{needs}
 use Rattle.machines.proofs.call.lower_state_machines.Statement.{statement}
 use Rattle.machines.proofs.call.lower_state_machines.Tie as tie
@@ -9,8 +10,8 @@ read-pack-requires c κs = search needs
 enum-told : tie.Need-enum-told
 enum-told c = search needs
 
-lower-apart-requires : tie.Need-lower-apart-requires
-lower-apart-requires c κs = opened _ _ (c .before .before .before .before .before .read-pack .ensures .0) _ (c .before .before .before .before .before .read-pack .ensures .1) (c .before .before .enum-told .given .1)
+lower-checked-requires : tie.Need-lower-checked-requires
+lower-checked-requires c κs = opened _ _ (c .before .before .before .before .before .read-pack .ensures .0) _ (c .before .before .before .before .before .read-pack .ensures .1) (c .before .before .enum-told .given .1)
 
 enum-told-2 : tie.Need-enum-told-2
 enum-told-2 c = search needs
@@ -34,22 +35,27 @@ same-length-2 : tie.Need-same-length-2
 same-length-2 c = search needs
 
 returns : tie.Need-returns
-returns c = answers-whole _ _ (c .before .before .before .before .before .before .before .before .before .before .read-pack .ensures .0) _ (c .before .before .before .before .before .before .before .before .before .before .read-pack .ensures .1) (c .before .before .before .before .before .before .before .enum-told .given .1) _ _ _ _ _ _ (c .before .before .before .before .lower-apart .ensures)
+returns c = c .before .before .before .before .lower-checked .ensures
 
 returns-2 : tie.Need-returns-2
-returns-2 c = too-long _ _ (c .before .before .before .read-pack .ensures .0) _ _ (c .enum-told2 .given .1)
+unfolding lowerMachines
+returns-2 c = too-long _ _ (c .before .before .before .read-pack .ensures .0) _ _ _ (c .enum-told2 .given .1) .0
 
 returns-3 : tie.Need-returns-3
-returns-3 c = ends-early _ _ (c .before .before .before .read-pack .ensures .0) _ _ (c .enum-told3 .given .1)
+unfolding lowerMachines
+returns-3 c = ends-early _ _ (c .before .before .before .read-pack .ensures .0) _ _ _ (c .enum-told3 .given .1) .0
 
 returns-4 : tie.Need-returns-4
-returns-4 c = is-illegal _ _ (c .before .before .before .before .read-pack .ensures .0) _ _ _ (c .before .v .given .1)
+unfolding lowerMachines
+returns-4 c = is-illegal _ _ (c .before .before .before .before .read-pack .ensures .0) _ _ _ _ (c .before .v .given .1) .0
 
 returns-5 : tie.Need-returns-5
-returns-5 c = is-deep _ _ (c .before .before .before .before .read-pack .ensures .0) _ _ _ (c .before .v2 .given .1)
+unfolding lowerMachines
+returns-5 c = is-deep _ _ (c .before .before .before .before .read-pack .ensures .0) _ _ _ _ (c .before .v2 .given .1) .0
 
 returns-6 : tie.Need-returns-6
-returns-6 c = bytes-after _ _ (c .before .before .before .before .read-pack .ensures .0) _ _ _ (c .before .v3 .given .1)
+unfolding lowerMachines
+returns-6 c = bytes-after _ _ (c .before .before .before .before .read-pack .ensures .0) _ _ _ _ (c .before .v3 .given .1) .0
 
 pub lower-state-machines-spec : {M : Type 1} → statement M
 lower-state-machines-spec =
@@ -57,7 +63,7 @@ lower-state-machines-spec =
     (tie.spec
     read-pack-requires
     enum-told
-    lower-apart-requires
+    lower-checked-requires
     enum-told-2
     enum-told-3
     enum-known-v

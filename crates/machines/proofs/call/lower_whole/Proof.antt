@@ -1,4 +1,4 @@
-use Rattle.machines.proofs.CallOpened.{scratch-empty, scratch-ends, scratch-long}
+use Rattle.machines.proofs.CallScratch.{scratch-empty, scratch-ends, scratch-long}
 use borrow.Author.Needs.{needs}
 use Rattle.machines.proofs.call.lower_whole.Statement.{statement}
 use Rattle.machines.proofs.call.lower_whole.Tie as tie
