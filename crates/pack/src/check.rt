@@ -1,5 +1,5 @@
 // The check: what a byte slice is as a pack, and where its sections stand.
-use crate::names::skip_names;
+use crate::cursor::opening;
 use crate::record::Pack;
 use crate::sections::then_activations;
 use crate::sections::then_enums;
@@ -78,7 +78,7 @@ fn read_sections(s: &[u8]) -> Opened
     ensures { λ r. ⌜ r .pack ≡ sectionsOf (now (s .entry)) ⌝ }
 {
     let names = name_count(s);
-    let a = skip_names(s, 0);
+    let a = opening(s);
     let b = then_enums(s, names, a);
     let c = then_nodes(s, names, b);
     let d = then_machines(s, names, c);

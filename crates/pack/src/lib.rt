@@ -2,6 +2,7 @@
 pub mod record; // the pack record, with the limits
 pub mod distinct; // names in order, to tell repeated ones
 pub mod names; // the name section
+pub mod cursor; // lent bytes with an offset in them
 pub mod types; // types
 pub mod exprs; // expressions
 pub mod parts; // ports, equations, transitions

@@ -10,8 +10,8 @@ use Rattle.pack.proofs.check.read_sections.Tie as tie
 name-count-requires : tie.Need-name-count-requires
 name-count-requires c κs = search needs
 
-skip-names-requires : tie.Need-skip-names-requires
-skip-names-requires c κs = search needs
+opening-requires : tie.Need-opening-requires
+opening-requires c κs = search needs
 
 then-enums-requires : tie.Need-then-enums-requires
 then-enums-requires c κs = search needs
@@ -51,7 +51,7 @@ judged-requires c κs = search needs
 
 returns : tie.Need-returns
 returns c =
-    let w : Went (c .before .before .before .before .before .before .before .before .before .before .before .before .before .before .before .args .s .now) (c .before .before .before .before .before .before .before .before .before .before .before .before .before .name-count .result) (c .before .before .before .before .before .before .before .before .before .before .before .before .skip-names .result) (c .before .before .before .before .before .before .before .before .before .before .before .then-enums .result) (c .before .before .before .before .before .before .before .before .before .before .then-nodes .result) (c .before .before .before .before .before .before .before .before .before .then-machines .result) (c .before .before .before .before .before .before .before .before .then-activations .result) (c .before .before .before .before .before .before .before .then-origins .result) = record { few = c .before .before .before .before .before .before .before .before .before .before .before .before .before .name-count .ensures; past-names = c .before .before .before .before .before .before .before .before .before .before .before .before .skip-names .ensures; past-enums = c .before .before .before .before .before .before .before .before .before .before .before .then-enums .ensures; past-nodes = c .before .before .before .before .before .before .before .before .before .before .then-nodes .ensures; past-machines = c .before .before .before .before .before .before .before .before .before .then-machines .ensures; past-activations = c .before .before .before .before .before .before .before .before .then-activations .ensures; past-origins = c .before .before .before .before .before .before .before .then-origins .ensures } in (
+    let w : Went (c .before .before .before .before .before .before .before .before .before .before .before .before .before .before .before .args .s .now) (c .before .before .before .before .before .before .before .before .before .before .before .before .before .name-count .result) (c .before .before .before .before .before .before .before .before .before .before .before .before .opening .result) (c .before .before .before .before .before .before .before .before .before .before .before .then-enums .result) (c .before .before .before .before .before .before .before .before .before .before .then-nodes .result) (c .before .before .before .before .before .before .before .before .before .then-machines .result) (c .before .before .before .before .before .before .before .before .then-activations .result) (c .before .before .before .before .before .before .before .then-origins .result) = record { few = c .before .before .before .before .before .before .before .before .before .before .before .before .before .name-count .ensures; past-names = c .before .before .before .before .before .before .before .before .before .before .before .before .opening .ensures; past-enums = c .before .before .before .before .before .before .before .before .before .before .before .then-enums .ensures; past-nodes = c .before .before .before .before .before .before .before .before .before .before .then-nodes .ensures; past-machines = c .before .before .before .before .before .before .before .before .before .then-machines .ensures; past-activations = c .before .before .before .before .before .before .before .before .then-activations .ensures; past-origins = c .before .before .before .before .before .before .before .then-origins .ensures } in (
       c .judged .ensures ∙ ap (λ (r : Skipped). judgedOf r (length (c .before .before .before .before .before .before .before .before .before .before .before .before .before .before .before .args .s .now))) (went-skip _ _ _ _ _ _ _ _ w),
       went-record _ _ _ _ _ _ _ _ w _ refl (c .before .before .before .before .before .before .offset .ensures) (c .before .before .before .before .before .offset2 .ensures) (c .before .before .before .before .offset3 .ensures) (c .before .before .before .offset4 .ensures) (c .before .before .offset5 .ensures) (c .before .offset6 .ensures),
     )
@@ -61,7 +61,7 @@ read-sections-spec =
     tie.close
     (tie.spec
     name-count-requires
-    skip-names-requires
+    opening-requires
     then-enums-requires
     then-nodes-requires
     then-machines-requires

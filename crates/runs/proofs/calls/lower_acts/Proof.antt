@@ -15,7 +15,10 @@ same-length-2 : tie.Need-same-length-2
 same-length-2 c = search needs
 
 returns : tie.Need-returns
-returns c e = activation-bytes-run ℕ (c .before .before .before .before .before .before .before .before .before .before .args .pack .now) _ _ _ _ _ _ (λ i. omega (arith, c .before .before .before .before .before .before .before .before .before .shared-slice-known .given i)) (c .before .before .before .before .lower-activations .ensures .0) e
+returns c = (
+  c .before .before .before .before .lower-activations .ensures .0,
+  λ e. activation-bytes-run ℕ (c .before .before .before .before .before .before .before .before .before .before .args .pack .now) _ _ _ _ _ _ (λ i. omega (arith, c .before .before .before .before .before .before .before .before .before .shared-slice-known .given i)) (c .before .before .before .before .lower-activations .ensures .0) e,
+)
 
 pub lower-acts-spec : {M : Type 1} → statement M
 lower-acts-spec =

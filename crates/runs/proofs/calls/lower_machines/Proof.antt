@@ -15,7 +15,10 @@ same-length-2 : tie.Need-same-length-2
 same-length-2 c = search needs
 
 returns : tie.Need-returns
-returns c e = machine-bytes-run ℕ (c .before .before .before .before .before .before .before .before .before .before .args .pack .now) _ _ _ _ _ _ (λ i. omega (arith, c .before .before .before .before .before .before .before .before .before .shared-slice-known .given i)) (c .before .before .before .before .lower-state-machines .ensures) e
+returns c = (
+  c .before .before .before .before .lower-state-machines .ensures,
+  λ e. machine-bytes-run ℕ (c .before .before .before .before .before .before .before .before .before .before .args .pack .now) _ _ _ _ _ _ (λ i. omega (arith, c .before .before .before .before .before .before .before .before .before .shared-slice-known .given i)) (c .before .before .before .before .lower-state-machines .ensures) e,
+)
 
 pub lower-machines-spec : {M : Type 1} → statement M
 lower-machines-spec =
