@@ -37,6 +37,16 @@ pub begins-none : (d : List ℕ) → d ≡ begins [] d
 unfolding begins
 begins-none d = refl
 
+-- the answer by size, of a pack that is not too long
+module _ (b : List ℕ) (room : ℕ) (h : length b ≤ 65536) where
+  pub sized-nine : room < length b → sized room b ≡ answers 9 (length b)
+  unfolding sized maxBytes
+  sized-nine g = rw (le-ltb 65536 (length b) h, lt-ltb room (length b) g)
+
+  pub sized-zero : length b ≤ room → sized room b ≡ writes b
+  unfolding sized maxBytes
+  sized-zero g = rw (le-ltb 65536 (length b) h, le-ltb room (length b) g)
+
 -- the answer by size: k is the pack's length, or 65537 where that is less
 module _ (a b c : List ℕ) (room k : ℕ) (size : k ≡ min (2 + length a + length b + length c) 65537) where
   whole-length : length (packOf a b c) ≡ 2 + length a + length b + length c
@@ -48,16 +58,12 @@ module _ (a b c : List ℕ) (room k : ℕ) (size : k ≡ min (2 + length a + len
   sized-large h = rw (lt-ltb 65536 (length (packOf a b c)) (omega (arith, whole-length)))
 
   pub sized-short : k ≤ 65536 → room < k → sized room (packOf a b c) ≡ answers 9 k
-  unfolding sized maxBytes
   sized-short h g =
       let e : length (packOf a b c) ≡ k = omega (arith, whole-length) in
-      rw (e, le-ltb 65536 k h, lt-ltb room k g)
+      sized-nine (packOf a b c) room (omega arith) (omega arith) ∙ ap (answers 9) e
 
   pub sized-fits : k ≤ 65536 → k ≤ room → sized room (packOf a b c) ≡ writes (packOf a b c)
-  unfolding sized maxBytes
-  sized-fits h g =
-      let e : length (packOf a b c) ≡ k = omega (arith, whole-length) in
-      rw (e, le-ltb 65536 k h, le-ltb room k g)
+  sized-fits h g = sized-zero (packOf a b c) room (omega (arith, whole-length)) (omega (arith, whole-length))
 
   pub sized-value : k ≤ 65536 → k ≡ length (packOf a b c)
   sized-value h = omega (arith, whole-length)

@@ -14,6 +14,7 @@ pub mod PartFormats
 pub mod Counts
 pub mod RoundTrip
 pub mod WrittenBack
+pub mod Unchanged
 pub mod Copies
 pub mod Octets
 pub mod RoundTripAt

@@ -96,3 +96,21 @@ pub fn finish(old: &[u8], made: &[u8], body: &[u8], w: Writer, out: &mut [u8]) -
     let b = capped(m, 0, TEXTS);
     copy_out(old, &made[b..m], &body[..n], out)
 }
+
+// A pack that stays as it is, copied out where it fits.
+pub fn copy_pack(s: &[u8], out: &mut [u8]) -> Outcome
+    requires { ⌜ length (now s) ≤ 65536 ⌝ }
+    ensures { λ r. ⌜ Gives (sized (length (now (out .entry))) (now (s .entry))) (r .number) (r .value) (now (out .entry)) (now (out .exit)) ⌝ }
+{
+    if out.len() < s.len() {
+        return Outcome {
+            number: 9,
+            value: s.len() as u64,
+        };
+    }
+    append(s, out, 0);
+    Outcome {
+        number: 0,
+        value: s.len() as u64,
+    }
+}
