@@ -1,5 +1,4 @@
 pub mod NameLaws
-pub mod OrderLaws
 pub mod TypeLaws
 pub mod ExprLaws
 pub mod NodeLaws
@@ -20,6 +19,7 @@ pub mod Octets
 pub mod RoundTripAt
 pub mod TableIndex
 pub mod Interns
+pub mod NamesTabled
 pub mod TableLaws
 pub mod Written
 pub mod Finished

@@ -106,7 +106,7 @@ unfolding rawEnd
 rawEnd-more s zero at = refl
 rawEnd-more s (suc n) at = rawEnd-more s n (at + 1 + getD s at 0)
 
-rawNames-more : (s : List ℕ) (n at : ℕ) → rawNames s (suc n) at ≡ rawNames s n at ++ rawName s (rawEnd s n at) ∷ []
+pub rawNames-more : (s : List ℕ) (n at : ℕ) → rawNames s (suc n) at ≡ rawNames s n at ++ rawName s (rawEnd s n at) ∷ []
 unfolding rawNames rawEnd
 rawNames-more s zero at = refl
 rawNames-more s (suc n) at = ap (λ (l : List (List ℕ)). rawName s at ∷ l) (rawNames-more s n (at + 1 + getD s at 0))

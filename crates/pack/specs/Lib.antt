@@ -10,7 +10,6 @@ pub mod Intern
 pub mod Report
 pub mod Outcome
 pub mod RawNames
-pub mod Distinct
 pub mod Heads
 pub mod Nodes
 pub mod Verdict

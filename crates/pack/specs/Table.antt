@@ -1,8 +1,9 @@
 -- Tables of names: names one after the other, each after its length byte; and the same behind an index of heads and links, so
 -- that a name is found without looking at all others.
-use Prim.Native.Nat.{ℕ, zero, suc, _+_, _*_, _-_, _/_, _%_}
+use Prim.Native.Nat.{ℕ, zero, suc, _+_, _*_, _-_, _/_, _%_, _≤_}
 use mathlib.Core.Bool.{Bool, true, false, cond, _&&_}
 use mathlib.Core.List.{List, [], _∷_, _++_}
+use mathlib.Core.Path.{_≡_}
 use lib.ListN.{length, take, drop, getD, set, replicate}
 use lib.Dec.{ltb, leb}
 use Rattle.pack.specs.Names.{Name, eqName}
@@ -111,3 +112,7 @@ entered (n ∷ ns) t = entered ns (enter n t)
 -- the table of names
 unfoldable pub tabled : List Name → List ℕ
 tabled ns = entered ns blank
+
+-- a buffer with room for a table of any pack's names is blank, and the pack s is no longer than a pack may be
+unfoldable pub Roomy : List ℕ → List ℕ → Type 0
+Roomy s t = textsFrom + 65536 ≤ length t → (length s ≤ 65536) × (t ≡ replicate (textsFrom + 65536) 0)

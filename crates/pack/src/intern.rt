@@ -95,7 +95,7 @@ pub fn start() -> Writer
 }
 
 // A name more in the table of new names, after its length byte.
-fn put_entry(n: &[u8], made: &mut [u8], w: Writer) -> Writer
+pub fn put_entry(n: &[u8], made: &mut [u8], w: Writer) -> Writer
     requires { ⌜ length (now n) ≤ 255 ⌝ }
     ensures { λ r. ⌜ ((o : List ℕ) → stateOf o (now (made .exit)) r ≡ putEntry (now (n .entry)) (stateOf o (now (made .entry)) w)) ⌝ }
 {

@@ -1,6 +1,5 @@
 // The pack format: what a pack is, read, checked and written.
 pub mod record; // the pack record, with the limits
-pub mod distinct; // names in order, to tell repeated ones
 pub mod names; // the name section
 pub mod cursor; // lent bytes with an offset in them
 pub mod types; // types

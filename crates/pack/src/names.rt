@@ -1,23 +1,26 @@
 // The name section.
-use crate::distinct::listed;
-use crate::distinct::reach;
-use crate::distinct::rising;
-use crate::distinct::sorted;
+use crate::intern::Found;
+use crate::intern::put_entry;
+use crate::intern::start;
+use crate::record::Pack;
+use crate::table::ROOM;
+use crate::table::seek_name;
 use wire::answer::Read;
 use wire::answer::Skipped;
 use wire::answer::past;
 use wire::number::read_byte;
 use wire::number::read_u16;
+use wire::writer::Writer;
+use wire::writer::capped;
 ghost use mathlib.Core.Path.{_≡_};
-ghost use mathlib.Core.Bool.{cond, false};
 ghost use mathlib.Core.List.{[]};
 ghost use Prim.Native.Nat.{_+_, _≤_};
-ghost use lib.ListN.{length, getD};
+ghost use lib.ListN.{length, getD, take};
 ghost use Rattle.wire.specs.Code.{readOf, skip};
 ghost use Rattle.pack.specs.Names.{eqName};
 ghost use Rattle.pack.specs.Read.{nameByte, char, size, name, namesAfter, nameSection};
-ghost use Rattle.pack.specs.RawNames.{agree, rawName, Inside, oneOf};
-ghost use Rattle.pack.specs.Distinct.{Rising, listedAt};
+ghost use Rattle.pack.specs.RawNames.{agree, rawName, rawNames, Inside, oneOf};
+ghost use Rattle.pack.specs.Table.{Roomy, isMissing, seek, tabled};
 
 // A byte of a name: a letter, a digit or an underscore.
 pub fn name_byte(b: usize) -> bool
@@ -142,109 +145,72 @@ pub fn seen(s: &[u8], x: usize, count: usize, at: usize) -> bool
     false
 }
 
-// Whether the name at p is listed as all before it are: it is then none of them.
-fn listed_too(all: bool, ord: &[u16], known: usize, rank: &[u16], p: usize) -> bool
-    ensures { λ r. ⌜ r ≡ cond all (listedAt (now (ord .entry)) known (now (rank .entry)) p) false ⌝ }
+// Whether x is none of the names of the table that w has laid in t.
+fn is_new(t: &[u8], w: Writer, x: &[u8]) -> bool
+    ensures { λ r. ⌜ r ≡ isMissing (seek (take (w .made) (now (t .entry))) (now (x .entry))) ⌝ }
 {
-    if all {
-        listed(ord, known, rank, p)
-    } else {
-        false
+    let end = capped(t.len(), 0, w.made);
+    let f = seek_name(&t[..end], x);
+    match f {
+        Found::At(_) => false,
+        Found::Missing(_) => true,
     }
 }
 
-// Whether the name at p is one of the n from q on, where it is not known to be new.
-fn again(s: &[u8], p: usize, n: usize, q: usize, new: bool) -> bool
-    requires { ⌜ (p + 1 + getD (now s) p 0 ≤ length (now s)) × Inside (now s) n q ⌝ }
-    ensures { λ r. ⌜ r ≡ cond new false (oneOf (now (s .entry)) p n q) ⌝ }
+// Whether the name from p to `to` is one of the n from q on: by the table of those, where t has room for one.
+fn repeated(s: &[u8], p: usize, to: usize, n: usize, q: usize, t: &[u8], w: Writer) -> bool
+    requires { ⌜ (to ≡ p + 1 + getD (now s) p 0) × (to ≤ length (now s)) × Inside (now s) n q × (143362 ≤ length (now t) → take (w .made) (now t) ≡ tabled (rawNames (now s) n q)) ⌝ }
+    ensures { λ r. ⌜ r ≡ oneOf (now (s .entry)) p n q ⌝ }
 {
-    if new { false } else { seen(s, p, n, q) }
+    if t.len() < ROOM {
+        return seen(s, p, n, q);
+    }
+    let b = p + 1;
+    !is_new(t, w, &s[b..to])
 }
 
-// The count names from q on, none twice. A name that is listed, as all before it are, needs no look at them.
-fn read_names(s: &[u8], q: usize, count: usize, ord: &[u16], known: usize, rank: &[u16]) -> Skipped
-    requires { ⌜ Rising (now s) (now ord) known ⌝ }
+// The count names from q on, none twice. Where t has room for a table of names, each is sought there, and entered.
+fn read_names(s: &[u8], q: usize, count: usize, t: &mut [u8]) -> Skipped
+    requires { ⌜ Roomy (now s) (now t) ⌝ }
     ensures { λ r. ⌜ r ≡ skip (namesAfter (now (s .entry)) [] count q) ⌝ }
 {
     let mut n: usize = 0;
     let mut p = q;
-    let mut all = true;
+    let mut w = start();
     while n < count {
         let e = skip_name(s, p);
         let Skipped::To(next) = e else {
             return e;
         };
-        all = listed_too(all, ord, known, rank, p);
-        if again(s, p, n, q, all) {
+        if repeated(s, p, next, n, q, t, w) {
             return Skipped::Illegal(p);
         }
+        let b = p + 1;
+        w = put_entry(&s[b..next], t, w);
         n += 1;
         p = next;
     }
     Skipped::To(p)
 }
 
-// The same with no order.
+// The same without a table, each name looked for among those before it.
 fn few_names(s: &[u8], q: usize, count: usize) -> Skipped
     ensures { λ r. ⌜ r ≡ skip (namesAfter (now (s .entry)) [] count q) ⌝ }
 {
-    let none = [0u16; 1];
-    read_names(s, q, count, &none, 0, &none)
+    let mut none = [0u8; 1];
+    read_names(s, q, count, &mut none)
 }
 
-// The same for names that end within 8,192 bytes: small slices are quick to clear.
-fn some_names(s: &[u8], q: usize, count: usize) -> Skipped
-    ensures { λ r. ⌜ r ≡ skip (namesAfter (now (s .entry)) [] count q) ⌝ }
-{
-    let mut ord = [0u16; 4096];
-    let mut other = [0u16; 4096];
-    let mut rank = [0u16; 4096];
-    let n = sorted(s, q, count, &mut other, &mut ord);
-    let known = rising(s, &other, n, &mut ord, &mut rank);
-    read_names(s, q, count, &ord, known, &rank)
-}
-
-// The same for the names of any pack.
+// The same with a table of its own.
 fn many_names(s: &[u8], q: usize, count: usize) -> Skipped
+    requires { ⌜ length (now s) ≤ 65536 ⌝ }
     ensures { λ r. ⌜ r ≡ skip (namesAfter (now (s .entry)) [] count q) ⌝ }
 {
-    let mut ord = [0u16; 32768];
-    let mut other = [0u16; 32768];
-    let mut rank = [0u16; 32768];
-    let n = sorted(s, q, count, &mut other, &mut ord);
-    let known = rising(s, &other, n, &mut ord, &mut rank);
-    read_names(s, q, count, &ord, known, &rank)
+    let mut t = [0u8; 143362];
+    read_names(s, q, count, &mut t)
 }
 
-// The count names from q on, in the way that is quick for so many.
-fn names_to(s: &[u8], q: usize, count: usize) -> Skipped
-    ensures { λ r. ⌜ r ≡ skip (namesAfter (now (s .entry)) [] count q) ⌝ }
-{
-    if count < 32 {
-        return few_names(s, q, count);
-    }
-    if reach(s, q, count) < 8192 {
-        return some_names(s, q, count);
-    }
-    many_names(s, q, count)
-}
-
-// The same, after a look at the first of many names: where those are refused, the others need no order.
-fn all_names(s: &[u8], q: usize, count: usize) -> Skipped
-    ensures { λ r. ⌜ r ≡ skip (namesAfter (now (s .entry)) [] count q) ⌝ }
-{
-    let mut m: usize = 32;
-    while m < count / 8 {
-        let r = names_to(s, q, m);
-        let Skipped::To(_) = r else {
-            return r;
-        };
-        m *= 8;
-    }
-    names_to(s, q, count)
-}
-
-// The name section: no name twice.
+// The name section: no name twice. A table is laid only for names that are many.
 pub fn skip_names(s: &[u8], at: usize) -> Skipped
     ensures { λ r. ⌜ r ≡ skip (nameSection (now (s .entry)) at) ⌝ }
 {
@@ -256,5 +222,11 @@ pub fn skip_names(s: &[u8], at: usize) -> Skipped
     else {
         return past(t);
     };
-    all_names(s, q, count)
+    if Pack::BYTES < s.len() {
+        return few_names(s, q, count);
+    }
+    if count < 32 {
+        return few_names(s, q, count);
+    }
+    many_names(s, q, count)
 }

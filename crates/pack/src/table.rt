@@ -15,6 +15,8 @@ ghost use Rattle.pack.specs.Table.{word as wordIn, putWord, hash as hash
 const ROWS: usize = 17408;
 // Where the names begin.
 pub const TEXTS: usize = 77826;
+// What a table of any pack's names takes.
+pub const ROOM: usize = 143362;
 
 // A byte of t.
 fn byte_at(t: &[u8], i: usize) -> usize
@@ -126,7 +128,7 @@ fn has_row(t: &[u8], n: &[u8]) -> bool
     if t.len() < TEXTS {
         return false;
     }
-    if TEXTS + 65536 <= t.len() {
+    if ROOM <= t.len() {
         return false;
     }
     let f = seek_name(t, n);

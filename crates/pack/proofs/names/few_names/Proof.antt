@@ -1,4 +1,6 @@
-use Rattle.pack.proofs.OrderLaws.{rising-none}
+use native.Mathlib.Omega.{arith}
+use mathlib.Core.Path.{refl}
+use Rattle.pack.specs.Table.{Roomy, textsFrom}
 use borrow.Author.Needs.{needs}
 use Rattle.pack.proofs.names.few_names.Statement.{statement}
 use Rattle.pack.proofs.names.few_names.Tie as tie
@@ -6,16 +8,12 @@ use Rattle.pack.proofs.names.few_names.Tie as tie
 slice-aggregate-read-names : tie.Need-slice-aggregate-read-names
 slice-aggregate-read-names c = search needs
 
-slice-aggregate-read-names-2 : tie.Need-slice-aggregate-read-names-2
-slice-aggregate-read-names-2 c = search needs
-
 read-names-requires : tie.Need-read-names-requires
-read-names-requires c κs = rising-none _ _
+unfolding Roomy textsFrom
+read-names-requires c κs l = absurd (omega arith)
 
 returns : tie.Need-returns
 returns c = search needs
 
 pub few-names-spec : {M : Type 1} → statement M
-few-names-spec =
-    tie.close
-    (tie.spec slice-aggregate-read-names slice-aggregate-read-names-2 read-names-requires returns)
+few-names-spec = tie.close (tie.spec slice-aggregate-read-names read-names-requires returns)

@@ -17,9 +17,6 @@ returns c = let w = c .before .word .ensures .0 in row-many _ _ (let g = c .if1 
 returns-2 : tie.Need-returns-2
 returns-2 c = let w = c .before .before .word .ensures .0 in row-short _ _ (let g = c .before .if1 .left in omega arith) (c .if2 .taken)
 
-add-if3 : tie.Need-add-if3
-add-if3 c = search needs
-
 returns-3 : tie.Need-returns-3
 returns-3 c = let w = c .before .before .before .word .ensures .0 in row-long _ _ (let g = c .before .before .if1 .left in omega arith) (c .before .if2 .left) (c .if3 .taken)
 
@@ -47,7 +44,6 @@ has-row-spec =
     word-requires
     returns
     returns-2
-    add-if3
     returns-3
     seek-name-requires
     enum-told

@@ -1,0 +1,99 @@
+-- Names that are read into a table: a name that the table does not have is none of those before it.
+use Prim.Native.Nat.{ℕ, zero, suc, _+_, _-_, _≤_, min}
+use native.Mathlib.Numerals.{add-one}
+use native.Mathlib.Omega.{arith}
+use mathlib.Core.Bool.{Bool, true, false, cond, not, _||_}
+use mathlib.Core.List.{List, [], _∷_, _++_, append-nil, append-assoc}
+use mathlib.Core.Path.{_≡_, refl, sym, ap, subst, _∙_}
+use lib.ListN.{length, take, drop, getD, replicate, length-append, length-take}
+use Rattle.wire.specs.declared.writer.Writer.{Writer}
+use Rattle.wire.specs.Writer.{State, full, st, stateOf}
+use Rattle.wire.proofs.Writers.{take-part}
+use Rattle.pack.specs.Names.{Name, eqName, member}
+use Rattle.pack.specs.RawNames.{Inside, oneOf, rawEnd, rawName, rawNames}
+use Rattle.pack.specs.Write.{At, Found, Missing, enc, lookup}
+use Rattle.pack.specs.Table.{Roomy, blank, enter, isMissing, seek, tabled, textsFrom}
+use Rattle.pack.specs.Intern.{putEntry, started}
+use Rattle.pack.proofs.Tables.{eqName-flip, eqName-refl, eqName-true}
+use Rattle.pack.proofs.TableIndex.{length-tabled, seek-tabled, tabled-more, tabled-none}
+use Rattle.pack.proofs.Interns.{entry-enters, started-blank}
+use Rattle.pack.proofs.NameLaws.{raw-length, rawNames-more}
+
+eqName-sym : (a b : Name) → eqName a b ≡ eqName b a
+eqName-sym a b = go (eqName a b) refl
+  where
+    go : (t : Bool) → eqName a b ≡ t → t ≡ eqName b a
+    go true e = sym (subst (λ (y : Name). eqName y a ≡ true) (eqName-true a b e) (eqName-refl a))
+    go false e = sym (eqName-flip a b e)
+
+-- what is not found is no member
+missing-member : (xs : List Name) (x : Name) (k : ℕ) → isMissing (lookup xs x k) ≡ not (member x xs)
+unfolding lookup member isMissing
+missing-member [] x k = refl
+missing-member (y ∷ ys) x k = go (eqName y x) (eqName x y) (eqName-sym y x) (missing-member ys x (k + 1))
+  where
+    go : (t u : Bool) → t ≡ u → isMissing (lookup ys x (k + 1)) ≡ not (member x ys) → isMissing (elim t [ true ↦ At k | false ↦ lookup ys x (k + 1) ]) ≡ not (u || member x ys)
+    go true u e h = rw (sym e)
+    go false u e h = rw (sym e) h
+
+not-not : (b : Bool) → not (not b) ≡ b
+not-not true = refl
+not-not false = refl
+
+-- the test for a repeated name, by the table of those before it
+pub table-tells : (s t x : List ℕ) (n p q : ℕ) (b : Bool) → t ≡ tabled (rawNames s n q) → x ≡ rawName s p → b ≡ isMissing (seek t x) → not b ≡ oneOf s p n q
+unfolding oneOf
+table-tells s t x n p q b e f g =
+    ap not (g ∙ (λ j. isMissing (seek (e j) (f j))) ∙ ap isMissing (seek-tabled (rawNames s n q) (rawName s p)) ∙ missing-member (rawNames s n q) (rawName s p) 0)
+    ∙ not-not (member (rawName s p) (rawNames s n q))
+
+-- what is found in the part of t that the writer has used
+pub new-is : (t x : List ℕ) (m e : ℕ) (f : Found) → e ≡ min (0 + m) (length t) → f ≡ seek (take e t) x → isMissing f ≡ isMissing (seek (take m t) x)
+new-is t x m e f p q = ap isMissing q ∙ ap (λ (y : List ℕ). isMissing (seek y x)) (take-part t m e p)
+
+-- the bytes of the name that ends at `to`
+pub raw-part : (s : List ℕ) (p to : ℕ) → to ≡ p + 1 + getD s p 0 → take (to - (p + 1)) (drop (p + 1) s) ≡ rawName s p
+unfolding rawName
+raw-part s p to e = let k : to - (p + 1) ≡ getD s p 0 = omega arith in ap (λ (y : ℕ). take y (drop (p + 1) s)) k
+
+-- what n names take
+raw-takes : (s : List ℕ) (n q : ℕ) → Inside s n q → q + length (enc (rawNames s n q)) ≡ rawEnd s n q
+unfolding Inside rawNames rawEnd enc
+raw-takes s zero q i = omega arith
+raw-takes s (suc n) q i =
+    omega (arith, raw-takes s n (q + 1 + getD s q 0) (i .1), length-append (rawName s q) (enc (rawNames s n (q + 1 + getD s q 0))), raw-length s q (i .0))
+
+-- the table of the n names from q on stands in t
+pub record Laying (s : List ℕ) (q n : ℕ) (t : List ℕ) (w : Writer) : Type 0 where
+  pub short : length s ≤ 65536
+  pub state : stateOf [] t w ≡ st 0 (textsFrom + 65536) [] (tabled (rawNames s n q))
+
+pub laying-none : (s t : List ℕ) (q : ℕ) (w : Writer) → Roomy s t → textsFrom + 65536 ≤ length t → ((o m : List ℕ) → stateOf o m w ≡ started o m) → Laying s q 0 t w
+unfolding Roomy rawNames
+laying-none s t q w r l e =
+    let h = r l in
+    record { short = h .0; state = e [] t ∙ ap (started []) (h .1) ∙ started-blank [] 65536 ∙ ap (st 0 (textsFrom + 65536) []) (sym tabled-none) }
+
+state-table : (t d : List ℕ) (w : Writer) (a b : ℕ) → stateOf [] t w ≡ st a b [] d → take (w .made) t ≡ d
+unfolding stateOf
+state-table t d w a b e = go (w .full) e
+  where
+    go : (x : Bool) → cond x full (st 0 (length t) (take (w .at) []) (take (w .made) t)) ≡ st a b [] d → take (w .made) t ≡ d
+    go true q = let z : _≡_ {A = ℕ} 0 1 = cc in absurd (omega arith)
+    go false q = cc
+
+pub laying-table : (s t : List ℕ) (q n : ℕ) (w : Writer) → Laying s q n t w → take (w .made) t ≡ tabled (rawNames s n q)
+laying-table s t q n w h = state-table t (tabled (rawNames s n q)) w 0 (textsFrom + 65536) (h .state)
+
+pub laying-more : (s t t′ x : List ℕ) (q n p to : ℕ) (w w′ : Writer) → Inside s n q → rawEnd s n q ≡ p → x ≡ rawName s p → to ≡ p + 1 + getD s p 0 → to ≤ length s
+    → ((o : List ℕ) → stateOf o t′ w′ ≡ putEntry x (stateOf o t w)) → Laying s q n t w → Laying s q (n + 1) t′ w′
+laying-more s t t′ x q n p to w w′ i e f g l r h =
+    let a = raw-takes s n q i in
+    let b = length-tabled (rawNames s n q) in
+    let c : length x ≡ getD s p 0 = ap length f ∙ raw-length s p (omega arith) in
+    let m : length (tabled (rawNames s n q)) + suc (length x) ≤ textsFrom + 65536 = omega (arith, h .short) in
+    let y : rawNames s n q ++ (x ∷ []) ≡ rawNames s (n + 1) q = ap (λ (z : Name). rawNames s n q ++ (z ∷ [])) (f ∙ ap (rawName s) (sym e)) ∙ sym (rawNames-more s n q) ∙ ap (λ (k : ℕ). rawNames s k q) (sym (add-one n)) in
+    record {
+      short = h .short;
+      state = r [] ∙ ap (putEntry x) (h .state) ∙ entry-enters 0 (textsFrom + 65536) [] (tabled (rawNames s n q)) x m ∙ ap (st 0 (textsFrom + 65536) []) (sym (tabled-more (rawNames s n q) x) ∙ ap tabled y);
+    }
