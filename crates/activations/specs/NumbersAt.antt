@@ -8,7 +8,6 @@ use Rattle.wire.specs.Bytes.{two}
 use Rattle.wire.specs.Writer.{puts, st}
 use Rattle.pack.specs.Names.{Name}
 use Rattle.pack.specs.Write.{Item, nm, raw}
-use Rattle.pack.specs.Intern.{table}
 use Rattle.machines.specs.Emits.{packName}
 use Rattle.activation_rules.specs.MadeNames.{lastVar, sampleVar, scopeAt}
 use Rattle.activations.specs.Lookups.{placeBuilt, placeIn}

@@ -1,3 +1,5 @@
+use native.Mathlib.Omega.{arith}
+use lib.ListN.{length-take}
 use mathlib.Core.Path.{refl}
 use Rattle.machines.proofs.CallLaws.{names-short, tabled-as}
 use Rattle.activations.proofs.Answered.{blank, scratch}
@@ -17,41 +19,47 @@ slice-aggregate-lay-names c = search needs
 lay-names-requires : tie.Need-lay-names-requires
 lay-names-requires c κs = (names-short _ _ _ _ (c .before .before .before .before .before .pre .0) (c .before .between .ensures), refl)
 
--- src/call.rt:128:15
-slice-aggregate-lower-opened : tie.Need-slice-aggregate-lower-opened
-slice-aggregate-lower-opened c = search needs
+array-share-prefix-olds : tie.Need-array-share-prefix-olds
+array-share-prefix-olds c = search needs
 
--- src/call.rt:128:27
+slice-aggregate-lower-opened : tie.Need-slice-aggregate-lower-opened
+slice-aggregate-lower-opened c = simp length-take (omega (arith, c .before .before .lay-names .ensures .0))
+
+-- src/call.rt:128:15
 slice-aggregate-lower-opened-2 : tie.Need-slice-aggregate-lower-opened-2
 slice-aggregate-lower-opened-2 c = search needs
 
--- src/call.rt:128:39
+-- src/call.rt:128:27
 slice-aggregate-lower-opened-3 : tie.Need-slice-aggregate-lower-opened-3
 slice-aggregate-lower-opened-3 c = search needs
 
--- src/call.rt:128:50
+-- src/call.rt:128:39
 slice-aggregate-lower-opened-4 : tie.Need-slice-aggregate-lower-opened-4
 slice-aggregate-lower-opened-4 c = search needs
 
--- src/call.rt:128:60
+-- src/call.rt:128:50
 slice-aggregate-lower-opened-5 : tie.Need-slice-aggregate-lower-opened-5
 slice-aggregate-lower-opened-5 c = search needs
 
--- src/call.rt:128:71
+-- src/call.rt:128:60
 slice-aggregate-lower-opened-6 : tie.Need-slice-aggregate-lower-opened-6
 slice-aggregate-lower-opened-6 c = search needs
 
--- src/call.rt:128:82
+-- src/call.rt:128:71
 slice-aggregate-lower-opened-7 : tie.Need-slice-aggregate-lower-opened-7
 slice-aggregate-lower-opened-7 c = search needs
 
--- src/call.rt:129:9
+-- src/call.rt:128:82
 slice-aggregate-lower-opened-8 : tie.Need-slice-aggregate-lower-opened-8
 slice-aggregate-lower-opened-8 c = search needs
 
--- src/call.rt:129:20
+-- src/call.rt:129:9
 slice-aggregate-lower-opened-9 : tie.Need-slice-aggregate-lower-opened-9
 slice-aggregate-lower-opened-9 c = search needs
+
+-- src/call.rt:129:20
+slice-aggregate-lower-opened-10 : tie.Need-slice-aggregate-lower-opened-10
+slice-aggregate-lower-opened-10 c = search needs
 
 -- src/call.rt:127:5
 lower-opened-requires : tie.Need-lower-opened-requires
@@ -76,6 +84,7 @@ lower-whole-spec =
     between-requires
     slice-aggregate-lay-names
     lay-names-requires
+    array-share-prefix-olds
     slice-aggregate-lower-opened
     slice-aggregate-lower-opened-2
     slice-aggregate-lower-opened-3
@@ -85,6 +94,7 @@ lower-whole-spec =
     slice-aggregate-lower-opened-7
     slice-aggregate-lower-opened-8
     slice-aggregate-lower-opened-9
+    slice-aggregate-lower-opened-10
     lower-opened-requires
     same-length
     same-length-2

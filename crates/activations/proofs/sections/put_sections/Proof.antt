@@ -12,7 +12,7 @@ use Rattle.activations.proofs.nodes.put_nodes.Reads as put-nodes-reads
 use Rattle.activations.proofs.origins.put_origins.Reads as put-origins-reads
 use Rattle.machines.proofs.rows.between.Reads as between-reads
 use Rattle.machines.proofs.sure.number.Reads as number-reads
-use Rattle.wire.proofs.writer.Writer.start.Reads as start-reads
+use Rattle.pack.proofs.intern.start.Reads as start-reads
 use Rattle.wire.proofs.writer.put_bytes.Reads as put-bytes-reads
 use Rattle.wire.proofs.writer.put_u16.Reads as put-u16-reads
 
