@@ -9,6 +9,7 @@ use crate::report::answer_report;
 use crate::report::refused_count;
 use crate::sections::put_sections;
 use machines::rows::between;
+use machines::sure::number;
 use machines::table::place_names;
 use pack::check::Verdict;
 use pack::check::read_pack;
