@@ -1,21 +1,22 @@
 -- Names that are read into a table: a name that the table does not have is none of those before it.
-use Prim.Native.Nat.{ℕ, zero, suc, _+_, _-_, _≤_, min}
+use Prim.Native.Nat.{ℕ, zero, suc, _+_, _-_, _≤_}
 use native.Mathlib.Numerals.{add-one}
 use native.Mathlib.Omega.{arith}
-use mathlib.Core.Bool.{Bool, true, false, cond, not, _||_}
+use mathlib.Core.Bool.{Bool, true, false, cond, not, _||_, _&&_}
 use mathlib.Core.List.{List, [], _∷_, _++_, append-nil, append-assoc}
 use mathlib.Core.Path.{_≡_, refl, sym, ap, subst, _∙_}
-use lib.ListN.{length, take, drop, getD, replicate, length-append, length-take}
+use lib.Dec.{leb}
+use lib.ListN.{length, take, drop, getD, length-append, take-append-drop}
+use borrow.Author.Tests.{leb-true}
 use Rattle.wire.specs.declared.writer.Writer.{Writer}
 use Rattle.wire.specs.Writer.{State, full, st, stateOf}
-use Rattle.wire.proofs.Writers.{take-part}
 use Rattle.pack.specs.Names.{Name, eqName, member}
 use Rattle.pack.specs.RawNames.{Inside, oneOf, rawEnd, rawName, rawNames}
 use Rattle.pack.specs.Write.{At, Found, Missing, enc, lookup}
-use Rattle.pack.specs.Table.{Roomy, blank, enter, isMissing, seek, tabled, textsFrom}
+use Rattle.pack.specs.Table.{Roomy, TellsNew, enter, hasRow, indexed, isMissing, rowsMost, tabled, textsFrom, word}
 use Rattle.pack.specs.Intern.{putEntry, started}
 use Rattle.pack.proofs.Tables.{eqName-flip, eqName-refl, eqName-true}
-use Rattle.pack.proofs.TableIndex.{length-tabled, seek-tabled, tabled-more, tabled-none}
+use Rattle.pack.proofs.TableIndex.{enter-length, enter-plain, length-tabled, rowed, seek-tabled, tabled-more, tabled-none, word-append}
 use Rattle.pack.proofs.Interns.{entry-enters, started-blank}
 use Rattle.pack.proofs.NameLaws.{raw-length, rawNames-more}
 
@@ -36,20 +37,21 @@ missing-member (y ∷ ys) x k = go (eqName y x) (eqName x y) (eqName-sym y x) (m
     go true u e h = rw (sym e)
     go false u e h = rw (sym e) h
 
-not-not : (b : Bool) → not (not b) ≡ b
-not-not true = refl
-not-not false = refl
+-- a name that a table has got a row for is none of those before it
+row-tells : (xs : List Name) (x : Name) → hasRow (tabled xs) x ≡ true → member x xs ≡ false
+row-tells xs x h = go (member x xs) (sym (missing-member xs x 0) ∙ ap isMissing (sym (seek-tabled xs x)) ∙ rowed (tabled xs) x h .new)
+  where
+    go : (b : Bool) → not b ≡ true → b ≡ false
+    go true e = let z : _≡_ {A = ℕ} 0 1 = cc in absurd (omega arith)
+    go false e = refl
 
--- the test for a repeated name, by the table of those before it
-pub table-tells : (s t x : List ℕ) (n p q : ℕ) (b : Bool) → t ≡ tabled (rawNames s n q) → x ≡ rawName s p → b ≡ isMissing (seek t x) → not b ≡ oneOf s p n q
-unfolding oneOf
-table-tells s t x n p q b e f g =
-    ap not (g ∙ (λ j. isMissing (seek (e j) (f j))) ∙ ap isMissing (seek-tabled (rawNames s n q) (rawName s p)) ∙ missing-member (rawNames s n q) (rawName s p) 0)
-    ∙ not-not (member (rawName s p) (rawNames s n q))
-
--- what is found in the part of t that the writer has used
-pub new-is : (t x : List ℕ) (m e : ℕ) (f : Found) → e ≡ min (0 + m) (length t) → f ≡ seek (take e t) x → isMissing f ≡ isMissing (seek (take m t) x)
-new-is t x m e f p q = ap isMissing q ∙ ap (λ (y : List ℕ). isMissing (seek y x)) (take-part t m e p)
+-- without a row the index is turned off
+entered-tells : (t : List ℕ) (x : Name) → textsFrom ≤ length t → word (enter x t) 0 ≤ rowsMost → hasRow t x ≡ true
+entered-tells t x l h = go (hasRow t x) refl
+  where
+    go : (b : Bool) → hasRow t x ≡ b → b ≡ true
+    go true e = refl
+    go false e = absurd (omega (arith, enter-plain t x l e))
 
 -- the bytes of the name that ends at `to`
 pub raw-part : (s : List ℕ) (p to : ℕ) → to ≡ p + 1 + getD s p 0 → take (to - (p + 1)) (drop (p + 1) s) ≡ rawName s p
@@ -85,6 +87,18 @@ state-table t d w a b e = go (w .full) e
 pub laying-table : (s t : List ℕ) (q n : ℕ) (w : Writer) → Laying s q n t w → take (w .made) t ≡ tabled (rawNames s n q)
 laying-table s t q n w h = state-table t (tabled (rawNames s n q)) w 0 (textsFrom + 65536) (h .state)
 
+-- a name more
+raw-more : (s x : List ℕ) (n p q : ℕ) → rawEnd s n q ≡ p → x ≡ rawName s p → rawNames s n q ++ (x ∷ []) ≡ rawNames s (n + 1) q
+raw-more s x n p q e f = ap (λ (z : Name). rawNames s n q ++ (z ∷ [])) (f ∙ ap (rawName s) (sym e)) ∙ sym (rawNames-more s n q) ∙ ap (λ (k : ℕ). rawNames s k q) (sym (add-one n))
+
+texts-many : textsFrom ≡ 77826
+unfolding textsFrom
+texts-many = refl
+
+and-both : (a b : Bool) → (a && b) ≡ true → (a ≡ true) × (b ≡ true)
+and-both true b e = (refl, e)
+and-both false b e = let z : _≡_ {A = ℕ} 0 1 = cc in absurd (omega arith)
+
 pub laying-more : (s t t′ x : List ℕ) (q n p to : ℕ) (w w′ : Writer) → Inside s n q → rawEnd s n q ≡ p → x ≡ rawName s p → to ≡ p + 1 + getD s p 0 → to ≤ length s
     → ((o : List ℕ) → stateOf o t′ w′ ≡ putEntry x (stateOf o t w)) → Laying s q n t w → Laying s q (n + 1) t′ w′
 laying-more s t t′ x q n p to w w′ i e f g l r h =
@@ -92,8 +106,23 @@ laying-more s t t′ x q n p to w w′ i e f g l r h =
     let b = length-tabled (rawNames s n q) in
     let c : length x ≡ getD s p 0 = ap length f ∙ raw-length s p (omega arith) in
     let m : length (tabled (rawNames s n q)) + suc (length x) ≤ textsFrom + 65536 = omega (arith, h .short) in
-    let y : rawNames s n q ++ (x ∷ []) ≡ rawNames s (n + 1) q = ap (λ (z : Name). rawNames s n q ++ (z ∷ [])) (f ∙ ap (rawName s) (sym e)) ∙ sym (rawNames-more s n q) ∙ ap (λ (k : ℕ). rawNames s k q) (sym (add-one n)) in
+    let y = raw-more s x n p q e f in
     record {
       short = h .short;
       state = r [] ∙ ap (putEntry x) (h .state) ∙ entry-enters 0 (textsFrom + 65536) [] (tabled (rawNames s n q)) x m ∙ ap (st 0 (textsFrom + 65536) []) (sym (tabled-more (rawNames s n q) x) ∙ ap tabled y);
     }
+
+-- the name that was entered last is new, while there is an index
+pub laying-tells : (s t t′ x : List ℕ) (q n p to : ℕ) (w w′ : Writer) → Inside s n q → rawEnd s n q ≡ p → x ≡ rawName s p → to ≡ p + 1 + getD s p 0 → to ≤ length s
+    → ((o : List ℕ) → stateOf o t′ w′ ≡ putEntry x (stateOf o t w)) → length t′ ≡ length t → (textsFrom + 65536 ≤ length t → Laying s q n t w) → TellsNew s p n q t′
+unfolding TellsNew indexed oneOf
+laying-tells s t t′ x q n p to w w′ i e f g l r k h d =
+    let a = and-both (leb (textsFrom + 65536) (length t′)) (leb (word t′ 0) rowsMost) d in
+    let b = h (omega (arith, leb-true (textsFrom + 65536) (length t′) (a .0))) in
+    let m = laying-more s t t′ x q n p to w w′ i e f g l r b in
+    let T = tabled (rawNames s n q) in
+    let y : rawNames s n q ++ (x ∷ []) ≡ rawNames s (n + 1) q = raw-more s x n p q e f in
+    let z : take (w′ .made) t′ ≡ enter x T = laying-table s t′ q (n + 1) w′ m ∙ ap tabled (sym y) ∙ tabled-more (rawNames s n q) x in
+    let u : word t′ 0 ≡ word (enter x T) 0 = sym (ap (λ (v : List ℕ). word v 0) (take-append-drop (w′ .made) t′)) ∙ ap (λ (v : List ℕ). word (v ++ drop (w′ .made) t′) 0) z ∙ word-append (enter x T) (drop (w′ .made) t′) 0 (omega (arith, enter-length x T, length-tabled (rawNames s n q), texts-many)) in
+    ap (λ (v : Name). member v (rawNames s n q)) (sym f)
+    ∙ row-tells (rawNames s n q) x (entered-tells T x (omega (arith, length-tabled (rawNames s n q))) (omega (arith, leb-true (word t′ 0) rowsMost (a .1))))

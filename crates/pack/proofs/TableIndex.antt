@@ -76,7 +76,7 @@ put-drop : (t : List ℕ) (i v p : ℕ) → i + 1 < p → drop p (putWord t i v)
 unfolding putWord
 put-drop t i v p h = drop-set-lt p (set t i (v % 256)) (i + 1) (v / 256 % 256) h ∙ drop-set-lt p t i (v % 256) (omega arith)
 
-word-append : (t x : List ℕ) (i : ℕ) → i + 1 < length t → word (t ++ x) i ≡ word t i
+pub word-append : (t x : List ℕ) (i : ℕ) → i + 1 < length t → word (t ++ x) i ≡ word t i
 unfolding word
 word-append t x i h =
     ap (λ y. y + 256 * getD (t ++ x) (i + 1) 0) (List·getD-append t x 0 i (omega arith))
@@ -490,7 +490,7 @@ noted-drop t n = go (hasRow t n) refl
         ∙ linked-drop t (word t 0) (headAt (hash n)) (rowed t n e .few) (omega arith) (omega (arith, hash-less n)) textsFrom (omega arith)
     go false e = ap (drop textsFrom) (noted-none t n e) ∙ put-drop t 0 (rowsMost + 1) textsFrom (omega (arith, texts-is))
 
-enter-plain : (t : List ℕ) (n : Name) → textsFrom ≤ length t → hasRow t n ≡ false → rowsMost < word (enter n t) 0
+pub enter-plain : (t : List ℕ) (n : Name) → textsFrom ≤ length t → hasRow t n ≡ false → rowsMost < word (enter n t) 0
 unfolding enter
 enter-plain t n l e =
     let a : word (noted n t ++ (length n ∷ n)) 0 ≡ word (noted n t) 0 = word-append (noted n t) (length n ∷ n) 0 (omega (arith, noted-length t n, texts-is)) in

@@ -8,11 +8,12 @@ use mathlib.Core.Path.{_≡_, refl, sym, ap, _∙_}
 use mathlib.Core.List.{List, [], _∷_}
 use lib.ListN.{length, take, drop, getD, drop-of-length-le, length-drop, length-take}
 use lib.Seq.{drop-cons, drop-length, take-all}
+use lib.Dec.{leb}
 use borrow.Author.Tests.{lt-ltb, le-ltb, le-leb, lt-leb}
 use Rattle.wire.proofs.Writers.{lt-or-le, take-capped}
 use Rattle.pack.specs.Names.{Name, eqName}
 use Rattle.pack.specs.Write.{Found, At, Missing, lookup}
-use Rattle.pack.specs.Table.{table, rowsMost, textsFrom, rowAt, word, putWord, hashFrom, hash, textAt, textOf, chase, chased, seek, numberIn, isMissing, hasRow, linked, noted}
+use Rattle.pack.specs.Table.{table, rowsMost, textsFrom, rowAt, word, putWord, hashFrom, hash, textAt, textOf, chase, chased, seek, numberIn, isMissing, hasRow, linked, noted, indexed}
 use Rattle.pack.proofs.TableIndex.{rowed}
 use Rattle.pack.proofs.Interns.{found-number}
 
@@ -115,6 +116,15 @@ module _ (t : List ℕ) (n : Name) where
   pub row-length : hasRow t n ≡ true → 77826 ≤ length t
   unfolding textsFrom
   row-length e = rowed t n e .long
+
+-- whether there is an index, test by test
+pub index-short : (t : List ℕ) → length t < 143362 → false ≡ indexed t
+unfolding indexed textsFrom
+index-short t h = rw (lt-leb 143362 (length t) h)
+
+pub index-by : (t : List ℕ) (w : ℕ) → 143362 ≤ length t → w ≡ word t 0 → leb w 17408 ≡ indexed t
+unfolding indexed textsFrom rowsMost
+index-by t w h e = rw (le-leb 143362 (length t) h, e)
 
 -- the row of a name
 pub noted-linked : (t : List ℕ) (n : Name) (c h : ℕ) → hasRow t n ≡ true → c ≡ word t 0 → h ≡ hash n → linked c (2 + 2 * h) t ≡ noted n t

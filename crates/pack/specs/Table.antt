@@ -7,6 +7,7 @@ use mathlib.Core.Path.{_≡_}
 use lib.ListN.{length, take, drop, getD, set, replicate}
 use lib.Dec.{ltb, leb}
 use Rattle.pack.specs.Names.{Name, eqName}
+use Rattle.pack.specs.RawNames.{oneOf}
 use Rattle.pack.specs.Write.{Found, At, Missing, lookup}
 
 -- the names of a table, each after its length byte; the first number bounds the steps
@@ -116,3 +117,11 @@ tabled ns = entered ns blank
 -- a buffer with room for a table of any pack's names is blank, and the pack s is no longer than a pack may be
 unfoldable pub Roomy : List ℕ → List ℕ → Type 0
 Roomy s t = textsFrom + 65536 ≤ length t → (length s ≤ 65536) × (t ≡ replicate (textsFrom + 65536) 0)
+
+-- all names that were entered into a buffer with such room have rows
+unfoldable pub indexed : List ℕ → Bool
+indexed t = leb (textsFrom + 65536) (length t) && leb (word t 0) rowsMost
+
+-- while they have, the name at p is none of the n from q on
+unfoldable pub TellsNew : List ℕ → ℕ → ℕ → ℕ → List ℕ → Type 0
+TellsNew s p n q t = indexed t ≡ true → oneOf s p n q ≡ false

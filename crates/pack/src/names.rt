@@ -1,26 +1,22 @@
 // The name section.
-use crate::intern::Found;
 use crate::intern::put_entry;
 use crate::intern::start;
 use crate::record::Pack;
-use crate::table::ROOM;
-use crate::table::seek_name;
+use crate::table::has_index;
 use wire::answer::Read;
 use wire::answer::Skipped;
 use wire::answer::past;
 use wire::number::read_byte;
 use wire::number::read_u16;
-use wire::writer::Writer;
-use wire::writer::capped;
 ghost use mathlib.Core.Path.{_≡_};
 ghost use mathlib.Core.List.{[]};
 ghost use Prim.Native.Nat.{_+_, _≤_};
-ghost use lib.ListN.{length, getD, take};
+ghost use lib.ListN.{length, getD};
 ghost use Rattle.wire.specs.Code.{readOf, skip};
 ghost use Rattle.pack.specs.Names.{eqName};
 ghost use Rattle.pack.specs.Read.{nameByte, char, size, name, namesAfter, nameSection};
-ghost use Rattle.pack.specs.RawNames.{agree, rawName, rawNames, Inside, oneOf};
-ghost use Rattle.pack.specs.Table.{Roomy, isMissing, seek, tabled};
+ghost use Rattle.pack.specs.RawNames.{agree, rawName, Inside, oneOf};
+ghost use Rattle.pack.specs.Table.{Roomy, TellsNew};
 
 // A byte of a name: a letter, a digit or an underscore.
 pub fn name_byte(b: usize) -> bool
@@ -145,31 +141,19 @@ pub fn seen(s: &[u8], x: usize, count: usize, at: usize) -> bool
     false
 }
 
-// Whether x is none of the names of the table that w has laid in t.
-fn is_new(t: &[u8], w: Writer, x: &[u8]) -> bool
-    ensures { λ r. ⌜ r ≡ isMissing (seek (take (w .made) (now (t .entry))) (now (x .entry))) ⌝ }
-{
-    let end = capped(t.len(), 0, w.made);
-    let f = seek_name(&t[..end], x);
-    match f {
-        Found::At(_) => false,
-        Found::Missing(_) => true,
-    }
-}
-
-// Whether the name from p to `to` is one of the n from q on: by the table of those, where t has room for one.
-fn repeated(s: &[u8], p: usize, to: usize, n: usize, q: usize, t: &[u8], w: Writer) -> bool
-    requires { ⌜ (to ≡ p + 1 + getD (now s) p 0) × (to ≤ length (now s)) × Inside (now s) n q × (143362 ≤ length (now t) → take (w .made) (now t) ≡ tabled (rawNames (now s) n q)) ⌝ }
+// Whether the name at p is one of the n from q on, where it was the last to be entered into the table t: while that has an index
+// it is not, since a name that is no new one has none.
+fn repeated(s: &[u8], p: usize, n: usize, q: usize, t: &[u8]) -> bool
+    requires { ⌜ (p + 1 + getD (now s) p 0 ≤ length (now s)) × Inside (now s) n q × TellsNew (now s) p n q (now t) ⌝ }
     ensures { λ r. ⌜ r ≡ oneOf (now (s .entry)) p n q ⌝ }
 {
-    if t.len() < ROOM {
-        return seen(s, p, n, q);
+    if has_index(t) {
+        return false;
     }
-    let b = p + 1;
-    !is_new(t, w, &s[b..to])
+    seen(s, p, n, q)
 }
 
-// The count names from q on, none twice. Where t has room for a table of names, each is sought there, and entered.
+// The count names from q on, none twice. Where t has room for a table of names, each is entered there.
 fn read_names(s: &[u8], q: usize, count: usize, t: &mut [u8]) -> Skipped
     requires { ⌜ Roomy (now s) (now t) ⌝ }
     ensures { λ r. ⌜ r ≡ skip (namesAfter (now (s .entry)) [] count q) ⌝ }
@@ -182,11 +166,11 @@ fn read_names(s: &[u8], q: usize, count: usize, t: &mut [u8]) -> Skipped
         let Skipped::To(next) = e else {
             return e;
         };
-        if repeated(s, p, next, n, q, t, w) {
-            return Skipped::Illegal(p);
-        }
         let b = p + 1;
         w = put_entry(&s[b..next], t, w);
+        if repeated(s, p, n, q, t) {
+            return Skipped::Illegal(p);
+        }
         n += 1;
         p = next;
     }

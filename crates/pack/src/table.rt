@@ -9,7 +9,7 @@ ghost use Prim.Native.Nat.{_+_, _-_, _≤_, _<_};
 ghost use lib.ListN.{length, getD, set};
 ghost use Rattle.pack.specs.Names.{eqName};
 ghost use Rattle.pack.specs.Intern.{foundOf};
-ghost use Rattle.pack.specs.Table.{word as wordIn, putWord, hash as hashOf, textAt, chase as chaseFrom, chased, seek, numberIn, hasRow, linked, noted};
+ghost use Rattle.pack.specs.Table.{word as wordIn, putWord, hash as hashOf, textAt, chase as chaseFrom, chased, seek, numberIn, hasRow, indexed, linked, noted};
 
 // How many names have rows.
 const ROWS: usize = 17408;
@@ -116,6 +116,16 @@ pub fn seek_name(t: &[u8], n: &[u8]) -> Found
         return find_name(&t[b..], n);
     }
     chase_head(t, n)
+}
+
+// Whether t has room for a table of any pack's names, and all names that were entered have rows.
+pub fn has_index(t: &[u8]) -> bool
+    ensures { λ r. ⌜ r ≡ indexed (now (t .entry)) ⌝ }
+{
+    if t.len() < ROOM {
+        return false;
+    }
+    word(t, 0) <= ROWS
 }
 
 // Whether n can have a row.

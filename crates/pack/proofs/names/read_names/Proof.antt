@@ -1,17 +1,17 @@
 use native.Mathlib.Omega.{arith}
-use Prim.Native.Nat.{_-_, _≤_}
+use Prim.Native.Nat.{_+_, _-_, _≤_}
 use mathlib.Core.Path.{_≡_, _∙_, sym}
 use lib.ListN.{length, length-take}
 use Rattle.wire.proofs.Steps.{stopped}
 use Rattle.pack.specs.Table.{textsFrom}
 use Rattle.pack.proofs.NameLaws.{NamesRead, name-value, names-next, reading-done, reading-more, reading-none, reading-repeated, skip-to}
-use Rattle.pack.proofs.NamesTabled.{Laying, laying-more, laying-none, laying-table, raw-part}
+use Rattle.pack.proofs.NamesTabled.{Laying, laying-more, laying-none, laying-tells, raw-part}
 use borrow.Author.Needs.{needs}
 use Rattle.pack.proofs.names.read_names.Statement.{statement}
 use Rattle.pack.proofs.names.read_names.Tie as tie
 
 abbrev Inv-loop : tie.InvT-loop
-Inv-loop s q count t₀ n₀ p₀ w₀ t n p w = NamesRead s count q n p × (143362 ≤ length t₀ → Laying s q n t w) × (length t ≡ length t₀)
+Inv-loop s q count t₀ n₀ p₀ w₀ t n p w = NamesRead s count q n p × (textsFrom + 65536 ≤ length t₀ → Laying s q n t w) × (length t ≡ length t₀)
 
 abbrev μ-loop : tie.MeasureT-loop
 μ-loop s q count t₀ n₀ p₀ w₀ t n p w = count - n
@@ -20,7 +20,6 @@ start-requires : tie.Need-start-requires Inv-loop μ-loop
 start-requires c κs = search needs
 
 loop-holds : tie.Need-loop-holds Inv-loop μ-loop
-unfolding textsFrom
 loop-holds c = (reading-none _ _ _, (λ l. laying-none _ _ _ _ (c .before .before .before .pre) l (c .start .ensures)), omega arith)
 
 skip-name-requires : tie.Need-skip-name-requires Inv-loop μ-loop
@@ -35,33 +34,34 @@ same-length c = omega (arith, c .before .before .before .loop .inv .2)
 returns : tie.Need-returns Inv-loop μ-loop
 returns c = stopped _ _ _ _ (c .match .keys2) (c .before .skip-name .ensures) (names-next _ _ _ _ (omega (arith, c .before .before .loop-test .taken))) ∙ c .before .before .before .loop .inv .0 .same
 
-repeated-requires : tie.Need-repeated-requires Inv-loop μ-loop
-repeated-requires c κs =
-    let v = name-value _ _ _ _ (skip-to _ _ (sym (c .before .before .before .before .skip-name .ensures) ∙ c .before .before .e .given .1) .1) in
-    (v .to, v .inside, c .before .before .before .before .before .before .loop .inv .0 .inside, λ l. laying-table _ _ _ _ _ (c .before .before .before .before .before .before .loop .inv .1 (omega (arith, c .before .before .before .before .before .before .loop .inv .2))))
-
-same-length-2 : tie.Need-same-length-2 Inv-loop μ-loop
-same-length-2 c = omega (arith, c .before .before .before .before .before .before .before .before .loop .inv .2)
-
-returns-2 : tie.Need-returns-2 Inv-loop μ-loop
-returns-2 c = reading-repeated _ _ _ _ _ _ _ _ (c .before .before .before .before .before .before .before .before .loop .inv .0) (c .before .before .before .before .before .before .before .loop-test .taken) (skip-to _ _ (sym (c .before .before .before .before .before .before .skip-name .ensures) ∙ c .before .before .before .before .e .given .1) .1) (c .before .repeated .ensures) (c .if1 .taken)
-
 add-b : tie.Need-add-b Inv-loop μ-loop
-add-b c = let v = name-value _ _ _ _ (skip-to _ _ (sym (c .before .before .before .before .before .before .skip-name .ensures) ∙ c .before .before .before .before .e .given .1) .1) in omega (arith, v .to, v .inside)
+add-b c = let v = name-value _ _ _ _ (skip-to _ _ (sym (c .before .before .before .skip-name .ensures) ∙ c .before .e .given .1) .1) in omega (arith, v .to, v .inside)
 
 sub-put-entry : tie.Need-sub-put-entry Inv-loop μ-loop
-sub-put-entry c = let v = name-value _ _ _ _ (skip-to _ _ (sym (c .before .before .before .before .before .before .skip-name .ensures) ∙ c .before .before .before .before .e .given .1) .1) in omega (arith, v .to, v .inside)
+sub-put-entry c = let v = name-value _ _ _ _ (skip-to _ _ (sym (c .before .before .before .skip-name .ensures) ∙ c .before .e .given .1) .1) in omega (arith, v .to, v .inside)
 
 part-put-entry-start : tie.Need-part-put-entry-start Inv-loop μ-loop
-part-put-entry-start c = let v = name-value _ _ _ _ (skip-to _ _ (sym (c .before .before .before .before .before .before .skip-name .ensures) ∙ c .before .before .before .before .e .given .1) .1) in omega (arith, v .to, v .inside)
+part-put-entry-start c = let v = name-value _ _ _ _ (skip-to _ _ (sym (c .before .before .before .skip-name .ensures) ∙ c .before .e .given .1) .1) in omega (arith, v .to, v .inside)
 
 part-put-entry-end : tie.Need-part-put-entry-end Inv-loop μ-loop
-part-put-entry-end c = let v = name-value _ _ _ _ (skip-to _ _ (sym (c .before .before .before .before .before .before .skip-name .ensures) ∙ c .before .before .before .before .e .given .1) .1) in omega (arith, v .to, v .inside)
+part-put-entry-end c = let v = name-value _ _ _ _ (skip-to _ _ (sym (c .before .before .before .skip-name .ensures) ∙ c .before .e .given .1) .1) in omega (arith, v .to, v .inside)
 
 put-entry-requires : tie.Need-put-entry-requires Inv-loop μ-loop
 put-entry-requires c κs =
-    let v = name-value _ _ _ _ (skip-to _ _ (sym (c .before .before .before .before .before .before .before .before .skip-name .ensures) ∙ c .before .before .before .before .before .before .e .given .1) .1) in
-    simp length-take (omega (arith, v .to, c .before .before .before .before .before .before .before .before .before .before .before .before .before .shared-slice-known .given (c .before .before .before .before .before .before .before .before .before .before .loop .p)))
+    let v = name-value _ _ _ _ (skip-to _ _ (sym (c .before .before .before .before .before .skip-name .ensures) ∙ c .before .before .before .e .given .1) .1) in
+    simp length-take (omega (arith, v .to, c .before .before .before .before .before .before .before .before .before .before .shared-slice-known .given (c .before .before .before .before .before .before .before .loop .p)))
+
+repeated-requires : tie.Need-repeated-requires Inv-loop μ-loop
+repeated-requires c κs =
+    let v = name-value _ _ _ _ (skip-to _ _ (sym (c .before .before .before .before .before .before .before .before .before .skip-name .ensures) ∙ c .before .before .before .before .before .before .before .e .given .1) .1) in
+    let i = c .before .before .before .before .before .before .before .before .before .before .before .loop .inv in
+    (omega (arith, v .to, v .inside), i .0 .inside, laying-tells _ _ _ _ _ _ _ _ _ _ (i .0 .inside) (i .0 .here) (raw-part _ _ _ (v .to)) (v .to) (v .inside) (c .before .before .before .put-entry .ensures) (c .before .before .before .put-entry .kept .1 .0) (λ l. i .1 (omega (arith, i .2))))
+
+same-length-2 : tie.Need-same-length-2 Inv-loop μ-loop
+same-length-2 c = c .before .before .before .before .before .put-entry .kept .1 .0 ∙ c .before .before .before .before .before .before .before .before .before .before .before .before .before .loop .inv .2
+
+returns-2 : tie.Need-returns-2 Inv-loop μ-loop
+returns-2 c = reading-repeated _ _ _ _ _ _ _ _ (c .before .before .before .before .before .before .before .before .before .before .before .before .before .loop .inv .0) (c .before .before .before .before .before .before .before .before .before .before .before .before .loop-test .taken) (skip-to _ _ (sym (c .before .before .before .before .before .before .before .before .before .before .before .skip-name .ensures) ∙ c .before .before .before .before .before .before .before .before .before .e .given .1) .1) (c .before .repeated .ensures) (c .if1 .taken)
 
 add-n : tie.Need-add-n Inv-loop μ-loop
 add-n c = search needs
@@ -74,9 +74,9 @@ loop-again c =
     let e = skip-to _ _ (sym (c .before .before .before .before .before .before .before .before .before .before .before .skip-name .ensures) ∙ c .before .before .before .before .before .before .before .before .before .e .given .1) .1 in
     let v = name-value _ _ _ _ e in
     let i = c .before .before .before .before .before .before .before .before .before .before .before .before .before .loop .inv in (
-      reading-more _ _ _ _ _ _ _ _ (i .0) (c .before .before .before .before .before .before .before .before .before .before .before .before .loop-test .taken) e (c .before .before .before .before .before .before .repeated .ensures) (c .before .before .before .before .before .if1 .left),
-      λ l. laying-more _ _ _ _ _ _ _ _ _ _ (i .0 .inside) (i .0 .here) (raw-part _ _ _ (v .to)) (v .to) (v .inside) (c .before .before .put-entry .ensures) (i .1 l),
-      c .before .before .put-entry .kept .1 .0 ∙ i .2,
+      reading-more _ _ _ _ _ _ _ _ (i .0) (c .before .before .before .before .before .before .before .before .before .before .before .before .loop-test .taken) e (c .before .repeated .ensures) (c .if1 .left),
+      λ l. laying-more _ _ _ _ _ _ _ _ _ _ (i .0 .inside) (i .0 .here) (raw-part _ _ _ (v .to)) (v .to) (v .inside) (c .before .before .before .before .before .put-entry .ensures) (i .1 l),
+      c .before .before .before .before .before .put-entry .kept .1 .0 ∙ i .2,
     )
 
 same-length-3 : tie.Need-same-length-3 Inv-loop μ-loop
@@ -97,14 +97,14 @@ read-names-spec =
     enum-known-e
     same-length
     returns
-    repeated-requires
-    same-length-2
-    returns-2
     add-b
     sub-put-entry
     part-put-entry-start
     part-put-entry-end
     put-entry-requires
+    repeated-requires
+    same-length-2
+    returns-2
     add-n
     loop-less
     loop-again
