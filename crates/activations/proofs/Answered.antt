@@ -32,7 +32,7 @@ use Rattle.machines.specs.Shown.{PackOf}
 use Rattle.machines.specs.Sure.{numberIn}
 use Rattle.machines.specs.Tables.{namesPlaced}
 use Rattle.machine_rules.specs.Call.{finished}
-use Rattle.machines.proofs.Answered.{answers-as}
+use Rattle.machines.proofs.Answered.{answers-as, written-quiet}
 use Rattle.machines.proofs.CallScratch.{scratch-empty}
 use Rattle.machines.proofs.NamesPlaced.{names-few, section-read}
 use Rattle.machines.proofs.Opened.{names-stand, pack-known}
