@@ -22,7 +22,7 @@ use Rattle.activations.specs.UnlastAt.{unlastT}
 use Rattle.activations.specs.Places.{branchEnd}
 use Rattle.activations.specs.Passes.{passT}
 use Rattle.activations.specs.FlagsAt.{branchFlagsT, flagItems, flagT, flagsT, priorItems, untakenItems, untakenT}
-use Rattle.activations.proofs.UnlastLaws.{full-walked}
+use Rattle.activations.proofs.UnlastLaws.{unlast-full}
 
 module _ (old : List ℕ) (a : Name) where
   raw-alone : (xs : List ℕ) (t : State) → render old (raw xs ∷ []) t ≡ puts xs t
@@ -43,20 +43,16 @@ module _ (old : List ℕ) (a : Name) where
 
   module _ (ns : List Name) (s : List ℕ) (last : ℕ) (spots : List ℕ) where
     -- a full writer stays full
-    unlast-full : (at : ℕ) → unlastT ns s last old spots a at full ≡ full
-    unfolding unlastT
-    unlast-full at = full-walked old s spots a ns last 1 at
-
     flag-full : (k at : ℕ) → flagT ns s last old spots a k at full ≡ full
     unfolding flagT
-    flag-full k at = ap (unlastT ns s last old spots a at) (render-full old (flagItems a k)) ∙ unlast-full at
+    flag-full k at = ap (unlastT ns s last old spots a at) (render-full old (flagItems a k)) ∙ unlast-full old s spots a ns last at
 
     untaken-full : (n k at : ℕ) → untakenT ns s last old spots a n k at full ≡ full
     unfolding untakenT
     untaken-full n k at = go (ltb 1 n)
       where
         go : (b : Bool) → cond b (unlastT ns s last old spots a at (render old (untakenItems a k) full)) full ≡ full
-        go true = ap (unlastT ns s last old spots a at) (render-full old (untakenItems a k)) ∙ unlast-full at
+        go true = ap (unlastT ns s last old spots a at) (render-full old (untakenItems a k)) ∙ unlast-full old s spots a ns last at
         go false = refl
 
     pub branch-full : (n k p : ℕ) → branchFlagsT ns s last old spots a n k p full ≡ full

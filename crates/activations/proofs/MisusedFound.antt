@@ -19,8 +19,8 @@ use Rattle.activation_rules.specs.Sought.{bodies, conditions, expressions, righ
 use Rattle.activations.specs.Kids.{kids, listOf}
 use Rattle.activations.specs.Met.{isBad}
 use Rattle.activations.specs.Places.{actAt, anyT, branchEnd, equationEnd}
-use Rattle.activations.specs.Walks.{LastIs, through}
-use Rattle.activations.specs.MisusedAt.{anyBranchT, anyMisusedT, badStep, misusedBodyT, misusedConditionT, misusedEquationT, misusedScopeT, misusedT}
+use Rattle.activations.specs.Walks.{LastIs, orStep, through}
+use Rattle.activations.specs.MisusedAt.{anyBranchT, anyMisusedT, misusedBodyT, misusedConditionT, misusedEquationT, misusedScopeT, misusedT}
 use Rattle.activations.proofs.Views.{View, toCome, vArray, vArrow, vBad, vBinary, vCall, vCast, vConst, vField, vIf, vIndex, vIterate, vLast, vMerge, vPre, vStruct, vTuple, vUnary, vVar, vWhen}
 use Rattle.activations.proofs.Walking.{walks-one}
 use Rattle.activations.proofs.ActRead.{act-to, activation-value, body-to, branch-end-to, branch-number-to, branch-value, counted-value, equation-end-to, equation-value, right-side-to}
@@ -81,8 +81,8 @@ three-after true a b c = refl
 three-after false a b c = sym (or-assoc a b c)
 
 -- the pass does at each node what the definition does
-follows : (ns : List Name) (s : List ℕ) (e : Expr) (m : Met) (p : ℕ) (z : Bool) → View ns s e m → orMisused e z ≡ through orMisused (toCome m e) (badStep m p z)
-unfolding orMisused through badStep toCome kids isBad misused kindMisused
+follows : (ns : List Name) (s : List ℕ) (e : Expr) (m : Met) (p : ℕ) (z : Bool) → View ns s e m → orMisused e z ≡ through orMisused (toCome m e) (orStep isBad m p z)
+unfolding orMisused through orStep toCome kids isBad misused kindMisused
 follows ns s e m p z (vLast {f = f} {v = v} {xs = xs} {i = i} k l n d) = ap (λ y. z || y) (call-misused f xs (lastOf v i) k)
 follows ns s e m p z (vBad {f = f} {xs = xs} k) =
     ap (λ y. z || y) (call-misused f xs badLast k) ∙ or-true z ∙ sym (stays (listOf xs)) ∙ ap (through orMisused (listOf xs)) (sym (or-true z))
@@ -112,7 +112,7 @@ any-append (x ∷ xs) ys = ap (λ y. misused x || y) (any-append xs ys) ∙ sym 
 module _ (ns : List Name) (s : List ℕ) (few : length ns < 65536) (by : Bytes s) (short : length s ≤ 65536) (last : ℕ) (L : LastIs ns last) where
   pub misused-is : (at : ℕ) (e : Expr) (q : ℕ) → exprIn ns s at ≡ value e q → misusedT ns s last at ≡ misused e
   unfolding misusedT orMisused
-  misused-is at e q d = walks-one ns s few by short last L badStep orMisused (λ p e q m z d i v. follows ns s e m p z v) at e q false d
+  misused-is at e q d = walks-one ns s few by short last L (orStep isBad) orMisused (λ p e q m z d i v. follows ns s e m p z v) at e q false d
 
   equations-misused : (n at : ℕ) (xs : List Equation) (q : ℕ) → many (equationIn ns s) n at ≡ value xs q → anyT (misusedEquationT ns s last) (equationEnd ns s) n at ≡ anyMisused (rightSides xs)
   unfolding anyT anyMisused rightSides misusedEquationT

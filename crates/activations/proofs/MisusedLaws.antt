@@ -4,42 +4,23 @@ use native.Mathlib.Omega.{arith}
 use mathlib.Core.List.{List}
 use mathlib.Core.Bool.{Bool, true, false, _||_}
 use mathlib.Core.Path.{_≡_, refl, sym, ap, _∙_}
-use lib.ListN.{length}
 use Rattle.pack.specs.Names.{Name}
 use Rattle.machines.specs.declared.sure.Num.{Num}
 use Rattle.machines.specs.Sure.{numberIn}
 use Rattle.machines.proofs.SureLaws.{on}
-use Rattle.activations.specs.declared.met.Met.{Met}
 use Rattle.activations.specs.declared.parts.Act.{Act}
-use Rattle.activations.specs.Met.{isBad, metAt, onwardT, openT}
+use Rattle.activations.specs.Met.{isBad}
 use Rattle.activations.specs.Places.{anyT, bodyIn, branchEnd, equationEnd, rightSideIn}
-use Rattle.activations.specs.Walks.{walkT, walked}
-use Rattle.activations.specs.MisusedAt.{anyBranchT, anyMisusedT, badStep, misusedBodyT, misusedConditionT, misusedEquationT, misusedScopeT, misusedT}
-use Rattle.activations.proofs.Moving.{ended, went}
+use Rattle.activations.specs.Walks.{orStep, walked}
+use Rattle.activations.specs.MisusedAt.{anyBranchT, anyMisusedT, misusedBodyT, misusedConditionT, misusedEquationT, misusedScopeT, misusedT}
+use Rattle.activations.proofs.Moving.{ended}
 
 module _ (ns : List Name) (s : List ℕ) (last : ℕ) where
-  -- what was found stays
-  found-stays : (f n p : ℕ) → walkT ns s last badStep f n p true ≡ true
-  unfolding walkT badStep
-  found-stays zero zero p = refl
-  found-stays zero (suc n) p = refl
-  found-stays (suc f) zero p = refl
-  found-stays (suc f) (suc n) p = found-stays f (openT (metAt ns s last p) (suc n)) (onwardT (metAt ns s last p))
-
-  pub bad-found : (n p : ℕ) (m : Met) (b t : Bool) → 0 < n → m ≡ metAt ns s last p → b ≡ isBad m → b ≡ true → walked ns s last badStep n p false ≡ t → true ≡ t
-  unfolding badStep walked
-  bad-found n p m b t l e f g h =
-      sym (found-stays (suc (length s)) (openT m n) (onwardT m)) ∙ went ns s last badStep n p false m (openT m n) (onwardT m) true t l e refl refl (sym g ∙ f) h
-
-  pub bad-on : (n p : ℕ) (m : Met) (b : Bool) (k q : ℕ) (t : Bool) → 0 < n → m ≡ metAt ns s last p → b ≡ isBad m → b ≡ false → k ≡ openT m n → q ≡ onwardT m → walked ns s last badStep n p false ≡ t → walked ns s last badStep k q false ≡ t
-  unfolding badStep
-  bad-on n p m b k q t l e f g h i j = went ns s last badStep n p false m k q false t l e h i (sym g ∙ f) j
-
-  pub bad-none : (n p : ℕ) (at : ℕ) → n ≤ 0 → walked ns s last badStep n p false ≡ walked ns s last badStep 1 at false → false ≡ misusedT ns s last at
+  pub bad-none : (n p : ℕ) (at : ℕ) → n ≤ 0 → walked ns s last (orStep isBad) n p false ≡ walked ns s last (orStep isBad) 1 at false → false ≡ misusedT ns s last at
   unfolding misusedT
-  bad-none n p at l e = ended ns s last badStep n p false _ l e
+  bad-none n p at l e = ended ns s last (orStep isBad) n p false _ l e
 
-  pub bad-is : (at : ℕ) (r : Bool) → r ≡ walked ns s last badStep 1 at false → r ≡ misusedT ns s last at
+  pub bad-is : (at : ℕ) (r : Bool) → r ≡ walked ns s last (orStep isBad) 1 at false → r ≡ misusedT ns s last at
   unfolding misusedT
   bad-is at r e = e
 

@@ -1,9 +1,12 @@
 -- Laws for loops over the nodes of an expression: those that look for a node, and those that write.
-use Prim.Native.Nat.{ℕ, zero, suc, _<_}
+use Prim.Native.Nat.{ℕ, zero, suc, _-_, _<_}
+use native.Mathlib.Omega.{arith}
 use mathlib.Core.List.{List}
 use mathlib.Core.Bool.{Bool, true, false, cond}
 use mathlib.Core.Path.{_≡_, refl, sym, ap, _∙_}
 use lib.ListN.{length}
+use lib.Dec.{eqb}
+use borrow.Author.Tests.{ne-eqb}
 use Rattle.wire.specs.declared.writer.Writer.{Writer}
 use Rattle.wire.specs.Writer.{State, full, stateOf}
 use Rattle.pack.specs.Names.{Name}
@@ -12,7 +15,7 @@ use Rattle.pack.specs.Intern.{render}
 use Rattle.pack.proofs.Written.{render-full}
 use Rattle.activations.specs.declared.met.Met.{Met}
 use Rattle.activations.specs.Met.{metAt, onwardT, openT}
-use Rattle.activations.specs.Walks.{orStep, walkT, walked, writeStep}
+use Rattle.activations.specs.Walks.{leftT, orStep, walkT, walked, writeStep}
 use Rattle.activations.proofs.Moving.{went}
 
 -- a loop that looks for a node: found, one more, and the end
@@ -71,3 +74,12 @@ module _ (ns : List Name) (s : List ℕ) (last : ℕ) (old : List ℕ) (items : 
   write-on n p m k j q o d w z t l e f g h i r =
       left-walked o d w k j q h
       ∙ went ns s last (writeStep old items) n p z m k q (stateOf o d w) t l e g i (step-as m p (stateOf o d w) z f) r
+
+-- a pass that stops where the writer is full falls no less
+pub left-falls : (s : List ℕ) (w : Writer) (n k j p q : ℕ) → 0 < n → j ≡ cond (w .full) 0 k → leftT s k q < leftT s n p → leftT s j q < leftT s n p
+unfolding leftT
+left-falls s w n k j p q l e f = go (w .full) e
+  where
+    go : (b : Bool) → j ≡ cond b 0 k → cond (eqb j 0) 0 (suc (length s - q)) < cond (eqb n 0) 0 (suc (length s - p))
+    go true g = rw (g, ne-eqb n 0 (λ z. omega arith)) (omega arith)
+    go false g = rw g f

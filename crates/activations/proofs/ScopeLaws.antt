@@ -26,12 +26,13 @@ use Rattle.activation_rules.specs.MadeNames.{scopeAt, valueVar}
 use Rattle.activations.specs.ByNumber.{ontoItems}
 use Rattle.activations.specs.Places.{bodyIn, branchEnd, equationEnd, firstLeftIn, rightSideIn}
 use Rattle.activations.specs.Walks.{writeStep}
-use Rattle.activations.specs.UnlastAt.{metItems, metStep, unlastT}
+use Rattle.activations.specs.UnlastAt.{unlastT}
 use Rattle.activations.specs.NumbersAt.{idItems, sampleNameT}
 use Rattle.activations.specs.ReadsAt.{joinT, readsT}
 use Rattle.activations.specs.RewriteAt.{hasConstT, overT, pinItems, pinT, pinnedT, renameItems, renameT}
 use Rattle.activations.specs.ScopesAt.{branchesT, equationT, equationsT, newItems, readsAt, sampleItems, scopeT, scopesT, valueItems}
 use Rattle.activations.proofs.PassLaws.{full-walked}
+use Rattle.activations.proofs.UnlastLaws.{unlast-full}
 
 full-is : (o d : List ℕ) (w : Writer) → w .full ≡ true → stateOf o d w ≡ full
 unfolding stateOf
@@ -87,17 +88,13 @@ module _ (old s spots : List ℕ) (names : ℕ) (made : Bool) (ns : List Name) (
   equation-written ids seen p e c d r z f g h i = i ∙ (λ j. overT old s spots names made a n k ids held rows ns last (h j) ((g ∙ ap (render old (valueItems s spots names a n k p)) f) j))
 
   -- a full writer stays full
-  unlast-full : (at : ℕ) → unlastT ns s last old spots a at full ≡ full
-  unfolding unlastT metStep writeStep
-  unlast-full at = full-walked ns s last old (metItems s spots a) 1 at
-
   pinned-full : (at : ℕ) → pinnedT old s spots a n k ns last at full ≡ full
   unfolding pinnedT pinT
   pinned-full at = go (hasConstT ns s last at)
     where
       go : (b : Bool) → cond b (pinT old s spots a n k ns last at full) (unlastT ns s last old spots a at (render old (ontoItems a n (scopeAt n k)) full)) ≡ full
       go true = full-walked ns s last old (pinItems s spots a n k) 1 at
-      go false = ap (unlastT ns s last old spots a at) (render-full old (ontoItems a n (scopeAt n k))) ∙ unlast-full at
+      go false = ap (unlastT ns s last old spots a at) (render-full old (ontoItems a n (scopeAt n k))) ∙ unlast-full old s spots a ns last at
 
   over-full : (ids : List ℕ) (at : ℕ) → overT old s spots names made a n k ids held rows ns last at full ≡ full
   unfolding overT renameT

@@ -27,8 +27,8 @@ use Rattle.activation_rules.specs.MadeNames.{lastVar}
 use Rattle.activation_rules.specs.Unlast.{unlast, unlasts}
 use Rattle.activations.specs.Kids.{headItems, kids, listOf}
 use Rattle.activations.specs.Met.{metAt, onwardT}
-use Rattle.activations.specs.Walks.{LastIs, through}
-use Rattle.activations.specs.UnlastAt.{copyItems, metItems, metStep, unlastT}
+use Rattle.activations.specs.Walks.{LastIs, through, writeStep}
+use Rattle.activations.specs.UnlastAt.{copyItems, metItems, unlastT}
 use Rattle.activations.proofs.Views.{View, toCome, vArray, vArrow, vBad, vBinary, vCall, vCast, vConst, vField, vIf, vIndex, vIterate, vLast, vMerge, vPre, vStruct, vTuple, vUnary, vVar, vWhen}
 use Rattle.activations.proofs.Walking.{walks-one}
 use Rattle.activations.proofs.HeadCopies.{Kept, head-copied, items-split, kept-come}
@@ -103,8 +103,8 @@ module _ (ns : List Name) (fresh : Fresh [] ns) (few : length ns < 65536) (legal
   written e z = render (tabled ns) (exprItems (unlast a e)) z
 
   -- what is copied at a node that is not replaced
-  copied : (p : ℕ) (m : Met) (z : State) → Kept m → metStep (tabled ns) s spots a m p z ≡ puts (sliceOf s p (onwardT m - p)) z
-  unfolding metStep metItems copyItems render putItem onwardT Kept
+  copied : (p : ℕ) (m : Met) (z : State) → Kept m → writeStep (tabled ns) (metItems s spots a) m p z ≡ puts (sliceOf s p (onwardT m - p)) z
+  unfolding writeStep metItems copyItems render putItem onwardT Kept
   copied p (mt.Last v i q) z h = absurd h
   copied p (mt.Bad u q) z h = refl
   copied p (mt.Const q) z h = refl
@@ -114,28 +114,28 @@ module _ (ns : List Name) (fresh : Fresh [] ns) (few : length ns < 65536) (legal
   copied p mt.Nothing z h = refl
 
   kept-follows : (p : ℕ) (e : Expr) (q : ℕ) (z : State) → exprIn ns s p ≡ value e q → View ns s e (metAt ns s last p) → Kept (metAt ns s last p)
-      → written e z ≡ through written (toCome (metAt ns s last p) e) (metStep (tabled ns) s spots a (metAt ns s last p) p z)
+      → written e z ≡ through written (toCome (metAt ns s last p) e) (writeStep (tabled ns) (metItems s spots a) (metAt ns s last p) p z)
   unfolding written sliceOf
   kept-follows p e q z d v h =
       ap (λ (is : List Item). render (tabled ns) is z) (splits a ns s e (metAt ns s last p) v h)
       ∙ render-append (tabled ns) (headItems e) (each (λ x. exprItems (unlast a x)) (kids e)) z
       ∙ ap (render (tabled ns) (each (λ x. exprItems (unlast a x)) (kids e))) (head-copied ns fresh few s by last L legal p e q d h z ∙ sym (copied p (metAt ns s last p) z h))
-      ∙ sym (each-through (tabled ns) (unlast a) (kids e) (metStep (tabled ns) s spots a (metAt ns s last p) p z))
-      ∙ ap (λ (es : List Expr). through written es (metStep (tabled ns) s spots a (metAt ns s last p) p z)) (sym (kept-come (metAt ns s last p) e h))
+      ∙ sym (each-through (tabled ns) (unlast a) (kids e) (writeStep (tabled ns) (metItems s spots a) (metAt ns s last p) p z))
+      ∙ ap (λ (es : List Expr). through written es (writeStep (tabled ns) (metItems s spots a) (metAt ns s last p) p z)) (sym (kept-come (metAt ns s last p) e h))
 
   -- a call that is replaced becomes its holder
-  last-follows : (p : ℕ) (e : Expr) (var init next : ℕ) (z : State) → View ns s e (mt.Last var init next) → written e z ≡ metStep (tabled ns) s spots a (mt.Last var init next) p z
-  unfolding written metStep metItems exprItems
+  last-follows : (p : ℕ) (e : Expr) (var init next : ℕ) (z : State) → View ns s e (mt.Last var init next) → written e z ≡ writeStep (tabled ns) (metItems s spots a) (mt.Last var init next) p z
+  unfolding written writeStep metItems exprItems
   last-follows p e var init next z (vLast {f = f} {v = v} {xs = xs} {i = i} k l n d) =
       ap (λ (y : Expr). render (tabled ns) (exprItems y) z) (last-call a f xs v i k)
       ∙ ap (λ (y : Name). render (tabled ns) (raw (1 ∷ []) ∷ nm (lastVar a y) ∷ []) z) (sym (placed var l ∙ n))
 
-  at-met : (p : ℕ) (e : Expr) (q : ℕ) (m : Met) (z : State) → exprIn ns s p ≡ value e q → m ≡ metAt ns s last p → View ns s e m → Kept m → written e z ≡ through written (toCome m e) (metStep (tabled ns) s spots a m p z)
+  at-met : (p : ℕ) (e : Expr) (q : ℕ) (m : Met) (z : State) → exprIn ns s p ≡ value e q → m ≡ metAt ns s last p → View ns s e m → Kept m → written e z ≡ through written (toCome m e) (writeStep (tabled ns) (metItems s spots a) m p z)
   at-met p e q m z d g v h =
-      subst (λ (y : Met). written e z ≡ through written (toCome y e) (metStep (tabled ns) s spots a y p z)) (sym g)
+      subst (λ (y : Met). written e z ≡ through written (toCome y e) (writeStep (tabled ns) (metItems s spots a) y p z)) (sym g)
       (kept-follows p e q z d (subst (View ns s e) g v) (subst Kept g h))
 
-  follows : (p : ℕ) (e : Expr) (q : ℕ) (m : Met) (z : State) → exprIn ns s p ≡ value e q → m ≡ metAt ns s last p → View ns s e m → written e z ≡ through written (toCome m e) (metStep (tabled ns) s spots a m p z)
+  follows : (p : ℕ) (e : Expr) (q : ℕ) (m : Met) (z : State) → exprIn ns s p ≡ value e q → m ≡ metAt ns s last p → View ns s e m → written e z ≡ through written (toCome m e) (writeStep (tabled ns) (metItems s spots a) m p z)
   unfolding toCome through Kept
   follows p e q (mt.Last var init next) z d g v = last-follows p e var init next z v
   follows p e q (mt.Bad u n) z d g v = at-met p e q (mt.Bad u n) z d g v tt
@@ -148,4 +148,4 @@ module _ (ns : List Name) (fresh : Fresh [] ns) (few : length ns < 65536) (legal
   -- THE LAW: what is written of an expression that was read
   pub unlast-written : (at : ℕ) (e : Expr) (q : ℕ) (z : State) → exprIn ns s at ≡ value e q → unlastT ns s last (tabled ns) spots a at z ≡ render (tabled ns) (exprItems (unlast a e)) z
   unfolding unlastT written
-  unlast-written at e q z d = walks-one ns s few by short last L (metStep (tabled ns) s spots a) written follows at e q z d
+  unlast-written at e q z d = walks-one ns s few by short last L (writeStep (tabled ns) (metItems s spots a)) written follows at e q z d

@@ -4,23 +4,19 @@ use mathlib.Core.List.{List}
 use mathlib.Core.Bool.{Bool, false, _||_}
 use Rattle.pack.specs.Names.{Name}
 use Rattle.machines.specs.Sure.{numberIn, with}
-use Rattle.activations.specs.declared.met.Met.{Met}
 use Rattle.activations.specs.declared.parts.Act.{Act}
 use Rattle.activations.specs.Met.{isBad}
 use Rattle.activations.specs.Places.{anyT, bodyIn, branchEnd, equationEnd, rightSideIn}
-use Rattle.activations.specs.Walks.{walked}
+use Rattle.activations.specs.Walks.{orStep, walked}
 
 -- whether f holds of a branch, where the count of branches stands at `at`
 unfoldable pub anyBranchT : List Name → List ℕ → (ℕ → Bool) → ℕ → Bool
 anyBranchT ns s f at = with (numberIn s at) λ n p. anyT f (branchEnd ns s) n p
 
--- a pass that looks for a bad call
-unfoldable pub badStep : Met → ℕ → Bool → Bool
-badStep m p z = z || isBad m
-
 module _ (ns : List Name) (s : List ℕ) (last : ℕ) where
+  -- in the expression at an offset
   unfoldable pub misusedT : ℕ → Bool
-  misusedT at = walked ns s last badStep 1 at false
+  misusedT at = walked ns s last (orStep isBad) 1 at false
 
   -- in an equation, in a scope whose count of equations stands at `at`
   unfoldable pub misusedEquationT : ℕ → Bool

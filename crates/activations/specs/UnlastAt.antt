@@ -4,13 +4,12 @@ use mathlib.Core.List.{List, [], _∷_}
 use Rattle.wire.specs.Writer.{State}
 use Rattle.pack.specs.Names.{Name}
 use Rattle.pack.specs.Write.{Item, nm, raw}
-use Rattle.pack.specs.Intern.{render}
 use Rattle.machines.specs.Laid.{sliceOf}
 use Rattle.machines.specs.Emits.{packName}
 use Rattle.activations.specs.declared.met.Met.{Met}
 use Rattle.activations.specs.declared.met.Met.the-variants as mt
 use Rattle.activation_rules.specs.MadeNames.{lastVar}
-use Rattle.activations.specs.Walks.{walked}
+use Rattle.activations.specs.Walks.{walked, writeStep}
 
 -- the bytes from p up to q
 unfoldable pub copyItems : List ℕ → ℕ → ℕ → List Item
@@ -26,9 +25,6 @@ metItems s spots a (mt.Clocked c u q) p = copyItems s p q
 metItems s spots a (mt.Other u q) p = copyItems s p q
 metItems s spots a mt.Nothing p = copyItems s p 0
 
-unfoldable pub metStep : List ℕ → List ℕ → List ℕ → Name → Met → ℕ → State → State
-metStep old s spots a m p z = render old (metItems s spots a m p) z
-
 -- the expression at an offset
 unfoldable pub unlastT : List Name → List ℕ → ℕ → List ℕ → List ℕ → Name → ℕ → State → State
-unlastT ns s last old spots a at z = walked ns s last (metStep old s spots a) 1 at z
+unlastT ns s last old spots a at z = walked ns s last (writeStep old (metItems s spots a)) 1 at z

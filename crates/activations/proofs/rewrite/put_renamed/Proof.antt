@@ -8,8 +8,7 @@ use Rattle.pack.specs.Names.{Name}
 use Rattle.activations.specs.Walks.{leftT, walked, writeStep}
 use Rattle.activations.specs.RewriteAt.{renameItems}
 use Rattle.activations.proofs.Moving.{meets-fall}
-use Rattle.activations.proofs.UnlastLaws.{left-falls}
-use Rattle.activations.proofs.PassLaws.{write-on}
+use Rattle.activations.proofs.PassLaws.{left-falls, write-on}
 use Rattle.activations.proofs.RewriteLaws.{rename-done}
 use Rattle.activations.proofs.rewrite.put_renamed.Statement.{statement}
 use Rattle.activations.proofs.rewrite.put_renamed.Tie as tie
