@@ -132,14 +132,11 @@ module _ (s : List ℕ) (k : Pack) (p : Package) (h : Stands s k p) (bytes : Byt
               (record { gives = g p h basis settled; report-is = written-quiet (length output) (withoutActivations p (madeActivations p)) report })
 
 -- what the writer reached is the lowered pack
-pub gives-written : (room : ℕ) (s names : List ℕ) (k : Pack) (old : List ℕ) (p : Package) (z : State) (number value : ℕ) (output output′ : List ℕ) → Stands s k p → Bytes s → length s ≤ 65536 → names ≡ sliceOf s 2 (k .enums - 2) → old ≡ tabled (p .names) → z ≡ render old (packageItems (withoutActivations p (madeActivations p))) unwritten
+pub gives-written : (room : ℕ) (s names : List ℕ) (k : Pack) (old : List ℕ) (p : Package) (z : State) (number value : ℕ) (output output′ : List ℕ) → Stands s k p → Bytes s → names ≡ sliceOf s 2 (k .enums - 2) → old ≡ tabled (p .names) → z ≡ render old (packageItems (withoutActivations p (madeActivations p))) unwritten
     → Gives (answered room names z) number value output output′ → Gives (written room (withoutActivations p (madeActivations p))) number value output output′
 unfolding withoutActivations
-gives-written room s names k old p z number value output output′ h b short n e f g =
-    let q = few s k p h b short in
-    let l = length-replicate {A = ℕ} 32768 0 in
-    let r = ready s k p (replicate 32768 0) (replicate 32768 0) h short (omega arith) (omega arith) (scratch-empty .noMachine) in
-    carried _ _ number value output output′ (finished-is room (withoutActivations p (madeActivations p)) names old z (n ∙ names-stand s k p h b _ _ r) e f) g
+gives-written room s names k old p z number value output output′ h b n e f g =
+    carried _ _ number value output output′ (finished-is room (withoutActivations p (madeActivations p)) names old z (n ∙ names-stand s k p h b) e f) g
 
 pub base-is : (old s : List ℕ) (x : Pack) (spots : List ℕ) (last : ℕ) (made : Bool) → last ≡ placeIn old (108 ∷ 97 ∷ 115 ∷ 116 ∷ []) → made ≡ someMadeT s spots (x .names) → record { names = x .names; last = last; enums = x .enums; made = made } ≡ baseT old s x spots
 unfolding baseT lastName

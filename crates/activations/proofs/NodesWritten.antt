@@ -85,7 +85,7 @@ module _ (ns : List Name) (es : List Enum) (old s spots : List ℕ) (b : Base) (
   unfolding front portsIn extend
   head-written l e c more us vs z₀ z₁ z₂ z₃ z₄ el ee ec em eu f₁ f₂ ev f₃ f₄ =
       let r = node-value ns s at m (R .end) (R .read) in
-      let lo : l ≡ r .to-locals = el ∙ node-locals-to ns s old spots P at m (R .end) r in
+      let lo : l ≡ r .to-locals = el ∙ node-locals-to ns s at m (R .end) r in
       let eo : e ≡ r .to-equations = ee ∙ ap (λ (y : ℕ). endOf (portsIn ns s y)) lo ∙ end-to (portsIn ns s (r .to-locals)) (m .locals) (r .to-equations) (r .locals) in
       let co : c ≡ num (length (m .locals)) (r .to-locals + 2) = ec ∙ ap (numberIn s) lo ∙ counted-parts (portIn ns s) s (r .to-locals) (m .locals) (r .to-equations) (r .locals) .0 in
       let h : Lies ns s at front (r .to-locals) =
@@ -105,7 +105,7 @@ module _ (ns : List Name) (es : List Enum) (old s spots : List ℕ) (b : Base) (
   unfolding tailItems extend equationsIn
   tail-written e q c more vs z₀ z₁ z₂ z₃ el ee ec em f₁ ev f₂ f₃ =
       let r = node-value ns s at m (R .end) (R .read) in
-      let lo : e ≡ r .to-equations = el ∙ node-equations-to ns s old spots P at m (R .end) r in
+      let lo : e ≡ r .to-equations = el ∙ node-equations-to ns s at m (R .end) r in
       let eo : q ≡ R .end = ee ∙ ap (λ (y : ℕ). endOf (equationsIn ns s y)) lo ∙ end-to (equationsIn ns s (r .to-equations)) (m .equations) (R .end) (r .equations) in
       let co : c ≡ num (length (m .equations)) (r .to-equations + 2) = ec ∙ ap (numberIn s) lo ∙ counted-parts (equationIn ns s) s (r .to-equations) (m .equations) (R .end) (r .equations) .0 in
       let w₁ : z₁ ≡ puts (two (length (m .equations) + totalT (bringsEquationsT s acts k) n 0)) z₀ =

@@ -184,7 +184,7 @@ module _ (ns : List Name) (s old spots : List ℕ) (P : PackOf ns s old spots) w
           let at : ℕ = getD nodes (length (its .pre)) 0 in
           let e : nodeIn ns s at ≡ value (its .node) (h .end) = ap (λ j. nodeIn ns s (getD nodes j 0)) (sym z) ∙ h .read in
           let r = node-value ns s at (its .node) (h .end) e in
-          ap (λ y. numberIn s y .value) (node-equations-to ns s old spots P at (its .node) (h .end) r)
+          ap (λ y. numberIn s y .value) (node-equations-to ns s at (its .node) (h .end) r)
           ∙ ap (λ (y : Num). y .value) (equations-number ns s old spots P (r .to-equations) (its .node .equations) (h .end) (r .equations) .0)
 
       -- how many equations its node has before it

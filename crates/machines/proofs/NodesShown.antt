@@ -28,9 +28,9 @@ use Rattle.machines.specs.Brought.{eachT, nodeEquationsIn, ownedT, small
 use Rattle.machines.specs.NodeHeads.{headPart, newHeadT}
 use Rattle.machines.specs.Parts.{newNodeT, nodeEquationsT, nodesT, oldNodeT, oldNodesT}
 use Rattle.machines.proofs.Reading.{many-cut, many-more, many-over}
-use Rattle.machines.proofs.SureLaws.{end-to, then-to}
+use Rattle.machines.proofs.SureLaws.{then-to}
 use Rattle.machines.proofs.BroughtLaws.{small-is}
-use Rattle.machines.proofs.ShownCounts.{brought-equations-shown, equations-number, heads-origins, node-equations-to, node-value, owned-shown, owners-shown}
+use Rattle.machines.proofs.ShownCounts.{brought-equations-shown, equations-number, heads-origins, node-end-to, node-equations-to, node-value, owned-shown, owners-shown}
 use Rattle.machines.proofs.ShownItems.{each-shown, raw-first}
 use Rattle.machines.proofs.ShownHeads.{holding-parts, new-head-written, old-head-written}
 use Rattle.machines.proofs.Relaying.{itemsAt, madeEquationItems}
@@ -69,17 +69,12 @@ module _ (ns : List Name) (s old spots : List ℕ) (P : PackOf ns s old spots) (
 
   -- an old node
   module _ (k at : ℕ) (x : Node) (q : ℕ) (r : nodeIn ns s at ≡ value x q) where
-    after-node : endOf (equationsIn ns s (nodeEquationsIn ns s at)) ≡ q
-    after-node =
-        let d = node-value ns s at x q r in
-        ap (λ y. endOf (equationsIn ns s y)) (node-equations-to ns s old spots P at x q d) ∙ end-to (equationsIn ns s (d .to-equations)) (x .equations) q (d .equations)
-
     old-equations : with (numberIn s (nodeEquationsIn ns s at)) (λ v b. nodeEquationsT ns s mats ats regs spots (length xs) (itemsAt madeEquationItems xs) k v b (endOf (equationsIn ns s (nodeEquationsIn ns s at))))
         ≡ nodeEquationsT ns s mats ats regs spots (length xs) (itemsAt madeEquationItems xs) k (length (x .equations)) (node-value ns s at x q r .to-equations + 2) q
     old-equations =
         let d = node-value ns s at x q r in
         let t : ℕ → ℕ → ℕ → List Item = nodeEquationsT ns s mats ats regs spots (length xs) (itemsAt madeEquationItems xs) k in
-        (λ j. with (numberIn s (node-equations-to ns s old spots P at x q d j)) (λ v b. t v b (after-node j)))
+        (λ j. with (numberIn s (node-equations-to ns s at x q d j)) (λ v b. t v b (node-end-to ns s at x q d j)))
         ∙ then-to (numberIn s (d .to-equations)) (length (x .equations)) (d .to-equations + 2) (λ v b. t v b q) (equations-number ns s old spots P (d .to-equations) (x .equations) q (d .equations) .0)
 
     old-node-written : (z : State) → render old (oldNodeT ns s mats ats regs spots (length xs) (itemsAt madeEquationItems xs) k at) z ≡ render old (holdingItems xs k x) z
@@ -100,7 +95,7 @@ module _ (ns : List Name) (s old spots : List ℕ) (P : PackOf ns s old spots) (
       let a = many-more (nodeIn ns s) c at x nodes q e in
       let f : ℕ → List Item = oldNodesT ns s mats ats regs spots (length xs) (itemsAt madeEquationItems xs) c (suc k) in
       render-append old (oldNodeT ns s mats ats regs spots (length xs) (itemsAt madeEquationItems xs) k at) (f (endOf (equationsIn ns s (nodeEquationsIn ns s at)))) z
-      ∙ (λ j. render old (f (after-node k at x (a .0) (a .1) j)) (old-node-written k at x (a .0) (a .1) z j))
+      ∙ (λ j. render old (f (node-end-to ns s at x (a .0) (node-value ns s at x (a .0) (a .1)) j)) (old-node-written k at x (a .0) (a .1) z j))
       ∙ old-nodes-written c (suc k) (a .0) nodes q (a .2) (render old (holdingItems xs k x) z)
       ∙ sym (render-append old (holdingItems xs k x) (filledItems xs (suc k) nodes) z)
 

@@ -79,14 +79,14 @@ goes-length (x ∷ xs) = ap suc (goes-length xs)
 shares-length : (p : Package) → madeMachines p .refusals ≡ [] → length (sharesOf p) ≡ length (p .machines)
 shares-length p e = sym (goes-length (sharesOf p)) ∙ ap length (sym (package-goes p e)) ∙ verdicts-length (p .machines) (p .machines) (nodeNames (p .nodes))
 
+-- the old names, as they stand
+pub names-stand : (s : List ℕ) (k : Pack) (p : Package) → Stands s k p → Bytes s → sliceOf s 2 (k .enums - 2) ≡ enc (p .names)
+names-stand s k p h bytes =
+    let v = u16-value s (k .enums) _ _ (counted-many (enumIn (p .names) s) s (k .enums) (p .enums) (k .nodes) (h .enums) .0) in
+    let i = v .inside in
+    names-slice s (p .names) (k .enums) bytes (omega arith) (h .names)
+
 module _ (s : List ℕ) (k : Pack) (p : Package) (h : Stands s k p) (bytes : Bytes s) (spots to : List ℕ) (r : Ready s (p .names) (p .machines) spots to) where
-  inside : k .enums ≤ length s
-  inside = let v = u16-value s (k .enums) _ _ (counted-many (enumIn (p .names) s) s (k .enums) (p .enums) (k .nodes) (h .enums) .0) in let i = v .inside in omega arith
-
-  -- the old names, as they stand
-  pub names-stand : sliceOf s 2 (k .enums - 2) ≡ enc (p .names)
-  names-stand = names-slice s (p .names) (k .enums) bytes inside (h .names)
-
   -- what the sections need of the pack and its names
   pub pack-known : PackOf (p .names) s (tabled (table (sliceOf s 2 (k .enums - 2)))) spots
   pack-known =
@@ -96,7 +96,7 @@ module _ (s : List ℕ) (k : Pack) (p : Package) (h : Stands s k p) (bytes : Byt
         legal = t .2;
         fresh = t .1;
         few = t .0;
-        names = ap (λ (l : List ℕ). tabled (table l)) names-stand ∙ ap tabled (table-enc (p .names));
+        names = ap (λ (l : List ℕ). tabled (table l)) (names-stand s k p h bytes) ∙ ap tabled (table-enc (p .names));
         placed = λ i l. right-name s spots i (nameAt (p .names) i) (r .spot i l);
       }
 
@@ -162,7 +162,7 @@ module _ (s : List ℕ) (k : Pack) (p : Package) (h : Stands s k p) (bytes : Byt
     written-known e n c output room =
         let w = sections-written p s (tabled (table (sliceOf s 2 (k .enums - 2)))) spots to mats ats regs k h pack-known r (sharesOf p) (pack-lowered s p mats ats regs z e) n (c ∙ sym (shares-length p e)) in (
           w,
-          finished-is output (withoutMachines p (madeMachines p)) (sliceOf s 2 (k .enums - 2)) (tabled (table (sliceOf s 2 (k .enums - 2)))) _ names-stand (pack-known .names)
+          finished-is output (withoutMachines p (madeMachines p)) (sliceOf s 2 (k .enums - 2)) (tabled (table (sliceOf s 2 (k .enums - 2)))) _ (names-stand s k p h bytes) (pack-known .names)
               (w .sections unwritten ∙ ap (λ (is : List Item). render (tabled (table (sliceOf s 2 (k .enums - 2)))) is unwritten) (sym (section-items p e)))
               ∙ sym (ap (λ (rs : List Refusal). finished output room rs (withoutMachines p (madeMachines p))) e),
         )

@@ -104,6 +104,25 @@ node-value ns s at x q e =
       equations = g .1 ∙ ap (λ (y : Node). value (y .equations) q) same;
     }
 
+-- the parts of a node that was read
+module _ (ns : List Name) (s : List ℕ) (at : ℕ) (x : Node) (q : ℕ) (r : NodeRead ns s at x q) where
+  pub node-locals-to : nodeLocalsIn ns s at ≡ r .to-locals
+  unfolding nodeLocalsIn offsetOf below
+  node-locals-to =
+      let n = name-number ns s at (x .name) (r .to-kind) (r .name) in
+      let b = guard-value _ (r .to-kind) (byte s (r .to-kind)) (r .kind) (r .to-inputs) (r .byte) in
+      number-to s at (n .i) (r .to-kind) _ (n .is)
+      ∙ byte-to s (r .to-kind) (r .kind) (r .to-inputs) _ (b .0)
+      ∙ ap (λ y. offsetOf (onward (portsIn ns s) y)) (onward-to (portsIn ns s) (r .to-inputs) (x .inputs) (r .to-outputs) (r .inputs))
+      ∙ ap offsetOf (onward-to (portsIn ns s) (r .to-outputs) (x .outputs) (r .to-locals) (r .outputs))
+
+  pub node-equations-to : nodeEquationsIn ns s at ≡ r .to-equations
+  unfolding nodeEquationsIn
+  node-equations-to = ap (λ y. endOf (portsIn ns s y)) node-locals-to ∙ end-to (portsIn ns s (r .to-locals)) (x .locals) (r .to-equations) (r .locals)
+
+  pub node-end-to : endOf (equationsIn ns s (nodeEquationsIn ns s at)) ≡ q
+  node-end-to = ap (λ y. endOf (equationsIn ns s y)) node-equations-to ∙ end-to (equationsIn ns s (r .to-equations)) (x .equations) q (r .equations)
+
 module _ (ns : List Name) (s old spots : List ℕ) (P : PackOf ns s old spots) where
   -- the count of ports, of equations
   pub ports-number : (at : ℕ) (ps : List Port) (q : ℕ) → portsIn ns s at ≡ value ps q → (numberIn s at ≡ num (length ps) (at + 2)) × (length ps < 65536)
@@ -221,22 +240,6 @@ module _ (ns : List Name) (s old spots : List ℕ) (P : PackOf ns s old spots) w
     pub owners-shown : (i : ℕ) (xs : List Share) → Shown ns s mats ats regs i xs → totalT (ownedT s mats) (length xs) i ≡ total (λ (x : Share). originCount (x .fate)) xs
     owners-shown i xs h = total-shown (ownedT s mats) _ owned-shown i xs h
 
-  -- the parts of a node that was read
-  module _ (at : ℕ) (x : Node) (q : ℕ) (r : NodeRead ns s at x q) where
-    pub node-locals-to : nodeLocalsIn ns s at ≡ r .to-locals
-    unfolding nodeLocalsIn offsetOf below
-    node-locals-to =
-        let n = name-number ns s at (x .name) (r .to-kind) (r .name) in
-        let b = guard-value _ (r .to-kind) (byte s (r .to-kind)) (r .kind) (r .to-inputs) (r .byte) in
-        number-to s at (n .i) (r .to-kind) _ (n .is)
-        ∙ byte-to s (r .to-kind) (r .kind) (r .to-inputs) _ (b .0)
-        ∙ ap (λ y. offsetOf (onward (portsIn ns s) y)) (onward-to (portsIn ns s) (r .to-inputs) (x .inputs) (r .to-outputs) (r .inputs))
-        ∙ ap offsetOf (onward-to (portsIn ns s) (r .to-outputs) (x .outputs) (r .to-locals) (r .outputs))
-
-    pub node-equations-to : nodeEquationsIn ns s at ≡ r .to-equations
-    unfolding nodeEquationsIn
-    node-equations-to = ap (λ y. endOf (portsIn ns s y)) node-locals-to ∙ end-to (portsIn ns s (r .to-locals)) (x .locals) (r .to-equations) (r .locals)
-
   -- how many equations an old node has
   pub old-shown : (n at : ℕ) (xs : List Node) (q k : ℕ) → many (nodeIn ns s) n at ≡ value xs q → oldT ns s n at k ≡ oldCount xs k
   unfolding oldT oldCount
@@ -247,12 +250,10 @@ module _ (ns : List Name) (s old spots : List ℕ) (P : PackOf ns s old spots) w
       let a = many-more (nodeIn ns s) n at x xs q e in
       let r = node-value ns s at x (a .0) (a .1) in
       let c = equations-number (r .to-equations) (x .equations) (a .0) (r .equations) in
-      ap (λ y. with (numberIn s y) (λ v q. smallOf v)) (node-equations-to at x (a .0) r)
+      ap (λ y. with (numberIn s y) (λ v q. smallOf v)) (node-equations-to ns s at x (a .0) r)
       ∙ then-to (numberIn s (r .to-equations)) (length (x .equations)) (r .to-equations + 2) (λ v q. smallOf v) (c .0)
       ∙ sym (small-is (length (x .equations)) (c .1))
   old-shown (suc n) at (x ∷ xs) q (suc k) e =
       let a = many-more (nodeIn ns s) n at x xs q e in
-      let r = node-value ns s at x (a .0) (a .1) in
-      ap (λ y. oldT ns s n (endOf (equationsIn ns s y)) k) (node-equations-to at x (a .0) r)
-      ∙ ap (λ y. oldT ns s n y k) (end-to (equationsIn ns s (r .to-equations)) (x .equations) (a .0) (r .equations))
+      ap (λ y. oldT ns s n y k) (node-end-to ns s at x (a .0) (node-value ns s at x (a .0) (a .1)))
       ∙ old-shown n (a .0) xs q k (a .2)

@@ -91,8 +91,8 @@ module _ (ns : List Name) (s old spots : List ℕ) (P : PackOf ns s old spots) (
   old-head-written at x q r z =
       let d = node-value ns s at x q r in
       let l = lies-head ns (P .fresh) (P .few) s (P .bytes) at (x .name) (d .to-kind) (d .kind) (d .to-inputs) (x .inputs) (d .to-outputs) (x .outputs) (d .to-locals) (d .name) (d .byte) (d .inputs) (d .outputs) in
-      let el = node-locals-to ns s old spots P at x q d in
-      let ee = node-equations-to ns s old spots P at x q d in
+      let el = node-locals-to ns s at x q d in
+      let ee = node-equations-to ns s at x q d in
       let n = ports-number ns s old spots P (d .to-locals) (x .locals) (d .to-equations) (d .locals) .0 in
       let f : ℕ → ℕ → List Item = λ v b. nodeLocalsT ns s mats ats regs spots (length xs) k v b (d .to-equations) in
       let rest = continued portItems (x .locals) (broughtCount localCount k xs) (each (bringsItems portItems localsOf k) xs) in

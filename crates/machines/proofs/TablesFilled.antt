@@ -8,27 +8,23 @@ use lib.ListN.{length, getD, set, length-set}
 use lib.Seq.{getD-set-other, getD-set-same}
 use lib.Dec.{eqb}
 use borrow.Author.Tests.{eqb-false, eqb-true}
-use Rattle.wire.specs.Answer.{below, byte, many, value}
-use Rattle.wire.specs.Code.{onward}
-use Rattle.wire.proofs.Answers.{guard-value, many-length}
+use Rattle.wire.specs.Answer.{many, value}
+use Rattle.wire.proofs.Answers.{many-length}
 use Rattle.pack.specs.Names.{Name}
 use Rattle.pack.specs.Syntax.{Drawing, Node}
 use Rattle.pack.specs.Forms.{nameAt}
-use Rattle.pack.specs.Read.{equationsIn, machineIn, nodeIn, portsIn}
-use Rattle.pack.specs.Verdict.{offsetOf}
+use Rattle.pack.specs.Read.{machineIn, nodeIn}
 use Rattle.machines.specs.declared.sure.Num.{Num}
-use Rattle.machines.specs.Stands.{endOf}
 use Rattle.machines.specs.Sure.{numberIn}
 use Rattle.machines.specs.Tables.{initialIn, statesEnd}
-use Rattle.machines.specs.Brought.{nodeEquationsIn, nodeLocalsIn}
 use Rattle.machines.specs.Sections.{nodeNames}
 use Rattle.machines.specs.Settling.{fillT, machineEnd, nodeEnd, nodeNameT, nth}
 use Rattle.machines.specs.Verdicts.{Judgings, NodesAre, Told}
 use Rattle.machines.proofs.Reading.{machine-value, many-cut, many-more, many-over, name-number}
-use Rattle.machines.proofs.SureLaws.{byte-to, end-to, number-num, number-to}
-use Rattle.machines.proofs.MachinesPlaced.{initial-to, onward-to, states-to}
+use Rattle.machines.proofs.SureLaws.{number-num, number-to}
+use Rattle.machines.proofs.MachinesPlaced.{initial-to, states-to}
 use Rattle.machines.proofs.Shares.{length-names}
-use Rattle.machines.proofs.ShownCounts.{node-value}
+use Rattle.machines.proofs.ShownCounts.{node-end-to, node-value}
 use Rattle.machines.proofs.SettleLaws.{nth-step}
 
 -- a filled table
@@ -67,18 +63,8 @@ module _ (ns : List Name) (s : List ℕ) where
       ∙ states-to ns s at d e r
 
   pub node-ends : (at : ℕ) (x : Node) (q : ℕ) → nodeIn ns s at ≡ value x q → nodeEnd ns s at ≡ q
-  unfolding nodeEnd nodeEquationsIn nodeLocalsIn offsetOf below
-  node-ends at x q h =
-      let r = node-value ns s at x q h in
-      let n = name-number ns s at (x .name) (r .to-kind) (r .name) in
-      let b = guard-value _ (r .to-kind) (byte s (r .to-kind)) (r .kind) (r .to-inputs) (r .byte) in
-      ap (λ y. endOf (equationsIn ns s (endOf (portsIn ns s y))))
-      (number-to s at (n .i) (r .to-kind) _ (n .is)
-      ∙ byte-to s (r .to-kind) (r .kind) (r .to-inputs) _ (b .0)
-      ∙ ap (λ y. offsetOf (onward (portsIn ns s) y)) (onward-to (portsIn ns s) (r .to-inputs) (x .inputs) (r .to-outputs) (r .inputs))
-      ∙ ap offsetOf (onward-to (portsIn ns s) (r .to-outputs) (x .outputs) (r .to-locals) (r .outputs)))
-      ∙ ap (λ y. endOf (equationsIn ns s y)) (end-to (portsIn ns s (r .to-locals)) (x .locals) (r .to-equations) (r .locals))
-      ∙ end-to (equationsIn ns s (r .to-equations)) (x .equations) q (r .equations)
+  unfolding nodeEnd
+  node-ends at x q h = node-end-to ns s at x q (node-value ns s at x q h)
 
   -- at an offset stands the drawing of index i
   pub record DrawnAt (at : ℕ) (ds : List Drawing) (i : ℕ) : Type 0 where

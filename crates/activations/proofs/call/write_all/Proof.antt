@@ -68,7 +68,7 @@ same-length-7 c = search needs
 
 -- src/call.rt:46:1
 returns : tie.Need-returns
-returns c = (λ p h B S. gives-written _ _ _ _ _ p _ _ _ _ _ h (B .pack .bytes) (B .short) (c .before .before .before .before .before .before .between .ensures) (B .pack .names) (c .before .before .before .before .before .before .before .before .before .before .before .before .before .before .before .before .before .before .before .before .before .put-sections .ensures p h B S ∙ ap (render _ _) empty-buffers) (c .before .before .finish .ensures), gives-fits _ _ _ _ _ _ _ (c .before .before .finish .ensures))
+returns c = (λ p h B S. gives-written _ _ _ _ _ p _ _ _ _ _ h (B .pack .bytes) (c .before .before .before .before .before .before .between .ensures) (B .pack .names) (c .before .before .before .before .before .before .before .before .before .before .before .before .before .before .before .before .before .before .before .before .before .put-sections .ensures p h B S ∙ ap (render _ _) empty-buffers) (c .before .before .finish .ensures), gives-fits _ _ _ _ _ _ _ (c .before .before .finish .ensures))
 
 pub write-all-spec : {M : Type 1} → statement M
 write-all-spec =
