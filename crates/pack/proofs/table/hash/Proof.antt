@@ -8,26 +8,41 @@ use Rattle.pack.proofs.table.hash.Statement.{statement}
 use Rattle.pack.proofs.table.hash.Tie as tie
 
 abbrev Inv-loop : tie.InvT-loop
-Inv-loop n h₀ i₀ h i = (i ≤ length n) × (h < 4096) × (hashFrom h (drop i n) ≡ hash n)
+Inv-loop n a₀ b₀ i₀ a b i = (i ≤ length n) × (a < 4294967296) × (b < 4294967296) × (hashFrom a b (drop i n) ≡ hash n)
 
 abbrev μ-loop : tie.MeasureT-loop
-μ-loop n h₀ i₀ h i = length n - i
+μ-loop n a₀ b₀ i₀ a b i = length n - i
 
 loop-holds : tie.Need-loop-holds Inv-loop μ-loop
 unfolding hash
-loop-holds c = (omega arith, omega arith, refl)
+loop-holds c = (omega arith, omega arith, omega arith, refl)
 
-mul-h : tie.Need-mul-h Inv-loop μ-loop
-mul-h c = omega arith
+shared-slice-read-fold : tie.Need-shared-slice-read-fold Inv-loop μ-loop
+shared-slice-read-fold c = omega arith
 
-shared-slice-read-h : tie.Need-shared-slice-read-h Inv-loop μ-loop
-shared-slice-read-h c = omega arith
+cast-fold : tie.Need-cast-fold Inv-loop μ-loop
+cast-fold c = omega (arith, c .shared-slice-known2 .given (c .before .before .loop .i))
 
-cast-h : tie.Need-cast-h Inv-loop μ-loop
-cast-h c = omega (arith, c .shared-slice-known .given (c .before .before .loop .i))
+add-fold : tie.Need-add-fold Inv-loop μ-loop
+add-fold c = omega (arith, c .shared-slice-known2 .given (c .before .before .loop .i))
 
-add-h : tie.Need-add-h Inv-loop μ-loop
-add-h c = omega (arith, c .shared-slice-known .given (c .before .before .loop .i))
+add-fold-2 : tie.Need-add-fold-2 Inv-loop μ-loop
+add-fold-2 c = omega (arith, c .shared-slice-known2 .given (c .before .before .loop .i))
+
+mul-fold : tie.Need-mul-fold Inv-loop μ-loop
+mul-fold c = omega (arith, c .shared-slice-known2 .given (c .before .before .loop .i))
+
+fold-requires : tie.Need-fold-requires Inv-loop μ-loop
+fold-requires c κs = omega (arith, c .shared-slice-known2 .given (c .before .before .loop .i))
+
+add-fold-3 : tie.Need-add-fold-3 Inv-loop μ-loop
+add-fold-3 c = omega (arith, c .fold .ensures .1)
+
+mul-fold-2 : tie.Need-mul-fold-2 Inv-loop μ-loop
+mul-fold-2 c = omega (arith, c .fold .ensures .1)
+
+fold-requires-2 : tie.Need-fold-requires-2 Inv-loop μ-loop
+fold-requires-2 c κs = omega (arith, c .fold .ensures .1)
 
 add-i : tie.Need-add-i Inv-loop μ-loop
 add-i c = omega arith
@@ -36,10 +51,21 @@ loop-less : tie.Need-loop-less Inv-loop μ-loop
 loop-less c = omega arith
 
 loop-again : tie.Need-loop-again Inv-loop μ-loop
-loop-again c = (omega arith, omega arith, hash-turn (c .before .before .before .args .n .now) (c .before .before .loop .h) (c .before .before .loop .i) (c .before .loop-test .taken) ∙ c .before .before .loop .inv .2)
+loop-again c = (
+  omega arith,
+  c .before .fold .ensures .1,
+  c .fold2 .ensures .1,
+  hash-turn (c .before .before .before .before .before .before .args .n .now) (c .before .before .before .before .loop .a) (c .before .before .before .before .loop .b) _ _ (c .before .before .before .before .loop .i) (c .before .before .before .loop-test .taken) (c .before .fold .ensures .0) (c .fold2 .ensures .0) ∙ c .before .before .before .before .loop .inv .3,
+)
+
+mul-result : tie.Need-mul-result Inv-loop μ-loop
+mul-result c = omega arith
+
+add-result : tie.Need-add-result Inv-loop μ-loop
+add-result c = omega arith
 
 returns : tie.Need-returns Inv-loop μ-loop
-returns c = (sym (hash-done (c .before .before .args .n .now) _ _ (c .loop-test .left)) ∙ c .before .loop .inv .2, c .before .loop .inv .1)
+returns c = sym (hash-done (c .before .before .before .args .n .now) _ _ _ (c .loop-test .left)) ∙ c .before .loop .inv .3
 
 pub hash-spec : {M : Type 1} → statement M
 hash-spec =
@@ -48,11 +74,18 @@ hash-spec =
     Inv-loop
     μ-loop
     loop-holds
-    mul-h
-    shared-slice-read-h
-    cast-h
-    add-h
+    shared-slice-read-fold
+    cast-fold
+    add-fold
+    add-fold-2
+    mul-fold
+    fold-requires
+    add-fold-3
+    mul-fold-2
+    fold-requires-2
     add-i
     loop-less
     loop-again
+    mul-result
+    add-result
     returns)
