@@ -164,11 +164,11 @@ rows-is = refl
 
 -- ONE STEP DOWN A TREE
 
--- a place by its kind and its number
-unfoldable taken-number : Place → ℕ
-taken-number (pl.Taken k) = k
-taken-number (pl.Free i) = i
-taken-number pl.Lost = 0
+-- the number in a place, and its kind
+unfoldable its-number : Place → ℕ
+its-number (pl.Taken k) = k
+its-number (pl.Free i) = i
+its-number pl.Lost = 0
 
 unfoldable which : Place → ℕ
 which (pl.Taken k) = 0
@@ -181,7 +181,7 @@ module _ (t : List ℕ) (n : Name) (c : ℕ) (few : c ≤ rowsMost) (low : (i : 
 
   -- what is found is the number of a name, and that name
   taken-text : (f h i w k : ℕ) → w ≤ c → placeFrom f t n h i w ≡ pl.Taken k → (k < c) × (eqName (textOf t k) n ≡ true)
-  unfolding placeFrom which taken-number
+  unfolding placeFrom which its-number
   taken-text zero h i w k l e = absurd (let z : _≡_ {A = ℕ} 2 0 = ap which e in omega arith)
   taken-text (suc f) h i zero k l e = absurd (let z : _≡_ {A = ℕ} 1 0 = ap which e in omega arith)
   taken-text (suc f) h i (suc m) k l e = go (eqName (textOf t m) n) refl (taken-text f (h / 2) (below m h) _ k (low (below m h) (below-less m h (omega arith)))) e
@@ -189,14 +189,14 @@ module _ (t : List ℕ) (n : Name) (c : ℕ) (few : c ≤ rowsMost) (low : (i : 
       go : (b : Bool) → eqName (textOf t m) n ≡ b
           → (placeFrom f t n (h / 2) (below m h) (word t (cellAt (below m h))) ≡ pl.Taken k → (k < c) × (eqName (textOf t k) n ≡ true))
           → cond b (pl.Taken m) (placeFrom f t n (h / 2) (below m h) (word t (cellAt (below m h)))) ≡ pl.Taken k → (k < c) × (eqName (textOf t k) n ≡ true)
-      go true q ih g = let z : m ≡ k = ap taken-number g in (omega arith, subst (λ (y : ℕ). eqName (textOf t y) n ≡ true) z q)
+      go true q ih g = let z : m ≡ k = ap its-number g in (omega arith, subst (λ (y : ℕ). eqName (textOf t y) n ≡ true) z q)
       go false q ih g = ih g
 
   -- a cell that is free is one of those, and holds 0
   free-word : (f h i w j : ℕ) → i < 38912 → w ≡ word t (cellAt i) → placeFrom f t n h i w ≡ pl.Free j → (j < 38912) × (word t (cellAt j) ≡ 0)
-  unfolding placeFrom which taken-number
+  unfolding placeFrom which its-number
   free-word zero h i w j l q e = absurd (let z : _≡_ {A = ℕ} 2 1 = ap which e in omega arith)
-  free-word (suc f) h i zero j l q e = let z : i ≡ j = ap taken-number e in (omega arith, subst (λ (y : ℕ). word t (cellAt y) ≡ 0) z (sym q))
+  free-word (suc f) h i zero j l q e = let z : i ≡ j = ap its-number e in (omega arith, subst (λ (y : ℕ). word t (cellAt y) ≡ 0) z (sym q))
   free-word (suc f) h i (suc m) j l q e =
       go (eqName (textOf t m) n) (free-word f (h / 2) (below m h) _ j (below-less m h (omega (arith, low i l))) refl) e
     where
@@ -392,10 +392,10 @@ module _ (t u : List ℕ) (n : Name) (c i : ℕ) (few : c ≤ rowsMost) (low : (
   -- the new name is found
   free-taken : (f h j w : ℕ) → j < 38912 → w ≡ word t (cellAt j) → placeFrom f t n h j w ≡ pl.Free i
       → placeFrom f u n h j (word u (cellAt j)) ≡ pl.Taken c
-  unfolding placeFrom which taken-number
+  unfolding placeFrom which its-number
   free-taken zero h j w l q e = absurd (let z : _≡_ {A = ℕ} 2 1 = ap which e in omega arith)
   free-taken (suc f) h j zero l q e =
-      let z : j ≡ i = ap taken-number e in
+      let z : j ≡ i = ap its-number e in
       ap (placeFrom (suc f) u n h j) (ap (λ y. word u (cellAt y)) z ∙ cell)
       ∙ ap (λ (b : Bool). cond b (pl.Taken c) (placeFrom f u n (h / 2) (below c h) (word u (cellAt (below c h))))) (ap (λ (y : Name). eqName y n) text ∙ eqName-refl n)
   free-taken (suc f) h j (suc m) l q e =

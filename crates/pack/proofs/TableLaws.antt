@@ -15,15 +15,15 @@ use Rattle.pack.specs.Names.{Name, eqName}
 use Rattle.pack.specs.Write.{Found, At, Missing, lookup}
 use Rattle.pack.specs.declared.table.Place.{Place}
 use Rattle.pack.specs.declared.table.Place.the-variants as pl
-use Rattle.pack.specs.Table.{table, rowsMost, textsFrom, cellAt, below, word, putWord, fold, first, second, hashFrom, textAt, textOf, placeFrom, placeOf, foundIn, seek, numberIn, isFree, spare, cellFor, hasRow, linked, linkedAt, noted, indexed}
+use Rattle.pack.specs.Table.{table, rowsMost, textsFrom, cellAt, below, word, putWord, fold, mixed, hashFrom, textAt, textOf, placeFrom, placeOf, foundIn, seek, numberIn, isFree, spare, cellFor, hasRow, linked, linkedAt, noted, indexed}
 use Rattle.pack.proofs.TableIndex.{rowed}
 use Rattle.pack.proofs.Interns.{found-number}
 
 -- one byte more of a hash
-pub hash-turn : (n : Name) (a b c d i : ℕ) → i < length n → c ≡ fold ((b + getD n i 0 + 1) * 2654435761) → d ≡ fold ((a + c) * 1540483477)
-    → hashFrom c d (drop (i + 1) n) ≡ hashFrom a b (drop i n)
-unfolding hashFrom first second
-hash-turn n a b c d i l e f = rw (f, e, add-one i, drop-cons n i 0 l)
+pub hash-turn : (n : Name) (a b c i : ℕ) → i < length n → c ≡ fold ((b + getD n i 0 + 1) * 2654435761)
+    → hashFrom c ((a + c) % 4294967296) (drop (i + 1) n) ≡ hashFrom a b (drop i n)
+unfolding hashFrom mixed
+hash-turn n a b c i l e = rw (e, add-one i, drop-cons n i 0 l)
 
 pub hash-done : (n : Name) (a b i : ℕ) → length n ≤ i → hashFrom a b (drop i n) ≡ a + 4294967296 * b
 unfolding hashFrom

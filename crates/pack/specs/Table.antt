@@ -50,23 +50,27 @@ below k h = 4096 + 2 * k + h % 2
 unfoldable pub word : List ℕ → ℕ → ℕ
 word t i = getD t i 0 + 256 * getD t (i + 1) 0
 
+-- the same put at i
 unfoldable pub putWord : List ℕ → ℕ → ℕ → List ℕ
 putWord t i v = set (set t i (v % 256)) (i + 1) (v / 256 % 256)
 
--- 64 bits of a name as two halves, each of which goes into the other; any function of its bytes would be right
+-- The bits by which a name goes down its tree: any function of its bytes would be right. They are two halves of 32 bits, and each goes
+-- into the next of the other, so that names with all bits alike are hard to make.
+
+-- the high half of a product added to its low one
 unfoldable pub fold : ℕ → ℕ
 fold x = (x + x / 4294967296) % 4294967296
 
-unfoldable pub first : ℕ → ℕ → ℕ
-first b x = fold ((b + x + 1) * 2654435761)
+-- a byte more in a half
+unfoldable pub mixed : ℕ → ℕ → ℕ
+mixed b x = fold ((b + x + 1) * 2654435761)
 
-unfoldable pub second : ℕ → ℕ → ℕ
-second a c = fold ((a + c) * 1540483477)
-
+-- the bits of a name, from the halves of what stands before it
 unfoldable pub hashFrom : ℕ → ℕ → Name → ℕ
 hashFrom a b [] = a + 4294967296 * b
-hashFrom a b (x ∷ xs) = hashFrom (first b x) (second a (first b x)) xs
+hashFrom a b (x ∷ xs) = hashFrom (mixed b x) ((a + mixed b x) % 4294967296) xs
 
+-- the bits of a name
 unfoldable pub hash : Name → ℕ
 hash n = hashFrom 0 0 n
 
@@ -78,7 +82,7 @@ textAt t p = take (getD t p 0) (drop (p + 1) t)
 unfoldable pub textOf : List ℕ → ℕ → Name
 textOf t k = textAt t (textsFrom + word t (spotAt k))
 
--- where a name is from the cell i on, which holds w, or which cell would be its own; the first number bounds the steps
+-- where a name with the bits h is from the cell i on, which holds w, or which cell would be its own; the first number bounds the steps
 unfoldable pub placeFrom : ℕ → List ℕ → Name → ℕ → ℕ → ℕ → Place
 placeFrom zero t n h i w = pl.Lost
 placeFrom (suc f) t n h i zero = pl.Free i
@@ -103,16 +107,18 @@ unfoldable pub numberIn : Found → ℕ
 numberIn (At k) = k
 numberIn (Missing k) = k
 
--- numbers that the code can go on with
+-- the numbers in a place are small, whatever the table's bytes
 unfoldable pub Near : Place → Type 0
 Near (pl.Taken k) = k < 65536
 Near (pl.Free i) = i < 200000
 Near pl.Lost = Unit {0}
 
+-- whether a name was not found
 unfoldable pub isMissing : Found → Bool
 isMissing (At k) = false
 isMissing (Missing k) = true
 
+-- whether a name has a cell that would be its own
 unfoldable pub isFree : Place → Bool
 isFree (pl.Taken k) = false
 isFree (pl.Free i) = true

@@ -80,7 +80,7 @@ fn hash(n: &[u8]) -> usize
     let mut i = 0;
     while i < n.len() {
         let c = fold((b + n[i] as usize + 1) * 2654435761);
-        b = fold((a + c) * 1540483477);
+        b = (a + c) % 4294967296;
         a = c;
         i += 1;
     }

@@ -35,14 +35,8 @@ mul-fold c = omega (arith, c .shared-slice-known2 .given (c .before .before .loo
 fold-requires : tie.Need-fold-requires Inv-loop μ-loop
 fold-requires c κs = omega (arith, c .shared-slice-known2 .given (c .before .before .loop .i))
 
-add-fold-3 : tie.Need-add-fold-3 Inv-loop μ-loop
-add-fold-3 c = omega (arith, c .fold .ensures .1)
-
-mul-fold-2 : tie.Need-mul-fold-2 Inv-loop μ-loop
-mul-fold-2 c = omega (arith, c .fold .ensures .1)
-
-fold-requires-2 : tie.Need-fold-requires-2 Inv-loop μ-loop
-fold-requires-2 c κs = omega (arith, c .fold .ensures .1)
+add-b : tie.Need-add-b Inv-loop μ-loop
+add-b c = omega (arith, c .fold .ensures .1)
 
 add-i : tie.Need-add-i Inv-loop μ-loop
 add-i c = omega arith
@@ -53,9 +47,9 @@ loop-less c = omega arith
 loop-again : tie.Need-loop-again Inv-loop μ-loop
 loop-again c = (
   omega arith,
-  c .before .fold .ensures .1,
-  c .fold2 .ensures .1,
-  hash-turn (c .before .before .before .before .before .before .args .n .now) (c .before .before .before .before .loop .a) (c .before .before .before .before .loop .b) _ _ (c .before .before .before .before .loop .i) (c .before .before .before .loop-test .taken) (c .before .fold .ensures .0) (c .fold2 .ensures .0) ∙ c .before .before .before .before .loop .inv .3,
+  c .fold .ensures .1,
+  omega arith,
+  hash-turn (c .before .before .before .before .before .args .n .now) (c .before .before .before .loop .a) (c .before .before .before .loop .b) _ (c .before .before .before .loop .i) (c .before .before .loop-test .taken) (c .fold .ensures .0) ∙ c .before .before .before .loop .inv .3,
 )
 
 mul-result : tie.Need-mul-result Inv-loop μ-loop
@@ -80,9 +74,7 @@ hash-spec =
     add-fold-2
     mul-fold
     fold-requires
-    add-fold-3
-    mul-fold-2
-    fold-requires-2
+    add-b
     add-i
     loop-less
     loop-again
