@@ -6,7 +6,7 @@ use mathlib.Core.Bool.{true, false, cond}
 use mathlib.Core.Logic.{⊎-elim}
 use mathlib.Core.Path.{_≡_, refl, sym, ap, _∙_}
 use mathlib.Core.List.{List, [], _∷_}
-use lib.ListN.{length, take, drop, getD, drop-of-length-le, length-drop, length-take}
+use lib.ListN.{length, take, drop, getD, drop-of-length-le, length-drop, length-take, List·getD-eq-default}
 use lib.Seq.{drop-cons, drop-length, take-all}
 use lib.Dec.{ltb, leb}
 use borrow.Author.Tests.{lt-ltb, le-ltb, le-leb, lt-leb}
@@ -15,19 +15,33 @@ use Rattle.pack.specs.Names.{Name, eqName}
 use Rattle.pack.specs.Write.{Found, At, Missing, lookup}
 use Rattle.pack.specs.declared.table.Place.{Place}
 use Rattle.pack.specs.declared.table.Place.the-variants as pl
-use Rattle.pack.specs.Table.{table, rowsMost, textsFrom, cellAt, below, word, putWord, fold, mixed, hashFrom, textAt, textOf, placeFrom, placeOf, foundIn, seek, numberIn, isFree, spare, cellFor, hasRow, linked, linkedAt, noted, indexed}
+use Rattle.pack.specs.Table.{table, rowsMost, textsFrom, cellAt, below, word, putWord, fold, mixed, quadAt, hashFrom, hash, textAt, textOf, placeFrom, placeOf, foundIn, seek, numberIn, isFree, spare, cellFor, hasRow, linked, linkedAt, noted, indexed}
 use Rattle.pack.proofs.TableIndex.{rowed}
 use Rattle.pack.proofs.Interns.{found-number}
 
--- one byte more of a hash
-pub hash-turn : (n : Name) (a b c i : ℕ) → i < length n → c ≡ fold ((b + getD n i 0 + 1) * 2654435761)
-    → hashFrom c ((a + c) % 4294967296) (drop (i + 1) n) ≡ hashFrom a b (drop i n)
+-- four bytes more of a hash
+hash-step : (n : Name) (a b c i x k : ℕ) → x ≡ quadAt n i → c ≡ fold ((b + x + 1) * 1540483477) → hashFrom k c ((a + c) % 4294967296) n (i + 4) ≡ hashFrom (suc k) a b n i
 unfolding hashFrom mixed
-hash-turn n a b c i l e = rw (e, add-one i, drop-cons n i 0 l)
+hash-step n a b c i x k e f = rw (f, e)
 
-pub hash-done : (n : Name) (a b i : ℕ) → length n ≤ i → hashFrom a b (drop i n) ≡ a + 4294967296 * b
+pub hash-turn : (n : Name) (a b c i x : ℕ) → i < length n → x ≡ quadAt n i → c ≡ fold ((b + x + 1) * 1540483477)
+    → hashFrom ((length n + 3 - (i + 4)) / 4) c ((a + c) % 4294967296) n (i + 4) ≡ hashFrom ((length n + 3 - i) / 4) a b n i
+hash-turn n a b c i x l e f =
+    let z : suc ((length n + 3 - (i + 4)) / 4) ≡ (length n + 3 - i) / 4 = omega arith in
+    hash-step n a b c i x ((length n + 3 - (i + 4)) / 4) e f ∙ ap (λ k. hashFrom k a b n i) z
+
+pub hash-begun : (n : Name) → hashFrom ((length n + 3 - 0) / 4) 0 0 n 0 ≡ hash n
+unfolding hash
+hash-begun n = let z : length n + 3 - 0 ≡ length n + 3 = omega arith in ap (λ k. hashFrom (k / 4) 0 0 n 0) z
+
+pub hash-done : (n : Name) (a b i : ℕ) → length n ≤ i → hashFrom ((length n + 3 - i) / 4) a b n i ≡ a + 4294967296 * b
 unfolding hashFrom
-hash-done n a b i l = rw (drop-of-length-le n l)
+hash-done n a b i l = let z : (length n + 3 - i) / 4 ≡ 0 = omega arith in ap (λ k. hashFrom k a b n i) z
+
+-- past the end there is nothing
+pub quad-end : (n : Name) (i x y z : ℕ) → length n ≤ i + 3 → x ≡ getD n i 0 → y ≡ getD n (i + 1) 0 → z ≡ getD n (i + 2) 0 → x + 256 * y + 65536 * z ≡ quadAt n i
+unfolding quadAt
+quad-end n i x y z l e f g = let o : getD n (i + 3) 0 ≡ 0 = List·getD-eq-default n 0 l in omega (arith, e, f, g)
 
 -- from the end on there is nothing
 drop-part : (t : List ℕ) (p b : ℕ) → b ≡ min (0 + p) (length t) → drop b t ≡ drop p t

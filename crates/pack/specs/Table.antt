@@ -61,18 +61,22 @@ putWord t i v = set (set t i (v % 256)) (i + 1) (v / 256 % 256)
 unfoldable pub fold : ℕ → ℕ
 fold x = (x + x / 4294967296) % 4294967296
 
--- a byte more in a half
-unfoldable pub mixed : ℕ → ℕ → ℕ
-mixed b x = fold ((b + x + 1) * 2654435761)
+-- four bytes of a name from i on as one number, lowest first; those past its end are 0
+unfoldable pub quadAt : Name → ℕ → ℕ
+quadAt n i = getD n i 0 + 256 * getD n (i + 1) 0 + 65536 * getD n (i + 2) 0 + 16777216 * getD n (i + 3) 0
 
--- the bits of a name, from the halves of what stands before it
-unfoldable pub hashFrom : ℕ → ℕ → Name → ℕ
-hashFrom a b [] = a + 4294967296 * b
-hashFrom a b (x ∷ xs) = hashFrom (mixed b x) ((a + mixed b x) % 4294967296) xs
+-- four bytes more in a half
+unfoldable pub mixed : ℕ → ℕ → ℕ
+mixed b x = fold ((b + x + 1) * 1540483477)
+
+-- the bits of a name in so many steps from i on, from the halves of what stands before
+unfoldable pub hashFrom : ℕ → ℕ → ℕ → Name → ℕ → ℕ
+hashFrom zero a b n i = a + 4294967296 * b
+hashFrom (suc k) a b n i = hashFrom k (mixed b (quadAt n i)) ((a + mixed b (quadAt n i)) % 4294967296) n (i + 4)
 
 -- the bits of a name
 unfoldable pub hash : Name → ℕ
-hash n = hashFrom 0 0 n
+hash n = hashFrom ((length n + 3) / 4) 0 0 n 0
 
 -- the name whose length byte stands at p
 unfoldable pub textAt : List ℕ → ℕ → Name

@@ -9,7 +9,7 @@ ghost use Prim.Native.Nat.{_+_, _*_, _-_, _/_, _≤_, _<_, _^_};
 ghost use lib.ListN.{length, getD, set};
 ghost use Rattle.pack.specs.Names.{eqName};
 ghost use Rattle.pack.specs.Intern.{foundOf};
-ghost use Rattle.pack.specs.Table.{word as wordIn, putWord, fold as folded, hash as hashOf, textAt, placeFrom, placeOf, Near, cellAt, seek, numberIn, spare as spareIn, cellFor, indexed, linked, unindexed, noted};
+ghost use Rattle.pack.specs.Table.{word as wordIn, putWord, fold as folded, hash as hashOf, quadAt, textAt, placeFrom, placeOf, Near, cellAt, seek, numberIn, spare as spareIn, cellFor, indexed, linked, unindexed, noted};
 
 // How many names have rows.
 const ROWS: usize = 17408;
@@ -71,6 +71,20 @@ fn fold(x: usize) -> usize
     (x + x / 4294967296) % 4294967296
 }
 
+// Four bytes of a name as one number; those past its end are 0.
+fn quad(n: &[u8], i: usize) -> usize
+    requires { ⌜ i < length (now n) ⌝ }
+    ensures { λ r. ⌜ (r ≡ quadAt (now (n .entry)) i) × (r < 4294967296) ⌝ }
+{
+    if i + 3 < n.len() {
+        return n[i] as usize
+            + 256 * n[i + 1] as usize
+            + 65536 * n[i + 2] as usize
+            + 16777216 * n[i + 3] as usize;
+    }
+    byte_at(n, i) + 256 * byte_at(n, i + 1) + 65536 * byte_at(n, i + 2)
+}
+
 // The bits by which a name goes down its tree.
 fn hash(n: &[u8]) -> usize
     ensures { λ r. ⌜ r ≡ hashOf (now (n .entry)) ⌝ }
@@ -79,10 +93,10 @@ fn hash(n: &[u8]) -> usize
     let mut b = 0;
     let mut i = 0;
     while i < n.len() {
-        let c = fold((b + n[i] as usize + 1) * 2654435761);
+        let c = fold((b + quad(n, i) + 1) * 1540483477);
         b = (a + c) % 4294967296;
         a = c;
-        i += 1;
+        i += 4;
     }
     a + 4294967296 * b
 }

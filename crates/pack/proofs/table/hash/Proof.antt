@@ -1,56 +1,47 @@
-use Prim.Native.Nat.{_<_, _≤_, _-_}
+use Prim.Native.Nat.{_<_, _≤_, _+_, _-_, _/_}
 use native.Mathlib.Omega.{arith}
-use mathlib.Core.Path.{_≡_, _∙_, refl, sym}
-use lib.ListN.{length, drop}
+use mathlib.Core.Path.{_≡_, _∙_, sym}
+use lib.ListN.{length}
 use Rattle.pack.specs.Table.{hash, hashFrom}
-use Rattle.pack.proofs.TableLaws.{hash-turn, hash-done}
+use Rattle.pack.proofs.TableLaws.{hash-begun, hash-turn, hash-done}
 use Rattle.pack.proofs.table.hash.Statement.{statement}
 use Rattle.pack.proofs.table.hash.Tie as tie
 
 abbrev Inv-loop : tie.InvT-loop
-Inv-loop n a₀ b₀ i₀ a b i = (i ≤ length n) × (a < 4294967296) × (b < 4294967296) × (hashFrom a b (drop i n) ≡ hash n)
+Inv-loop n a₀ b₀ i₀ a b i = (i ≤ length n + 3) × (a < 4294967296) × (b < 4294967296) × (hashFrom ((length n + 3 - i) / 4) a b n i ≡ hash n)
 
 abbrev μ-loop : tie.MeasureT-loop
-μ-loop n a₀ b₀ i₀ a b i = length n - i
+μ-loop n a₀ b₀ i₀ a b i = length n + 3 - i
 
 loop-holds : tie.Need-loop-holds Inv-loop μ-loop
-unfolding hash
-loop-holds c = (omega arith, omega arith, omega arith, refl)
+loop-holds c = (omega arith, omega arith, omega arith, hash-begun _)
 
-shared-slice-read-fold : tie.Need-shared-slice-read-fold Inv-loop μ-loop
-shared-slice-read-fold c = omega arith
-
-cast-fold : tie.Need-cast-fold Inv-loop μ-loop
-cast-fold c = omega (arith, c .shared-slice-known2 .given (c .before .before .loop .i))
+quad-requires : tie.Need-quad-requires Inv-loop μ-loop
+quad-requires c κs = c .loop-test .taken
 
 add-fold : tie.Need-add-fold Inv-loop μ-loop
-add-fold c = omega (arith, c .shared-slice-known2 .given (c .before .before .loop .i))
+add-fold c = omega (arith, c .quad .ensures .1)
 
 add-fold-2 : tie.Need-add-fold-2 Inv-loop μ-loop
-add-fold-2 c = omega (arith, c .shared-slice-known2 .given (c .before .before .loop .i))
+add-fold-2 c = omega (arith, c .quad .ensures .1)
 
 mul-fold : tie.Need-mul-fold Inv-loop μ-loop
-mul-fold c = omega (arith, c .shared-slice-known2 .given (c .before .before .loop .i))
+mul-fold c = omega (arith, c .quad .ensures .1)
 
 fold-requires : tie.Need-fold-requires Inv-loop μ-loop
-fold-requires c κs = omega (arith, c .shared-slice-known2 .given (c .before .before .loop .i))
+fold-requires c κs = omega (arith, c .quad .ensures .1)
 
 add-b : tie.Need-add-b Inv-loop μ-loop
 add-b c = omega (arith, c .fold .ensures .1)
 
 add-i : tie.Need-add-i Inv-loop μ-loop
-add-i c = omega arith
+add-i c = omega (arith, c .before .before .before .before .before .good .0 .1)
 
 loop-less : tie.Need-loop-less Inv-loop μ-loop
 loop-less c = omega arith
 
 loop-again : tie.Need-loop-again Inv-loop μ-loop
-loop-again c = (
-  omega arith,
-  c .fold .ensures .1,
-  omega arith,
-  hash-turn (c .before .before .before .before .before .args .n .now) (c .before .before .before .loop .a) (c .before .before .before .loop .b) _ (c .before .before .before .loop .i) (c .before .before .loop-test .taken) (c .fold .ensures .0) ∙ c .before .before .before .loop .inv .3,
-)
+loop-again c = (omega arith, c .fold .ensures .1, omega arith, hash-turn (c .before .before .before .before .before .args .n .now) (c .before .before .before .loop .a) (c .before .before .before .loop .b) _ (c .before .before .before .loop .i) _ (c .before .before .loop-test .taken) (c .before .quad .ensures .0) (c .fold .ensures .0) ∙ c .before .before .before .loop .inv .3)
 
 mul-result : tie.Need-mul-result Inv-loop μ-loop
 mul-result c = omega arith
@@ -68,8 +59,7 @@ hash-spec =
     Inv-loop
     μ-loop
     loop-holds
-    shared-slice-read-fold
-    cast-fold
+    quad-requires
     add-fold
     add-fold-2
     mul-fold
