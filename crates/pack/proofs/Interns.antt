@@ -303,11 +303,11 @@ pub started-blank : (o : List ℕ) (k : ℕ) → started o (replicate (textsFrom
 unfolding started blank
 started-blank o k = rw (length-replicate {A = ℕ} (textsFrom + k) 0, take-replicate textsFrom (textsFrom + k) (omega arith))
 
-pub buffer-size : 143362 ≡ textsFrom + 65536
+pub buffer-size : 178178 ≡ textsFrom + 65536
 unfolding textsFrom
 buffer-size = refl
 
-laid-state : (names m : List ℕ) → length names ≤ 65536 → m ≡ replicate 143362 0
+laid-state : (names m : List ℕ) → length names ≤ 65536 → m ≡ replicate 178178 0
     → putEntries (table names) (started [] m) ≡ st 0 (textsFrom + 65536) [] (tabled (table names))
 unfolding table tabled
 laid-state names m h b =
@@ -316,7 +316,7 @@ laid-state names m h b =
     ∙ entries-fit (tableF (length names) names) 0 (textsFrom + 65536) [] blank (omega (arith, tableF-most (length names) names, blank-length))
 
 -- the table of names in a buffer that was blank
-pub laid-is : (names m k : List ℕ) (w : Writer) (e : ℕ) → length names ≤ 65536 → m ≡ replicate 143362 0
+pub laid-is : (names m k : List ℕ) (w : Writer) (e : ℕ) → length names ≤ 65536 → m ≡ replicate 178178 0
     → stateOf [] k w ≡ putEntries (table names) (started [] m) → e ≡ min (0 + w .made) (length k) → take e k ≡ tabled (table names)
 unfolding stateOf
 laid-is names m k w e h b r p = take-part k (w .made) e p ∙ go (w .full) (r ∙ laid-state names m h b)

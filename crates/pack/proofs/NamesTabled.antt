@@ -91,7 +91,7 @@ laying-table s t q n w h = state-table t (tabled (rawNames s n q)) w 0 (textsFro
 raw-more : (s x : List ℕ) (n p q : ℕ) → rawEnd s n q ≡ p → x ≡ rawName s p → rawNames s n q ++ (x ∷ []) ≡ rawNames s (n + 1) q
 raw-more s x n p q e f = ap (λ (z : Name). rawNames s n q ++ (z ∷ [])) (f ∙ ap (rawName s) (sym e)) ∙ sym (rawNames-more s n q) ∙ ap (λ (k : ℕ). rawNames s k q) (sym (add-one n))
 
-texts-many : textsFrom ≡ 77826
+texts-many : textsFrom ≡ 112642
 unfolding textsFrom
 texts-many = refl
 

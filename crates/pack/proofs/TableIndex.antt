@@ -1,4 +1,4 @@
--- The index of a table is right: what is found by heads and links is what is found by looking at all names.
+-- The index of a table is right: what is found in its trees is what is found by looking at all names.
 use Prim.Native.Nat.{ℕ, zero, suc, _+_, _*_, _-_, _<_, _≤_, _/_, _%_}
 use native.Mathlib.Omega.{arith}
 use mathlib.Core.Bool.{Bool, true, false, cond, _&&_}
@@ -6,21 +6,18 @@ use mathlib.Core.Logic.{_⊎_, inl, inr, ⊎-elim}
 use mathlib.Core.Path.{_≡_, refl, sym, ap, subst, _∙_}
 use mathlib.Core.List.{List, [], _∷_, _++_, append-nil, append-assoc}
 use lib.ListN.{length, take, drop, getD, set, replicate, length-append, length-drop, length-set, length-replicate, getD-replicate, List·getD-append, drop-of-length-le}
-use lib.Seq.{append-snoc, getD-set-same, getD-set-other, drop-set-lt, drop-append-le, take-append-seam, drop-append-seam, drop-drop, getD-drop, drop-at}
+use lib.Seq.{append-snoc, getD-append-seam, getD-set-same, getD-set-other, drop-set-lt, drop-append-le, take-append-seam, drop-append-seam, drop-drop, getD-drop}
 use lib.Dec.{ltb, leb, eqb}
-use borrow.Author.Tests.{lt-ltb, le-ltb, ltb-true, leb-true, eqb-true, eqb-false, eq-eqb}
+use borrow.Author.Tests.{lt-ltb, le-ltb, ltb-true, leb-true, eqb-true, eqb-false}
 use Rattle.wire.proofs.Writers.{lt-or-le}
 use Rattle.pack.specs.Names.{Name, eqName}
 use Rattle.pack.specs.Write.{enc, Found, At, Missing, lookup}
-use Rattle.pack.specs.Table.{tableF, table, rowsMost, textsFrom, headAt, rowAt, word, putWord, hashFrom, hash, textAt, textOf, chase, chased, seek, isMissing, hasRow, linked, noted, enter, blank, entered, tabled}
-use Rattle.pack.proofs.Tables.{eqName-true}
+use Rattle.pack.specs.declared.table.Place.{Place}
+use Rattle.pack.specs.declared.table.Place.the-variants as pl
+use Rattle.pack.specs.Table.{tableF, table, rowsMost, textsFrom, cellAt, spotAt, below, word, putWord, hash, textAt, textOf, placeFrom, placeOf, foundIn, seek, numberIn, isMissing, isFree, spare, cellFor, hasRow, linked, unindexed, linkedAt, noted, enter, blank, entered, tabled}
+use Rattle.pack.proofs.Tables.{enc-append, eqName-refl, eqName-true}
 
 -- NAMES, EACH AFTER ITS LENGTH BYTE
-
-pub enc-append : (ns ms : List Name) → enc (ns ++ ms) ≡ enc ns ++ enc ms
-unfolding enc
-enc-append [] ms = refl
-enc-append (n ∷ ns) ms = ap (λ (l : List ℕ). length n ∷ l) (ap (λ (l : List ℕ). n ++ l) (enc-append ns ms) ∙ sym (append-assoc n (enc ns) (enc ms)))
 
 pub enc-more : (ns : List Name) (n : Name) → enc (ns ++ (n ∷ [])) ≡ enc ns ++ (length n ∷ n)
 unfolding enc
@@ -82,15 +79,6 @@ word-append t x i h =
     ap (λ y. y + 256 * getD (t ++ x) (i + 1) 0) (List·getD-append t x 0 i (omega arith))
     ∙ ap (λ y. getD t i 0 + 256 * y) (List·getD-append t x 0 (i + 1) h)
 
-hashFrom-less : (h : ℕ) (n : Name) → h < 4096 → hashFrom h n < 4096
-unfolding hashFrom
-hashFrom-less h [] l = l
-hashFrom-less h (b ∷ bs) l = hashFrom-less ((h * 31 + b) % 4096) bs (omega arith)
-
-pub hash-less : (n : Name) → hash n < 4096
-unfolding hash
-hash-less n = hashFrom-less 0 n (omega arith)
-
 -- the name whose length byte stands at p
 text-stands : (t : List ℕ) (p : ℕ) (m rest : List ℕ) → drop p t ≡ length m ∷ (m ++ rest) → textAt t p ≡ m
 unfolding textAt
@@ -100,86 +88,19 @@ text-stands t p m rest e =
     let d : drop (p + 1) t ≡ m ++ rest = sym (drop-drop 1 p t) ∙ ap (drop 1) e in
     rw (g, d, take-append-seam)
 
--- CHAINS. Names are given with the last one first, so that the number of each is how many follow it.
-
--- the link to the last name of a hash
-unfoldable pub lastOf : List Name → ℕ → ℕ
-lastOf [] h = 0
-lastOf (m ∷ rs) h = cond (eqb (hash m) h) (suc (length rs)) (lastOf rs h)
-
--- the last of a name, and d where there is none
-unfoldable pub back : List Name → Name → ℕ → Found
-back [] n d = Missing d
-back (m ∷ rs) n d = cond (eqName m n) (At (length rs)) (back rs n d)
-
--- the row of the number k
-pub record RowOf (t : List ℕ) (k : ℕ) (m : Name) (link : ℕ) : Type 0 where
-  pub links : word t (rowAt k) ≡ link
+-- the number k has the name m
+pub record RowOf (t : List ℕ) (k : ℕ) (m : Name) : Type 0 where
   pub rest : List ℕ
-  pub stands : drop (textsFrom + word t (rowAt k + 2)) t ≡ length m ∷ (m ++ rest)
+  pub stands : drop (textsFrom + word t (spotAt k)) t ≡ length m ∷ (m ++ rest)
 
-unfoldable pub Rows : List ℕ → List Name → Type 0
-Rows t [] = Unit {0}
-Rows t (m ∷ rs) = RowOf t (length rs) m (lastOf rs (hash m)) × Rows t rs
-
-lastOf-most : (rs : List Name) (h : ℕ) → lastOf rs h ≤ length rs
-unfolding lastOf
-lastOf-most [] h = omega arith
-lastOf-most (m ∷ rs) h = go (eqb (hash m) h) (lastOf-most rs h)
-  where
-    go : (b : Bool) → lastOf rs h ≤ length rs → cond b (suc (length rs)) (lastOf rs h) ≤ suc (length rs)
-    go true l = omega arith
-    go false l = omega arith
-
-chase-none : (f : ℕ) (t : List ℕ) (n : Name) → chase f t n 0 ≡ Missing (word t 0)
-unfolding chase
-chase-none zero t n = refl
-chase-none (suc f) t n = refl
-
-chase-step : (f : ℕ) (t : List ℕ) (n : Name) (k : ℕ) → chase (suc f) t n (suc k) ≡ cond (eqName (textOf t k) n) (At k) (chase f t n (word t (rowAt k)))
-unfolding chase
-chase-step f t n k = refl
-
--- names of other hashes differ
-other-hash : (m n : Name) → eqb (hash m) (hash n) ≡ false → eqName m n ≡ false
-other-hash m n e = go (eqName m n) refl
-  where
-    go : (b : Bool) → eqName m n ≡ b → b ≡ false
-    go false p = refl
-    go true p = absurd (let q = eq-eqb (hash m) (hash n) (ap hash (eqName-true m n p)) in let z : _≡_ {A = ℕ} 0 1 = cc in omega arith)
-
-row-text : (t : List ℕ) (k : ℕ) (m : Name) (link : ℕ) → RowOf t k m link → textOf t k ≡ m
+row-text : (t : List ℕ) (k : ℕ) (m : Name) → RowOf t k m → textOf t k ≡ m
 unfolding textOf
-row-text t k m link r = text-stands t _ m (r .rest) (r .stands)
-
--- a chain finds the last of its name
-chase-finds : (t : List ℕ) (n : Name) (rs : List Name) (f : ℕ) → lastOf rs (hash n) ≤ f → Rows t rs → chase f t n (lastOf rs (hash n)) ≡ back rs n (word t 0)
-unfolding lastOf back Rows
-chase-finds t n [] f l r = chase-none f t n
-chase-finds t n (m ∷ rs) f l r = go (eqb (hash m) (hash n)) refl f l (λ g h. chase-finds t n rs g h (r .1))
-  where
-    step : (g : ℕ) → hash m ≡ hash n → chase g t n (lastOf rs (hash n)) ≡ back rs n (word t 0)
-        → chase (suc g) t n (suc (length rs)) ≡ cond (eqName m n) (At (length rs)) (back rs n (word t 0))
-    step g q ih =
-        chase-step g t n (length rs)
-        ∙ ap (λ (x : Name). cond (eqName x n) (At (length rs)) (chase g t n (word t (rowAt (length rs))))) (row-text t (length rs) m (lastOf rs (hash m)) (r .0))
-        ∙ ap (λ (x : Found). cond (eqName m n) (At (length rs)) x) (ap (chase g t n) (r .0 .links ∙ ap (lastOf rs) q) ∙ ih)
-
-    go : (b : Bool) → eqb (hash m) (hash n) ≡ b → (f : ℕ) → cond b (suc (length rs)) (lastOf rs (hash n)) ≤ f
-        → ((g : ℕ) → lastOf rs (hash n) ≤ g → chase g t n (lastOf rs (hash n)) ≡ back rs n (word t 0))
-        → chase f t n (cond b (suc (length rs)) (lastOf rs (hash n))) ≡ cond (eqName m n) (At (length rs)) (back rs n (word t 0))
-    go true e zero h ih = absurd (omega arith)
-    go true e (suc g) h ih = step g (eqb-true _ _ e) (ih g (omega (arith, lastOf-most rs (hash n))))
-    go false e g h ih = rw (other-hash m n e) (ih g h)
+row-text t k m r = text-stands t _ m (r .rest) (r .stands)
 
 -- a search among names with one more
 unfoldable pub onto : Found → Name → Name → Found
 onto (At j) m x = At j
 onto (Missing j) m x = cond (eqName m x) (At j) (Missing (j + 1))
-
-unfoldable pub reset : ℕ → Found → Found
-reset d (At k) = At k
-reset d (Missing k) = Missing d
 
 lookup-snoc : (ns : List Name) (m x : Name) (k : ℕ) → lookup (ns ++ (m ∷ [])) x k ≡ onto (lookup ns x k) m x
 unfolding lookup onto
@@ -205,15 +126,27 @@ lookup-none (y ∷ ns) x k j e = go (eqName y x) (λ g. lookup-none ns x (k + 1)
     go true ih g = absurd (let z : _≡_ {A = ℕ} 0 1 = cc in omega arith)
     go false ih g = omega (arith, ih g)
 
+-- a name that is there is found
+lookup-there : (ns : List Name) (k s j : ℕ) → k < length ns → lookup ns (getD ns k []) s ≡ Missing j → ⊥
+unfolding lookup
+lookup-there [] k s j l e = omega arith
+lookup-there (y ∷ ns) zero s j l e =
+    let g : At s ≡ Missing j = sym (ap (λ (b : Bool). elim b [ true ↦ At s | false ↦ lookup ns y (s + 1) ]) (eqName-refl y)) ∙ e in
+    let z : _≡_ {A = ℕ} 0 1 = cc in
+    omega arith
+lookup-there (y ∷ ns) (suc k) s j l e = go (eqName y (getD ns k [])) (lookup-there ns k (s + 1) j (omega arith)) e
+  where
+    go : (b : Bool) → (lookup ns (getD ns k []) (s + 1) ≡ Missing j → ⊥) → elim b [ true ↦ At s | false ↦ lookup ns (getD ns k []) (s + 1) ] ≡ Missing j → ⊥
+    go true ih g = let z : _≡_ {A = ℕ} 0 1 = cc in omega arith
+    go false ih g = ih g
+
 -- what holds of an index that has rows for all names
 pub record Indexed (t : List ℕ) (ns : List Name) : Type 0 where
-  pub rs : List Name
-  pub count : word t 0 ≡ length rs
-  pub number : length rs ≡ length ns
-  pub few : length rs ≤ rowsMost
-  pub rows : Rows t rs
-  pub heads : (h : ℕ) → h < 4096 → word t (headAt h) ≡ lastOf rs h
-  pub finds : (n : Name) (d : ℕ) → back rs n d ≡ reset d (lookup ns n 0)
+  pub count : word t 0 ≡ length ns
+  pub few : length ns ≤ rowsMost
+  pub low : (i : ℕ) → i < 38912 → word t (cellAt i) ≤ length ns
+  pub rows : (k : ℕ) → k < length ns → RowOf t k (getD ns k [])
+  pub finds : (n : Name) (j : ℕ) → lookup ns n 0 ≡ At j → placeOf t n ≡ pl.Taken j
 
 -- a table of the names ns
 pub record Right (t : List ℕ) (ns : List Name) : Type 0 where
@@ -221,38 +154,95 @@ pub record Right (t : List ℕ) (ns : List Name) : Type 0 where
   pub texts : drop textsFrom t ≡ enc ns
   pub index : (rowsMost < word t 0) ⊎ Indexed t ns
 
-reset-same : (ns : List Name) (n : Name) (d : ℕ) → d ≡ length ns → reset d (lookup ns n 0) ≡ lookup ns n 0
-unfolding reset
-reset-same ns n d e = go (lookup ns n 0) refl
-  where
-    go : (f : Found) → lookup ns n 0 ≡ f → reset d f ≡ f
-    go (At k) q = refl
-    go (Missing k) q = let h = lookup-none ns n 0 k q in let z : d ≡ k = omega arith in ap Missing z
-
--- THE LAW: a right index finds what is found among all names
-pub seek-right : (t : List ℕ) (ns : List Name) → Right t ns → (n : Name) → seek t n ≡ lookup ns n 0
-unfolding seek chased
-seek-right t ns r n = ⊎-elim
-    (λ (o : rowsMost < word t 0). rw (lt-ltb _ _ o, r .texts, table-enc ns))
-    (λ (x : Indexed t ns).
-    let c = x .count in
-    let g = x .number in
-    let f = x .few in
-    rw (le-ltb rowsMost (word t 0) (omega arith), x .heads (hash n) (hash-less n))
-    (chase-finds t n (x .rs) (lastOf (x .rs) (hash n)) (omega arith) (x .rows)
-    ∙ x .finds n (word t 0)
-    ∙ reset-same ns n (word t 0) (c ∙ g)))
-    (r .index)
-
--- ONE NAME MORE
-
-texts-is : textsFrom ≡ 77826
+texts-is : textsFrom ≡ 112642
 unfolding textsFrom
 texts-is = refl
 
 rows-is : rowsMost ≡ 17408
 unfolding rowsMost
 rows-is = refl
+
+-- ONE STEP DOWN A TREE
+
+-- the number in a place, and its kind
+unfoldable its-number : Place → ℕ
+its-number (pl.Taken k) = k
+its-number (pl.Free i) = i
+its-number pl.Lost = 0
+
+unfoldable which : Place → ℕ
+which (pl.Taken k) = 0
+which (pl.Free i) = 1
+which pl.Lost = 2
+
+module _ (t : List ℕ) (n : Name) (c : ℕ) (few : c ≤ rowsMost) (low : (i : ℕ) → i < 38912 → word t (cellAt i) ≤ c) where
+  below-less : (k h : ℕ) → k < c → below k h < 38912
+  below-less k h l = omega (arith, few, rows-is)
+
+  -- what is found is the number of a name, and that name
+  taken-text : (f h i w k : ℕ) → w ≤ c → placeFrom f t n h i w ≡ pl.Taken k → (k < c) × (eqName (textOf t k) n ≡ true)
+  unfolding placeFrom which its-number
+  taken-text zero h i w k l e = absurd (let z : _≡_ {A = ℕ} 2 0 = ap which e in omega arith)
+  taken-text (suc f) h i zero k l e = absurd (let z : _≡_ {A = ℕ} 1 0 = ap which e in omega arith)
+  taken-text (suc f) h i (suc m) k l e = go (eqName (textOf t m) n) refl (taken-text f (h / 2) (below m h) _ k (low (below m h) (below-less m h (omega arith)))) e
+    where
+      go : (b : Bool) → eqName (textOf t m) n ≡ b
+          → (placeFrom f t n (h / 2) (below m h) (word t (cellAt (below m h))) ≡ pl.Taken k → (k < c) × (eqName (textOf t k) n ≡ true))
+          → cond b (pl.Taken m) (placeFrom f t n (h / 2) (below m h) (word t (cellAt (below m h)))) ≡ pl.Taken k → (k < c) × (eqName (textOf t k) n ≡ true)
+      go true q ih g = let z : m ≡ k = ap its-number g in (omega arith, subst (λ (y : ℕ). eqName (textOf t y) n ≡ true) z q)
+      go false q ih g = ih g
+
+  -- a cell that is free is one of those, and holds 0
+  free-word : (f h i w j : ℕ) → i < 38912 → w ≡ word t (cellAt i) → placeFrom f t n h i w ≡ pl.Free j → (j < 38912) × (word t (cellAt j) ≡ 0)
+  unfolding placeFrom which its-number
+  free-word zero h i w j l q e = absurd (let z : _≡_ {A = ℕ} 2 1 = ap which e in omega arith)
+  free-word (suc f) h i zero j l q e = let z : i ≡ j = ap its-number e in (omega arith, subst (λ (y : ℕ). word t (cellAt y) ≡ 0) z (sym q))
+  free-word (suc f) h i (suc m) j l q e =
+      go (eqName (textOf t m) n) (free-word f (h / 2) (below m h) _ j (below-less m h (omega (arith, low i l))) refl) e
+    where
+      go : (b : Bool)
+          → (placeFrom f t n (h / 2) (below m h) (word t (cellAt (below m h))) ≡ pl.Free j → (j < 38912) × (word t (cellAt j) ≡ 0))
+          → cond b (pl.Taken m) (placeFrom f t n (h / 2) (below m h) (word t (cellAt (below m h)))) ≡ pl.Free j → (j < 38912) × (word t (cellAt j) ≡ 0)
+      go true ih g = absurd (let z : _≡_ {A = ℕ} 0 1 = ap which g in omega arith)
+      go false ih g = ih g
+
+head-less : (n : Name) → hash n % 4096 < 38912
+head-less n = omega arith
+
+-- what is found is there
+taken-there : (t : List ℕ) (ns : List Name) → Indexed t ns → (n : Name) (j k : ℕ) → lookup ns n 0 ≡ Missing j → placeOf t n ≡ pl.Taken k → ⊥
+unfolding placeOf
+taken-there t ns x n j k e q =
+    let g = taken-text t n (length ns) (x .few) (x .low) 17409 (hash n / 4096) (hash n % 4096) _ k (x .low (hash n % 4096) (head-less n)) q in
+    let m : getD ns k [] ≡ n = sym (row-text t k (getD ns k []) (x .rows k (g .0))) ∙ eqName-true (textOf t k) n (g .1) in
+    lookup-there ns k 0 j (g .0) (ap (λ (y : Name). lookup ns y 0) m ∙ e)
+
+-- what is found in an index that has rows for all names
+found-right : (t : List ℕ) (ns : List Name) → Indexed t ns → (n : Name) → foundIn (word t 0) (placeOf t n) ≡ lookup ns n 0
+unfolding foundIn
+found-right t ns x n = go (lookup ns n 0) refl
+  where
+    none : (j : ℕ) → lookup ns n 0 ≡ Missing j → (p : Place) → placeOf t n ≡ p → foundIn (word t 0) p ≡ Missing j
+    none j e (pl.Free i) q = let h = lookup-none ns n 0 j e in let z : word t 0 ≡ j = omega (arith, x .count) in ap Missing z
+    none j e pl.Lost q = let h = lookup-none ns n 0 j e in let z : word t 0 ≡ j = omega (arith, x .count) in ap Missing z
+    none j e (pl.Taken k) q = absurd (taken-there t ns x n j k e q)
+
+    go : (f : Found) → lookup ns n 0 ≡ f → foundIn (word t 0) (placeOf t n) ≡ f
+    go (At j) e = ap (foundIn (word t 0)) (x .finds n j e)
+    go (Missing j) e = none j e (placeOf t n) refl
+
+-- THE LAW: a right index finds what is found among all names
+pub seek-right : (t : List ℕ) (ns : List Name) → Right t ns → (n : Name) → seek t n ≡ lookup ns n 0
+unfolding seek
+seek-right t ns r n = ⊎-elim
+    (λ (o : rowsMost < word t 0). rw (lt-ltb _ _ o, r .texts, table-enc ns))
+    (λ (x : Indexed t ns).
+    let c = x .count in
+    let f = x .few in
+    rw (le-ltb rowsMost (word t 0) (omega arith)) (found-right t ns x n))
+    (r .index)
+
+-- ONE NAME MORE
 
 and-both : (a b : Bool) → a && b ≡ true → (a ≡ true) × (b ≡ true)
 and-both true b e = (refl, e)
@@ -262,233 +252,292 @@ pub record Rowed (t : List ℕ) (n : Name) : Type 0 where
   pub few : word t 0 < rowsMost
   pub long : textsFrom ≤ length t
   pub short : length t < textsFrom + 65536
+  pub cell : ℕ
+  pub free : placeOf t n ≡ pl.Free cell
   pub new : isMissing (seek t n) ≡ true
 
-pub rowed : (t : List ℕ) (n : Name) → hasRow t n ≡ true → Rowed t n
-unfolding hasRow
-rowed t n e =
+-- a name that has a cell is not found
+free-missing : (t : List ℕ) (n : Name) (i : ℕ) → word t 0 < rowsMost → placeOf t n ≡ pl.Free i → isMissing (seek t n) ≡ true
+unfolding seek foundIn isMissing
+free-missing t n i l e = rw (le-ltb rowsMost (word t 0) (omega arith), e)
+
+free-is : (p : Place) → isFree p ≡ true → (R : Type 0) → ((i : ℕ) → p ≡ pl.Free i → R) → R
+unfolding isFree
+free-is (pl.Taken k) e R g = absurd (let z : _≡_ {A = ℕ} 0 1 = cc in omega arith)
+free-is (pl.Free i) e R g = g i refl
+free-is pl.Lost e R g = absurd (let z : _≡_ {A = ℕ} 0 1 = cc in omega arith)
+
+-- with room for one more
+spare-row : (t : List ℕ) (n : Name) → spare t ≡ true → (i : ℕ) → placeOf t n ≡ pl.Free i → Rowed t n
+unfolding spare
+spare-row t n e i z =
     let a = and-both _ _ e in
     let b = and-both _ _ (a .1) in
-    let c = and-both _ _ (b .1) in
-    record { few = ltb-true _ _ (a .0); long = leb-true _ _ (b .0); short = ltb-true _ _ (c .0); new = c .1 }
+    let l = ltb-true _ _ (a .0) in
+    record { few = l; long = leb-true _ _ (b .0); short = ltb-true _ _ (b .1); cell = i; free = z; new = free-missing t n i l z }
 
--- the four words of a row: the link, the spot, the head and the count
-module _ (t : List ℕ) (c h : ℕ) where
-  abbrev withLink : List ℕ
-  withLink = putWord t (rowAt c) (word t h)
+pub rowed : (t : List ℕ) (n : Name) → hasRow t n ≡ true → Rowed t n
+unfolding hasRow cellFor isFree
+rowed t n e = go (spare t) refl e
+  where
+    go : (b : Bool) → spare t ≡ b → isFree (cond b (placeOf t n) pl.Lost) ≡ true → Rowed t n
+    go false q g = absurd (let z : _≡_ {A = ℕ} 0 1 = cc in omega arith)
+    go true q g = free-is (placeOf t n) g (Rowed t n) (λ i z. spare-row t n q i z)
 
+-- the three words of a row: the spot, the cell and the count
+module _ (t : List ℕ) (c i : ℕ) where
   abbrev withSpot : List ℕ
-  withSpot = putWord withLink (rowAt c + 2) (length t - textsFrom)
+  withSpot = putWord t (spotAt c) (length t - textsFrom)
 
-  abbrev withHead : List ℕ
-  withHead = putWord withSpot h (c + 1)
-
-  linked-length : length (linked c h t) ≡ length t
-  unfolding linked
-  linked-length = put-length withHead 0 (c + 1) ∙ put-length withSpot h (c + 1) ∙ put-length withLink (rowAt c + 2) (length t - textsFrom) ∙ put-length t (rowAt c) (word t h)
-
-  head-length : length withHead ≡ length t
-  head-length = put-length withSpot h (c + 1) ∙ put-length withLink (rowAt c + 2) (length t - textsFrom) ∙ put-length t (rowAt c) (word t h)
+  abbrev withCell : List ℕ
+  withCell = putWord withSpot (cellAt i) (c + 1)
 
   spot-length : length withSpot ≡ length t
-  spot-length = put-length withLink (rowAt c + 2) (length t - textsFrom) ∙ put-length t (rowAt c) (word t h)
+  spot-length = put-length t (spotAt c) (length t - textsFrom)
 
-  module _ (few : c < rowsMost) (low : 2 ≤ h) (high : h ≤ 8192) where
-    linked-drop : (p : ℕ) → textsFrom ≤ p → drop p (linked c h t) ≡ drop p t
+  cell-length : length withCell ≡ length t
+  cell-length = put-length withSpot (cellAt i) (c + 1) ∙ spot-length
+
+  linked-length : length (linked c i t) ≡ length t
+  unfolding linked
+  linked-length = put-length withCell 0 (c + 1) ∙ cell-length
+
+  module _ (few : c < rowsMost) (inside : i < 38912) where
+    linked-drop : (p : ℕ) → textsFrom ≤ p → drop p (linked c i t) ≡ drop p t
     unfolding linked
     linked-drop p g =
-        put-drop withHead 0 (c + 1) p (omega (arith, texts-is))
-        ∙ put-drop withSpot h (c + 1) p (omega (arith, texts-is))
-        ∙ put-drop withLink (rowAt c + 2) (length t - textsFrom) p (omega (arith, texts-is, rows-is))
-        ∙ put-drop t (rowAt c) (word t h) p (omega (arith, texts-is, rows-is))
+        put-drop withCell 0 (c + 1) p (omega (arith, texts-is))
+        ∙ put-drop withSpot (cellAt i) (c + 1) p (omega (arith, texts-is))
+        ∙ put-drop t (spotAt c) (length t - textsFrom) p (omega (arith, texts-is, rows-is))
 
-    -- words that are none of the four
-    linked-row : (j : ℕ) → 8194 ≤ j → j + 1 < rowAt c → word (linked c h t) j ≡ word t j
+    -- words that are none of the three
+    linked-spots : (k : ℕ) → k < c → word (linked c i t) (spotAt k) ≡ word t (spotAt k)
     unfolding linked
-    linked-row j a b =
-        word-above withHead 0 (c + 1) j (omega arith)
-        ∙ word-above withSpot h (c + 1) j (omega arith)
-        ∙ word-below withLink (rowAt c + 2) (length t - textsFrom) j (omega arith)
-        ∙ word-below t (rowAt c) (word t h) j b
+    linked-spots k l =
+        word-above withCell 0 (c + 1) (spotAt k) (omega arith)
+        ∙ word-above withSpot (cellAt i) (c + 1) (spotAt k) (omega arith)
+        ∙ word-below t (spotAt c) (length t - textsFrom) (spotAt k) (omega arith)
 
-    linked-before : (j : ℕ) → 2 ≤ j → j + 1 < h → word (linked c h t) j ≡ word t j
+    linked-before : (j : ℕ) → j < i → word (linked c i t) (cellAt j) ≡ word t (cellAt j)
     unfolding linked
-    linked-before j a b =
-        word-above withHead 0 (c + 1) j (omega arith)
-        ∙ word-below withSpot h (c + 1) j b
-        ∙ word-below withLink (rowAt c + 2) (length t - textsFrom) j (omega arith)
-        ∙ word-below t (rowAt c) (word t h) j (omega arith)
+    linked-before j l =
+        word-above withCell 0 (c + 1) (cellAt j) (omega arith)
+        ∙ word-below withSpot (cellAt i) (c + 1) (cellAt j) (omega arith)
+        ∙ word-below t (spotAt c) (length t - textsFrom) (cellAt j) (omega arith)
 
-    linked-after : (j : ℕ) → h + 1 < j → j ≤ 8192 → word (linked c h t) j ≡ word t j
+    linked-after : (j : ℕ) → i < j → j < 38912 → word (linked c i t) (cellAt j) ≡ word t (cellAt j)
     unfolding linked
-    linked-after j a b =
-        word-above withHead 0 (c + 1) j (omega arith)
-        ∙ word-above withSpot h (c + 1) j a
-        ∙ word-below withLink (rowAt c + 2) (length t - textsFrom) j (omega arith)
-        ∙ word-below t (rowAt c) (word t h) j (omega arith)
+    linked-after j l m =
+        word-above withCell 0 (c + 1) (cellAt j) (omega arith)
+        ∙ word-above withSpot (cellAt i) (c + 1) (cellAt j) (omega arith)
+        ∙ word-below t (spotAt c) (length t - textsFrom) (cellAt j) (omega arith)
+
+    linked-others : (j : ℕ) → j < 38912 → (j ≡ i → ⊥) → word (linked c i t) (cellAt j) ≡ word t (cellAt j)
+    linked-others j l n = ⊎-elim
+        (linked-before j)
+        (λ (g : i ≤ j). ⊎-elim (λ (m : i < j). linked-after j m l) (λ (m : j ≤ i). absurd (n (omega arith))) (lt-or-le i j))
+        (lt-or-le j i)
 
     module _ (long : textsFrom ≤ length t) where
-      linked-count : word (linked c h t) 0 ≡ c + 1
+      linked-count : word (linked c i t) 0 ≡ c + 1
       unfolding linked
-      linked-count = word-put withHead 0 (c + 1) (omega (arith, head-length, texts-is)) (omega (arith, rows-is))
+      linked-count = word-put withCell 0 (c + 1) (omega (arith, cell-length, texts-is)) (omega (arith, rows-is))
 
-      linked-head : word (linked c h t) h ≡ c + 1
+      linked-cell : word (linked c i t) (cellAt i) ≡ c + 1
       unfolding linked
-      linked-head =
-          word-above withHead 0 (c + 1) h (omega arith)
-          ∙ word-put withSpot h (c + 1) (omega (arith, spot-length, texts-is)) (omega (arith, rows-is))
+      linked-cell =
+          word-above withCell 0 (c + 1) (cellAt i) (omega arith)
+          ∙ word-put withSpot (cellAt i) (c + 1) (omega (arith, spot-length, texts-is)) (omega (arith, rows-is))
 
-      linked-link : word t h < 65536 → word (linked c h t) (rowAt c) ≡ word t h
-      unfolding linked
-      linked-link s =
-          word-above withHead 0 (c + 1) (rowAt c) (omega arith)
-          ∙ word-above withSpot h (c + 1) (rowAt c) (omega arith)
-          ∙ word-below withLink (rowAt c + 2) (length t - textsFrom) (rowAt c) (omega arith)
-          ∙ word-put t (rowAt c) (word t h) (omega (arith, texts-is, rows-is)) s
-
-      linked-spot : length t < textsFrom + 65536 → word (linked c h t) (rowAt c + 2) ≡ length t - textsFrom
+      linked-spot : length t < textsFrom + 65536 → word (linked c i t) (spotAt c) ≡ length t - textsFrom
       unfolding linked
       linked-spot s =
-          word-above withHead 0 (c + 1) (rowAt c + 2) (omega arith)
-          ∙ word-above withSpot h (c + 1) (rowAt c + 2) (omega arith)
-          ∙ word-put withLink (rowAt c + 2) (length t - textsFrom) (omega (arith, put-length t (rowAt c) (word t h), texts-is, rows-is)) (omega arith)
+          word-above withCell 0 (c + 1) (spotAt c) (omega arith)
+          ∙ word-above withSpot (cellAt i) (c + 1) (spotAt c) (omega arith)
+          ∙ word-put t (spotAt c) (length t - textsFrom) (omega (arith, texts-is, rows-is)) (omega arith)
 
--- rows stay where their words and what stands behind them stay
-keep-rows : (t u x : List ℕ) (c : ℕ) → ((j : ℕ) → 8194 ≤ j → j + 1 < rowAt c → word u j ≡ word t j)
-    → ((p : ℕ) → textsFrom ≤ p → p ≤ length t → drop p u ≡ drop p t ++ x) → (rs : List Name) → length rs ≤ c → Rows t rs → Rows u rs
-unfolding Rows
-keep-rows t u x c a b [] l r = tt
-keep-rows t u x c a b (m ∷ rs) l r =
-    let k = length rs in
-    let o = r .0 in
-    let w = a (rowAt k) (omega arith) (omega arith) in
-    let v = a (rowAt k + 2) (omega arith) (omega arith) in
-    let p = textsFrom + word t (rowAt k + 2) in
-    let g : p ≤ length t = let e = ap length (o .stands) in omega (arith, length-drop p t) in (
-      record {
-        links = w ∙ o .links;
-        rest = o .rest ++ x;
-        stands = ap (λ y. drop (textsFrom + y) u) v ∙ b p (omega arith) g ∙ ap (λ (y : List ℕ). y ++ x) (o .stands) ∙ ap (λ (y : List ℕ). length m ∷ y) (append-assoc m (o .rest) x);
-      },
-      keep-rows t u x c a b rs (omega arith) (r .1),
-    )
+-- two tables, where u has the name n as the number c in the cell i, which is free in t
+module _ (t u : List ℕ) (n : Name) (c i : ℕ) (few : c ≤ rowsMost) (low : (j : ℕ) → j < 38912 → word t (cellAt j) ≤ c)
+    (free : word t (cellAt i) ≡ 0) (cell : word u (cellAt i) ≡ suc c) (text : textOf u c ≡ n)
+    (cells : (j : ℕ) → j < 38912 → (j ≡ i → ⊥) → word u (cellAt j) ≡ word t (cellAt j)) (texts : (k : ℕ) → k < c → textOf u k ≡ textOf t k) where
+  -- a cell that is not free stays
+  cell-stays : (j m : ℕ) → j < 38912 → word t (cellAt j) ≡ suc m → word u (cellAt j) ≡ suc m
+  cell-stays j m l e = cells j l (λ q. omega (arith, free, e, ap (λ y. word t (cellAt y)) q)) ∙ e
 
-ne-lt : (a b : ℕ) → a ≤ b → (a ≡ b → ⊥) → headAt a + 1 < headAt b
-ne-lt a b l n = ⊎-elim (λ (g : a < b). omega arith) (λ (g : b ≤ a). absurd (n (omega arith))) (lt-or-le a b)
+  step-same : (f : ℕ) (x : Name) (h j m : ℕ) → m < c
+      → placeFrom (suc f) u x h j (suc m) ≡ cond (eqName (textOf t m) x) (pl.Taken m) (placeFrom f u x (h / 2) (below m h) (word u (cellAt (below m h))))
+  unfolding placeFrom
+  step-same f x h j m l =
+      ap (λ (y : Name). cond (eqName y x) (pl.Taken m) (placeFrom f u x (h / 2) (below m h) (word u (cellAt (below m h))))) (texts m l)
 
--- a new name found as the last
-finds-more : (rs ns : List Name) (n : Name) (j : ℕ) → length rs ≡ length ns → lookup ns n 0 ≡ Missing j → ((x : Name) (d : ℕ) → back rs x d ≡ reset d (lookup ns x 0))
-    → (x : Name) (d : ℕ) → back (n ∷ rs) x d ≡ reset d (lookup (ns ++ (n ∷ [])) x 0)
-unfolding back onto reset
-finds-more rs ns n j l new f x d =
-    ap (λ (y : Found). cond (eqName n x) (At (length rs)) y) (f x d)
-    ∙ go (lookup ns x 0) refl (eqName n x) refl
-    ∙ ap (reset d) (sym (lookup-snoc ns n x 0))
-  where
-    go : (y : Found) → lookup ns x 0 ≡ y → (b : Bool) → eqName n x ≡ b → cond b (At (length rs)) (reset d y) ≡ reset d (onto y n x)
-    go (At k) p true q =
-        let e = ap (λ (z : Name). lookup ns z 0) (eqName-true n x q) in
-        absurd (let z : _≡_ {A = ℕ} 0 1 = cc in omega arith)
-    go (At k) p false q = refl
-    go (Missing k) p true q = let h = lookup-none ns x 0 k p in let z : length rs ≡ k = omega arith in rw q (ap At z)
-    go (Missing k) p false q = rw q
+  -- what was found is found
+  taken-stays : (x : Name) (f h j w k : ℕ) → j < 38912 → w ≡ word t (cellAt j) → placeFrom f t x h j w ≡ pl.Taken k
+      → placeFrom f u x h j (word u (cellAt j)) ≡ pl.Taken k
+  unfolding placeFrom which
+  taken-stays x zero h j w k l q e = absurd (let z : _≡_ {A = ℕ} 2 0 = ap which e in omega arith)
+  taken-stays x (suc f) h j zero k l q e = absurd (let z : _≡_ {A = ℕ} 1 0 = ap which e in omega arith)
+  taken-stays x (suc f) h j (suc m) k l q e =
+      let g : m < c = omega (arith, low j l) in
+      ap (placeFrom (suc f) u x h j) (cell-stays j m l (sym q))
+      ∙ step-same f x h j m g
+      ∙ go (eqName (textOf t m) x) (taken-stays x f (h / 2) (below m h) _ k (below-less t x c few low m h g) refl) e
+    where
+      go : (b : Bool)
+          → (placeFrom f t x (h / 2) (below m h) (word t (cellAt (below m h))) ≡ pl.Taken k → placeFrom f u x (h / 2) (below m h) (word u (cellAt (below m h))) ≡ pl.Taken k)
+          → cond b (pl.Taken m) (placeFrom f t x (h / 2) (below m h) (word t (cellAt (below m h)))) ≡ pl.Taken k
+          → cond b (pl.Taken m) (placeFrom f u x (h / 2) (below m h) (word u (cellAt (below m h)))) ≡ pl.Taken k
+      go true ih g = g
+      go false ih g = ih g
 
-missing-is : (f : Found) → isMissing f ≡ true → (R : Type 0) → ((j : ℕ) → f ≡ Missing j → R) → R
-unfolding isMissing
-missing-is (At k) e R g = absurd (let z : _≡_ {A = ℕ} 0 1 = cc in omega arith)
-missing-is (Missing k) e R g = g k refl
+  -- the new name is found
+  free-taken : (f h j w : ℕ) → j < 38912 → w ≡ word t (cellAt j) → placeFrom f t n h j w ≡ pl.Free i
+      → placeFrom f u n h j (word u (cellAt j)) ≡ pl.Taken c
+  unfolding placeFrom which its-number
+  free-taken zero h j w l q e = absurd (let z : _≡_ {A = ℕ} 2 1 = ap which e in omega arith)
+  free-taken (suc f) h j zero l q e =
+      let z : j ≡ i = ap its-number e in
+      ap (placeFrom (suc f) u n h j) (ap (λ y. word u (cellAt y)) z ∙ cell)
+      ∙ ap (λ (b : Bool). cond b (pl.Taken c) (placeFrom f u n (h / 2) (below c h) (word u (cellAt (below c h))))) (ap (λ (y : Name). eqName y n) text ∙ eqName-refl n)
+  free-taken (suc f) h j (suc m) l q e =
+      let g : m < c = omega (arith, low j l) in
+      ap (placeFrom (suc f) u n h j) (cell-stays j m l (sym q))
+      ∙ step-same f n h j m g
+      ∙ go (eqName (textOf t m) n) (free-taken f (h / 2) (below m h) _ (below-less t n c few low m h g) refl) e
+    where
+      go : (b : Bool)
+          → (placeFrom f t n (h / 2) (below m h) (word t (cellAt (below m h))) ≡ pl.Free i → placeFrom f u n (h / 2) (below m h) (word u (cellAt (below m h))) ≡ pl.Taken c)
+          → cond b (pl.Taken m) (placeFrom f t n (h / 2) (below m h) (word t (cellAt (below m h)))) ≡ pl.Free i
+          → cond b (pl.Taken m) (placeFrom f u n (h / 2) (below m h) (word u (cellAt (below m h)))) ≡ pl.Taken c
+      go true ih g = absurd (let z : _≡_ {A = ℕ} 0 1 = ap which g in omega arith)
+      go false ih g = ih g
 
 -- the index with a row more
-module _ (t : List ℕ) (ns : List Name) (n : Name) (x : Indexed t ns) (o : Rowed t n) (j : ℕ) (new : lookup ns n 0 ≡ Missing j) where
+module _ (t : List ℕ) (ns : List Name) (n : Name) (x : Indexed t ns) (o : Rowed t n) where
   abbrev more : List ℕ
-  more = linked (length (x .rs)) (headAt (hash n)) t ++ (length n ∷ n)
+  more = linked (length ns) (o .cell) t ++ (length n ∷ n)
 
-  few-rows : length (x .rs) < rowsMost
+  few-rows : length ns < rowsMost
   few-rows = omega (arith, x .count, o .few)
 
-  more-word : (i : ℕ) → i + 1 < textsFrom → word more i ≡ word (linked (length (x .rs)) (headAt (hash n)) t) i
-  more-word i h = word-append _ (length n ∷ n) i (omega (arith, linked-length t (length (x .rs)) (headAt (hash n)), o .long))
+  cell-free : (o .cell < 38912) × (word t (cellAt (o .cell)) ≡ 0)
+  unfolding placeOf
+  cell-free = free-word t n (length ns) (x .few) (x .low) 17409 (hash n / 4096) (hash n % 4096) _ (o .cell) (head-less n) refl (o .free)
+
+  more-word : (i : ℕ) → i + 1 < textsFrom → word more i ≡ word (linked (length ns) (o .cell) t) i
+  more-word i h = word-append _ (length n ∷ n) i (omega (arith, linked-length t (length ns) (o .cell), o .long))
 
   more-drop : (p : ℕ) → textsFrom ≤ p → p ≤ length t → drop p more ≡ drop p t ++ (length n ∷ n)
   more-drop p g h =
-      drop-append-le p _ (length n ∷ n) (omega (arith, linked-length t (length (x .rs)) (headAt (hash n))))
-      ∙ ap (λ (y : List ℕ). y ++ (length n ∷ n)) (linked-drop t (length (x .rs)) (headAt (hash n)) few-rows (omega arith) (omega (arith, hash-less n)) p g)
+      drop-append-le p _ (length n ∷ n) (omega (arith, linked-length t (length ns) (o .cell)))
+      ∙ ap (λ (y : List ℕ). y ++ (length n ∷ n)) (linked-drop t (length ns) (o .cell) few-rows (cell-free .0) p g)
 
-  head-word : word t (headAt (hash n)) ≡ lastOf (x .rs) (hash n)
-  head-word = x .heads (hash n) (hash-less n)
+  more-cell : word more (cellAt (o .cell)) ≡ suc (length ns)
+  more-cell =
+      more-word (cellAt (o .cell)) (omega (arith, cell-free .0, texts-is))
+      ∙ linked-cell t (length ns) (o .cell) few-rows (cell-free .0) (o .long)
+      ∙ (let z : length ns + 1 ≡ suc (length ns) = omega arith in z)
 
-  more-row : RowOf more (length (x .rs)) n (lastOf (x .rs) (hash n))
+  more-others : (j : ℕ) → j < 38912 → (j ≡ o .cell → ⊥) → word more (cellAt j) ≡ word t (cellAt j)
+  more-others j l d = more-word (cellAt j) (omega (arith, texts-is)) ∙ linked-others t (length ns) (o .cell) few-rows (cell-free .0) j l d
+
+  -- the new name
+  more-row : RowOf more (length ns) n
   more-row =
-      let c = length (x .rs) in
-      let h = headAt (hash n) in
-      let w : word more (rowAt c + 2) ≡ length t - textsFrom =
-      more-word (rowAt c + 2) (omega (arith, few-rows, texts-is, rows-is)) ∙ linked-spot t c h few-rows (omega arith) (omega (arith, hash-less n)) (o .long) (o .short) in
-      let p : textsFrom + word more (rowAt c + 2) ≡ length (linked c h t) = omega (arith, w, linked-length t c h, o .long) in
+      let c = length ns in
+      let w : word more (spotAt c) ≡ length t - textsFrom =
+      more-word (spotAt c) (omega (arith, few-rows, texts-is, rows-is)) ∙ linked-spot t c (o .cell) few-rows (cell-free .0) (o .long) (o .short) in
+      let p : textsFrom + word more (spotAt c) ≡ length (linked c (o .cell) t) = omega (arith, w, linked-length t c (o .cell), o .long) in
       record {
-        links = more-word (rowAt c) (omega (arith, few-rows, texts-is, rows-is))
-            ∙ linked-link t c h few-rows (omega arith) (omega (arith, hash-less n)) (o .long) (omega (arith, head-word, lastOf-most (x .rs) (hash n), few-rows, rows-is))
-            ∙ head-word;
         rest = [];
-        stands = ap (λ y. drop y more) p ∙ drop-append-seam (linked c h t) (length n ∷ n) ∙ ap (λ (y : List ℕ). length n ∷ y) (sym (append-nil n));
+        stands = ap (λ y. drop y more) p ∙ drop-append-seam (linked c (o .cell) t) (length n ∷ n) ∙ ap (λ (y : List ℕ). length n ∷ y) (sym (append-nil n));
       }
 
-  more-heads : (g : ℕ) → g < 4096 → word more (headAt g) ≡ lastOf (n ∷ x .rs) g
-  unfolding lastOf
-  more-heads g l = more-word (headAt g) (omega (arith, texts-is)) ∙ go (eqb (hash n) g) refl
+  -- those before it
+  keep-row : (k : ℕ) → k < length ns → (m : Name) → RowOf t k m → RowOf more k m
+  keep-row k l m r =
+      let v : word more (spotAt k) ≡ word t (spotAt k) =
+      more-word (spotAt k) (omega (arith, few-rows, texts-is, rows-is)) ∙ linked-spots t (length ns) (o .cell) few-rows (cell-free .0) k l in
+      let p = textsFrom + word t (spotAt k) in
+      let g : p ≤ length t = let e = ap length (r .stands) in omega (arith, length-drop p t) in
+      record {
+        rest = r .rest ++ (length n ∷ n);
+        stands = ap (λ y. drop (textsFrom + y) more) v
+            ∙ more-drop p (omega arith) g
+            ∙ ap (λ (y : List ℕ). y ++ (length n ∷ n)) (r .stands)
+            ∙ ap (λ (y : List ℕ). length m ∷ y) (append-assoc m (r .rest) (length n ∷ n));
+      }
+
+  more-rows : (k : ℕ) → k < length (ns ++ (n ∷ [])) → RowOf more k (getD (ns ++ (n ∷ [])) k [])
+  more-rows k l = ⊎-elim
+      (λ (g : k < length ns). subst (RowOf more k) (sym (List·getD-append ns (n ∷ []) [] k g)) (keep-row k g _ (x .rows k g)))
+      (λ (g : length ns ≤ k).
+      let z : length ns ≡ k = omega (arith, length-append ns (n ∷ [])) in
+      subst (λ (y : ℕ). RowOf more y (getD (ns ++ (n ∷ [])) y [])) z (subst (RowOf more (length ns)) (sym (getD-append-seam ns n [] [])) more-row))
+      (lt-or-le k (length ns))
+
+  more-texts : (k : ℕ) → k < length ns → textOf more k ≡ textOf t k
+  more-texts k l = row-text more k _ (keep-row k l _ (x .rows k l)) ∙ sym (row-text t k _ (x .rows k l))
+
+  more-low : (i : ℕ) → i < 38912 → word more (cellAt i) ≤ length (ns ++ (n ∷ []))
+  more-low i l = go (eqb i (o .cell)) refl
     where
-      go : (b : Bool) → eqb (hash n) g ≡ b → word (linked (length (x .rs)) (headAt (hash n)) t) (headAt g) ≡ cond b (suc (length (x .rs))) (lastOf (x .rs) g)
-      go true e =
-          let q = eqb-true (hash n) g e in
-          ap (λ y. word (linked (length (x .rs)) (headAt (hash n)) t) (headAt y)) (sym q)
-          ∙ linked-head t (length (x .rs)) (headAt (hash n)) few-rows (omega arith) (omega (arith, hash-less n)) (o .long)
-          ∙ (let z : length (x .rs) + 1 ≡ suc (length (x .rs)) = omega arith in z)
-      go false e = ⊎-elim
-          (λ (a : g < hash n). linked-before t (length (x .rs)) (headAt (hash n)) few-rows (omega arith) (omega (arith, hash-less n)) (headAt g) (omega arith) (omega arith) ∙ x .heads g l)
-          (λ (a : hash n ≤ g).
-          linked-after t (length (x .rs)) (headAt (hash n)) few-rows (omega arith) (omega (arith, hash-less n)) (headAt g) (ne-lt (hash n) g a (eqb-false (hash n) g e)) (omega arith)
-          ∙ x .heads g l)
-          (lt-or-le g (hash n))
+      go : (b : Bool) → eqb i (o .cell) ≡ b → word more (cellAt i) ≤ length (ns ++ (n ∷ []))
+      go true e = omega (arith, ap (λ y. word more (cellAt y)) (eqb-true i (o .cell) e), more-cell, length-append ns (n ∷ []))
+      go false e = omega (arith, more-others i l (eqb-false i (o .cell) e), x .low i l, length-append ns (n ∷ []))
+
+  more-finds : (y : Name) (j : ℕ) → lookup (ns ++ (n ∷ [])) y 0 ≡ At j → placeOf more y ≡ pl.Taken j
+  unfolding placeOf onto numberIn
+  more-finds y j e = go (lookup ns y 0) refl (sym (lookup-snoc ns n y 0) ∙ e)
+    where
+      new : (k : ℕ) → lookup ns y 0 ≡ Missing k → (b : Bool) → eqName n y ≡ b → cond b (At k) (Missing (k + 1)) ≡ At j
+          → placeFrom 17409 more y (hash y / 4096) (hash y % 4096) (word more (cellAt (hash y % 4096))) ≡ pl.Taken j
+      new k p false q g = absurd (let z : _≡_ {A = ℕ} 0 1 = cc in omega arith)
+      new k p true q g =
+          let a : k ≡ j = ap numberIn g in
+          let z : length ns ≡ j = let h = lookup-none ns y 0 k p in omega arith in
+          subst (λ (v : Name). placeFrom 17409 more v (hash v / 4096) (hash v % 4096) (word more (cellAt (hash v % 4096))) ≡ pl.Taken j) (eqName-true n y q)
+          (free-taken t more n (length ns) (o .cell) (x .few) (x .low) (cell-free .1) more-cell (row-text more (length ns) n more-row) more-others more-texts 17409 (hash n / 4096) (hash n % 4096) _ (head-less n) refl (o .free)
+          ∙ ap pl.Taken z)
+
+      go : (f : Found) → lookup ns y 0 ≡ f → onto f n y ≡ At j
+          → placeFrom 17409 more y (hash y / 4096) (hash y % 4096) (word more (cellAt (hash y % 4096))) ≡ pl.Taken j
+      go (At k) p g = taken-stays t more n (length ns) (o .cell) (x .few) (x .low) (cell-free .1) more-cell (row-text more (length ns) n more-row) more-others more-texts y 17409 (hash y / 4096) (hash y % 4096) _ j (head-less y) refl (x .finds y j (p ∙ g))
+      go (Missing k) p g = new k p (eqName n y) refl g
 
   indexed-more : Indexed more (ns ++ (n ∷ []))
-  unfolding Rows
   indexed-more = record {
-    rs = n ∷ x .rs;
-    count = more-word 0 (omega (arith, texts-is)) ∙ linked-count t (length (x .rs)) (headAt (hash n)) few-rows (omega arith) (omega (arith, hash-less n)) (o .long) ∙ (let z : length (x .rs) + 1 ≡ suc (length (x .rs)) = omega arith in z);
-    number = omega (arith, x .number, length-append ns (n ∷ []));
-    few = few-rows;
-    rows = (
-      more-row,
-      keep-rows t more (length n ∷ n) (length (x .rs))
-          (λ i a b. more-word i (omega (arith, few-rows, texts-is, rows-is)) ∙ linked-row t (length (x .rs)) (headAt (hash n)) few-rows (omega arith) (omega (arith, hash-less n)) i a b)
-          more-drop (x .rs) (omega arith) (x .rows),
-    );
-    heads = more-heads;
-    finds = finds-more (x .rs) ns n j (x .number) new (x .finds);
+    count = more-word 0 (omega (arith, texts-is))
+        ∙ linked-count t (length ns) (o .cell) few-rows (cell-free .0) (o .long)
+        ∙ sym (length-append ns (n ∷ []));
+    few = omega (arith, few-rows, length-append ns (n ∷ []));
+    low = more-low;
+    rows = more-rows;
+    finds = more-finds;
   }
 
-noted-row : (t : List ℕ) (n : Name) → hasRow t n ≡ true → noted n t ≡ linked (word t 0) (headAt (hash n)) t
-unfolding noted
-noted-row t n e = rw e
+noted-row : (t : List ℕ) (n : Name) (o : Rowed t n) → hasRow t n ≡ true → noted n t ≡ linked (word t 0) (o .cell) t
+unfolding noted hasRow cellFor linkedAt isFree
+noted-row t n o e = go (spare t) e
+  where
+    go : (b : Bool) → isFree (cond b (placeOf t n) pl.Lost) ≡ true → linkedAt (cond b (placeOf t n) pl.Lost) t ≡ linked (word t 0) (o .cell) t
+    go false g = absurd (let z : _≡_ {A = ℕ} 0 1 = cc in omega arith)
+    go true g = ap (λ (y : Place). linkedAt y t) (o .free)
 
 noted-none : (t : List ℕ) (n : Name) → hasRow t n ≡ false → noted n t ≡ putWord t 0 (rowsMost + 1)
-unfolding noted
-noted-none t n e = rw e
+unfolding noted hasRow linkedAt unindexed isFree
+noted-none t n e = go (cellFor t n) e
+  where
+    go : (p : Place) → isFree p ≡ false → linkedAt p t ≡ putWord t 0 (rowsMost + 1)
+    go (pl.Taken k) g = refl
+    go (pl.Free i) g = absurd (let z : _≡_ {A = ℕ} 0 1 = cc in omega arith)
+    go pl.Lost g = refl
 
 pub noted-length : (t : List ℕ) (n : Name) → length (noted n t) ≡ length t
 noted-length t n = go (hasRow t n) refl
   where
     go : (b : Bool) → hasRow t n ≡ b → length (noted n t) ≡ length t
-    go true e = ap length (noted-row t n e) ∙ linked-length t (word t 0) (headAt (hash n))
+    go true e = let o = rowed t n e in ap length (noted-row t n o e) ∙ linked-length t (word t 0) (o .cell)
     go false e = ap length (noted-none t n e) ∙ put-length t 0 (rowsMost + 1)
-
-noted-drop : (t : List ℕ) (n : Name) → drop textsFrom (noted n t) ≡ drop textsFrom t
-noted-drop t n = go (hasRow t n) refl
-  where
-    go : (b : Bool) → hasRow t n ≡ b → drop textsFrom (noted n t) ≡ drop textsFrom t
-    go true e =
-        ap (drop textsFrom) (noted-row t n e)
-        ∙ linked-drop t (word t 0) (headAt (hash n)) (rowed t n e .few) (omega arith) (omega (arith, hash-less n)) textsFrom (omega arith)
-    go false e = ap (drop textsFrom) (noted-none t n e) ∙ put-drop t 0 (rowsMost + 1) textsFrom (omega (arith, texts-is))
 
 pub enter-plain : (t : List ℕ) (n : Name) → textsFrom ≤ length t → hasRow t n ≡ false → rowsMost < word (enter n t) 0
 unfolding enter
@@ -497,13 +546,24 @@ enter-plain t n l e =
     let b : word (noted n t) 0 ≡ rowsMost + 1 = ap (λ (y : List ℕ). word y 0) (noted-none t n e) ∙ word-put t 0 (rowsMost + 1) (omega (arith, texts-is)) (omega (arith, rows-is)) in
     omega (arith, a ∙ b)
 
+-- the names before it stay
+noted-drop : (t : List ℕ) (ns : List Name) (n : Name) → Right t ns → drop textsFrom (noted n t) ≡ drop textsFrom t
+noted-drop t ns n r = go (hasRow t n) refl (r .index)
+  where
+    go : (b : Bool) → hasRow t n ≡ b → ((rowsMost < word t 0) ⊎ Indexed t ns) → drop textsFrom (noted n t) ≡ drop textsFrom t
+    go true e (inl i) = absurd (let q = rowed t n e .few in omega arith)
+    go true e (inr x) =
+        let o = rowed t n e in
+        ap (drop textsFrom) (noted-row t n o e) ∙ linked-drop t (word t 0) (o .cell) (o .few) (cell-free t ns n x o .0) textsFrom (omega arith)
+    go false e i = ap (drop textsFrom) (noted-none t n e) ∙ put-drop t 0 (rowsMost + 1) textsFrom (omega (arith, texts-is))
+
 -- one name more, and the table stays right
 pub right-more : (t : List ℕ) (ns : List Name) (n : Name) → Right t ns → Right (enter n t) (ns ++ (n ∷ []))
 unfolding enter
 right-more t ns n r = record {
   long = omega (arith, r .long, noted-length t n, length-append (noted n t) (length n ∷ n));
   texts = drop-append-le textsFrom (noted n t) (length n ∷ n) (omega (arith, r .long, noted-length t n))
-      ∙ ap (λ (y : List ℕ). y ++ (length n ∷ n)) (noted-drop t n ∙ r .texts)
+      ∙ ap (λ (y : List ℕ). y ++ (length n ∷ n)) (noted-drop t ns n r ∙ r .texts)
       ∙ sym (enc-more ns n);
   index = go (hasRow t n) refl (r .index);
 }
@@ -513,10 +573,9 @@ right-more t ns n r = record {
     go true e (inl i) = absurd (let q = rowed t n e .few in omega arith)
     go true e (inr x) =
         let o = rowed t n e in
-        inr (missing-is (seek t n) (o .new) (Indexed (noted n t ++ (length n ∷ n)) (ns ++ (n ∷ [])))
-        (λ j q. subst (λ (y : List ℕ). Indexed (y ++ (length n ∷ n)) (ns ++ (n ∷ [])))
-        (ap (λ y. linked y (headAt (hash n)) t) (sym (x .count)) ∙ sym (noted-row t n e))
-        (indexed-more t ns n x o j (sym (seek-right t ns r n) ∙ q))))
+        inr (subst (λ (y : List ℕ). Indexed (y ++ (length n ∷ n)) (ns ++ (n ∷ [])))
+        (ap (λ y. linked y (o .cell) t) (sym (x .count)) ∙ sym (noted-row t n o e))
+        (indexed-more t ns n x o))
 
 -- THE EMPTY TABLE AND ALL THAT ARE ENTERED
 
@@ -531,18 +590,16 @@ word-blank i h =
     ∙ ap (λ y. 0 + 256 * y) (getD-replicate textsFrom (i + 1) 0 0 h)
 
 pub right-blank : Right blank []
-unfolding enc Rows lastOf back lookup reset
+unfolding enc lookup
 right-blank = record {
   long = omega (arith, blank-length);
   texts = drop-of-length-le blank {i = textsFrom} (omega (arith, blank-length));
   index = inr record {
-    rs = [];
     count = word-blank 0 (omega (arith, texts-is));
-    number = refl;
     few = omega arith;
-    rows = tt;
-    heads = λ h l. word-blank (headAt h) (omega (arith, texts-is));
-    finds = λ n d. refl;
+    low = λ i l. omega (arith, word-blank (cellAt i) (omega (arith, texts-is)));
+    rows = λ k l. absurd (omega arith);
+    finds = λ n j e. absurd (let z : _≡_ {A = ℕ} 0 1 = cc in omega arith);
   };
 }
 

@@ -1,30 +1,47 @@
 -- Laws of the code of a table with an index: the turns of its loops, and its answers by their tests.
-use Prim.Native.Nat.{ℕ, zero, suc, _+_, _*_, _-_, _<_, _≤_, _%_, min}
+use Prim.Native.Nat.{ℕ, zero, suc, _+_, _*_, _-_, _<_, _≤_, _/_, _%_, min}
 use native.Mathlib.Numerals.{add-one}
 use native.Mathlib.Omega.{arith}
 use mathlib.Core.Bool.{true, false, cond}
 use mathlib.Core.Logic.{⊎-elim}
 use mathlib.Core.Path.{_≡_, refl, sym, ap, _∙_}
 use mathlib.Core.List.{List, [], _∷_}
-use lib.ListN.{length, take, drop, getD, drop-of-length-le, length-drop, length-take}
+use lib.ListN.{length, take, drop, getD, drop-of-length-le, length-drop, length-take, List·getD-eq-default}
 use lib.Seq.{drop-cons, drop-length, take-all}
-use lib.Dec.{leb}
+use lib.Dec.{ltb, leb}
 use borrow.Author.Tests.{lt-ltb, le-ltb, le-leb, lt-leb}
 use Rattle.wire.proofs.Writers.{lt-or-le, take-capped}
 use Rattle.pack.specs.Names.{Name, eqName}
 use Rattle.pack.specs.Write.{Found, At, Missing, lookup}
-use Rattle.pack.specs.Table.{table, rowsMost, textsFrom, rowAt, word, putWord, hashFrom, hash, textAt, textOf, chase, chased, seek, numberIn, isMissing, hasRow, linked, noted, indexed}
+use Rattle.pack.specs.declared.table.Place.{Place}
+use Rattle.pack.specs.declared.table.Place.the-variants as pl
+use Rattle.pack.specs.Table.{table, rowsMost, textsFrom, cellAt, below, word, putWord, fold, mixed, quadAt, hashFrom, hash, textAt, textOf, placeFrom, placeOf, foundIn, seek, numberIn, isFree, spare, cellFor, hasRow, linked, linkedAt, noted, indexed}
 use Rattle.pack.proofs.TableIndex.{rowed}
 use Rattle.pack.proofs.Interns.{found-number}
 
--- one byte more of a hash
-pub hash-turn : (n : Name) (h i : ℕ) → i < length n → hashFrom ((h * 31 + getD n i 0) % 4096) (drop (i + 1) n) ≡ hashFrom h (drop i n)
-unfolding hashFrom
-hash-turn n h i l = rw (add-one, drop-cons n i 0 l)
+-- four bytes more of a hash
+hash-step : (n : Name) (a b c i x k : ℕ) → x ≡ quadAt n i → c ≡ fold ((b + x + 1) * 1540483477) → hashFrom k c ((a + c) % 4294967296) n (i + 4) ≡ hashFrom (suc k) a b n i
+unfolding hashFrom mixed
+hash-step n a b c i x k e f = rw (f, e)
 
-pub hash-done : (n : Name) (h i : ℕ) → length n ≤ i → hashFrom h (drop i n) ≡ h
+pub hash-turn : (n : Name) (a b c i x : ℕ) → i < length n → x ≡ quadAt n i → c ≡ fold ((b + x + 1) * 1540483477)
+    → hashFrom ((length n + 3 - (i + 4)) / 4) c ((a + c) % 4294967296) n (i + 4) ≡ hashFrom ((length n + 3 - i) / 4) a b n i
+hash-turn n a b c i x l e f =
+    let z : suc ((length n + 3 - (i + 4)) / 4) ≡ (length n + 3 - i) / 4 = omega arith in
+    hash-step n a b c i x ((length n + 3 - (i + 4)) / 4) e f ∙ ap (λ k. hashFrom k a b n i) z
+
+pub hash-begun : (n : Name) → hashFrom ((length n + 3 - 0) / 4) 0 0 n 0 ≡ hash n
+unfolding hash
+hash-begun n = let z : length n + 3 - 0 ≡ length n + 3 = omega arith in ap (λ k. hashFrom (k / 4) 0 0 n 0) z
+
+pub hash-done : (n : Name) (a b i : ℕ) → length n ≤ i → hashFrom ((length n + 3 - i) / 4) a b n i ≡ a + 4294967296 * b
 unfolding hashFrom
-hash-done n h i l = rw (drop-of-length-le n l)
+hash-done n a b i l = let z : (length n + 3 - i) / 4 ≡ 0 = omega arith in ap (λ k. hashFrom k a b n i) z
+
+-- past the end there is nothing
+pub quad-end : (n : Name) (i x y z : ℕ) → length n ≤ i + 3 → x ≡ getD n i 0 → y ≡ getD n (i + 1) 0 → z ≡ getD n (i + 2) 0 → x + 256 * y + 65536 * z ≡ quadAt n i
+unfolding quadAt
+quad-end n i x y z l e f g = let o : getD n (i + 3) 0 ≡ 0 = List·getD-eq-default n 0 l in omega (arith, e, f, g)
 
 -- from the end on there is nothing
 drop-part : (t : List ℕ) (p b : ℕ) → b ≡ min (0 + p) (length t) → drop b t ≡ drop p t
@@ -42,48 +59,58 @@ text-part t p l b e h i j =
     ∙ ap (take l) (drop-part t (p + 1) b i)
     ∙ ap (λ y. take y (drop (p + 1) t)) h
 
--- a chain, by what stands at its link
-pub chase-ended : (f : ℕ) (t : List ℕ) (n : Name) (l : ℕ) → l ≡ 0 → chase f t n l ≡ Missing (word t 0)
-unfolding chase
-chase-ended zero t n l e = refl
-chase-ended (suc f) t n l e = rw e
-
-pub chase-spent : (f : ℕ) (t : List ℕ) (n : Name) (l : ℕ) → f ≤ 0 → chase f t n l ≡ Missing (word t 0)
-unfolding chase
-chase-spent zero t n l e = refl
-chase-spent (suc f) t n l e = absurd (omega arith)
+-- a tree, by what the cell i holds
+pub place-spent : (f : ℕ) (t : List ℕ) (n : Name) (h i w : ℕ) → f ≤ 0 → placeFrom f t n h i w ≡ pl.Lost
+unfolding placeFrom
+place-spent zero t n h i w e = refl
+place-spent (suc f) t n h i w e = absurd (omega arith)
 
 one-less : (k : ℕ) → suc k - 1 ≡ k
 one-less k = omega arith
 
--- the name of a link, whose row has the spot w
-text-of : (t : List ℕ) (k w : ℕ) → w ≡ word t (8194 + 4 * (suc k - 1) + 2) → textOf t k ≡ textAt t (77826 + w)
+-- the name of a cell, whose spot is w
+text-of : (t : List ℕ) (k w : ℕ) → w ≡ word t (77826 + 2 * (suc k - 1)) → textOf t k ≡ textAt t (112642 + w)
 unfolding textOf textsFrom
-text-of t k w e = ap (λ y. textAt t (77826 + y)) (sym (e ∙ ap (λ y. word t (8194 + 4 * y + 2)) (one-less k)))
+text-of t k w e = ap (λ y. textAt t (112642 + y)) (sym (e ∙ ap (λ y. word t (77826 + 2 * y)) (one-less k)))
 
-module _ (t : List ℕ) (n : Name) (w : ℕ) where
-  pub chase-here : (f l : ℕ) → 0 < f → (l ≡ 0 → ⊥) → w ≡ word t (8194 + 4 * (l - 1) + 2) → eqName (textAt t (77826 + w)) n ≡ true → chase f t n l ≡ At (l - 1)
-  unfolding chase
-  chase-here zero l p q e h = absurd (omega arith)
-  chase-here (suc f) zero p q e h = absurd (q refl)
-  chase-here (suc f) (suc k) p q e h =
-      ap (λ b. cond b (At k) (chase f t n (word t (rowAt k)))) (ap (λ (y : Name). eqName y n) (text-of t k w e) ∙ h) ∙ ap At (sym (one-less k))
+module _ (t : List ℕ) (n : Name) where
+  pub place-free : (f h i v : ℕ) → 0 < f → v ≡ word t (2 + 2 * i) → v ≡ 0 → placeFrom f t n h i (word t (2 + 2 * i)) ≡ pl.Free i
+  unfolding placeFrom
+  place-free zero h i v p e q = absurd (omega arith)
+  place-free (suc f) h i v p e q = ap (placeFrom (suc f) t n h i) (sym e ∙ q)
 
-  pub chase-on : (f l : ℕ) → 0 < f → (l ≡ 0 → ⊥) → w ≡ word t (8194 + 4 * (l - 1) + 2) → eqName (textAt t (77826 + w)) n ≡ false
-      → chase f t n l ≡ chase (f - 1) t n (word t (8194 + 4 * (l - 1)))
-  unfolding chase
-  chase-on zero l p q e h = absurd (omega arith)
-  chase-on (suc f) zero p q e h = absurd (q refl)
-  chase-on (suc f) (suc k) p q e h =
-      ap (λ b. cond b (At k) (chase f t n (word t (rowAt k)))) (ap (λ (y : Name). eqName y n) (text-of t k w e) ∙ h)
-      ∙ ap (λ y. chase f t n (word t (rowAt y))) (sym (one-less k))
-      ∙ ap (λ y. chase y t n (word t (rowAt (suc k - 1)))) (sym (one-less f))
+  module _ (w : ℕ) where
+    here : (f h i v : ℕ) → 0 < f → (v ≡ 0 → ⊥) → w ≡ word t (77826 + 2 * (v - 1)) → eqName (textAt t (112642 + w)) n ≡ true → placeFrom f t n h i v ≡ pl.Taken (v - 1)
+    unfolding placeFrom
+    here zero h i v p q e g = absurd (omega arith)
+    here (suc f) h i zero p q e g = absurd (q refl)
+    here (suc f) h i (suc k) p q e g =
+        ap (λ b. cond b (pl.Taken k) (placeFrom f t n (h / 2) (below k h) (word t (cellAt (below k h))))) (ap (λ (y : Name). eqName y n) (text-of t k w e) ∙ g)
+        ∙ ap pl.Taken (sym (one-less k))
+
+    on : (f h i v : ℕ) → 0 < f → (v ≡ 0 → ⊥) → w ≡ word t (77826 + 2 * (v - 1)) → eqName (textAt t (112642 + w)) n ≡ false
+        → placeFrom f t n h i v ≡ placeFrom (f - 1) t n (h / 2) (below (v - 1) h) (word t (cellAt (below (v - 1) h)))
+    unfolding placeFrom
+    on zero h i v p q e g = absurd (omega arith)
+    on (suc f) h i zero p q e g = absurd (q refl)
+    on (suc f) h i (suc k) p q e g =
+        ap (λ b. cond b (pl.Taken k) (placeFrom f t n (h / 2) (below k h) (word t (cellAt (below k h))))) (ap (λ (y : Name). eqName y n) (text-of t k w e) ∙ g)
+        ∙ ap (λ y. placeFrom f t n (h / 2) (below y h) (word t (cellAt (below y h)))) (sym (one-less k))
+        ∙ ap (λ y. placeFrom y t n (h / 2) (below (suc k - 1) h) (word t (cellAt (below (suc k - 1) h)))) (sym (one-less f))
+
+    pub place-here : (f h i v : ℕ) → 0 < f → v ≡ word t (2 + 2 * i) → (v ≡ 0 → ⊥) → w ≡ word t (77826 + 2 * (v - 1)) → eqName (textAt t (112642 + w)) n ≡ true
+        → placeFrom f t n h i (word t (2 + 2 * i)) ≡ pl.Taken (v - 1)
+    place-here f h i v p d q e g = ap (placeFrom f t n h i) (sym d) ∙ here f h i v p q e g
+
+    pub place-on : (f h i v : ℕ) → 0 < f → v ≡ word t (2 + 2 * i) → (v ≡ 0 → ⊥) → w ≡ word t (77826 + 2 * (v - 1)) → eqName (textAt t (112642 + w)) n ≡ false
+        → placeFrom f t n h i (word t (2 + 2 * i)) ≡ placeFrom (f - 1) t n (h / 2) (4096 + 2 * (v - 1) + h % 2) (word t (2 + 2 * (4096 + 2 * (v - 1) + h % 2)))
+    place-on f h i v p d q e g = ap (placeFrom f t n h i) (sym d) ∙ on f h i v p q e g
 
 -- a search, by how many names there are
-pub seek-plain : (t : List ℕ) (n : Name) (b : ℕ) → 17408 < word t 0 → b ≡ min (0 + 77826) (length t)
+pub seek-plain : (t : List ℕ) (n : Name) (b : ℕ) → 17408 < word t 0 → b ≡ min (0 + 112642) (length t)
     → lookup (table (take (length t - b) (drop b t))) n 0 ≡ seek t n
 unfolding seek rowsMost textsFrom
-seek-plain t n b h e = rw (lt-ltb 17408 (word t 0) h, take-all (length t - b) (drop b t) (omega (arith, length-drop b t)), drop-part t 77826 b e)
+seek-plain t n b h e = rw (lt-ltb 17408 (word t 0) h, take-all (length t - b) (drop b t) (omega (arith, length-drop b t)), drop-part t 112642 b e)
 
 -- the number that the plain search finds
 pub found-less : (t : List ℕ) (n : Name) (b : ℕ) (f : Found) → f ≡ lookup (table (take (length t - b) (drop b t))) n 0 → numberIn f ≤ 65535 + (length t - 65535)
@@ -91,51 +118,53 @@ unfolding numberIn
 found-less t n b (At k) e = omega (arith, found-number (take (length t - b) (drop b t)) n (At k) e, length-take (length t - b) (drop b t))
 found-less t n b (Missing k) e = omega (arith, found-number (take (length t - b) (drop b t)) n (Missing k) e, length-take (length t - b) (drop b t))
 
-pub seek-chased : (t : List ℕ) (n : Name) → word t 0 ≤ 17408 → chased t n ≡ seek t n
+pub seek-found : (t : List ℕ) (n : Name) (c : ℕ) (p : Place) → c ≤ 17408 → c ≡ word t 0 → p ≡ placeOf t n → foundIn c p ≡ seek t n
 unfolding seek rowsMost
-seek-chased t n h = rw (le-ltb 17408 (word t 0) h)
+seek-found t n c p h e q = rw (sym e, le-ltb 17408 c h, q)
 
--- whether a name can have a row, test by test
+-- whether there is room for one name more, test by test
+module _ (t : List ℕ) (c : ℕ) (e : c ≡ word t 0) where
+  pub spare-many : 17408 ≤ c → false ≡ spare t
+  unfolding spare rowsMost
+  spare-many h = rw (sym e, le-ltb c 17408 h)
+
+  pub spare-short : c < 17408 → length t < 112642 → false ≡ spare t
+  unfolding spare rowsMost textsFrom
+  spare-short h i = rw (sym e, lt-ltb c 17408 h, lt-leb 112642 (length t) i)
+
+  pub spare-by : c < 17408 → 112642 ≤ length t → ltb (length t) 178178 ≡ spare t
+  unfolding spare rowsMost textsFrom
+  spare-by h i = rw (sym e, lt-ltb c 17408 h, le-leb 112642 (length t) i)
+
+-- the cell for a name
 module _ (t : List ℕ) (n : Name) where
-  pub row-many : 17408 ≤ word t 0 → false ≡ hasRow t n
-  unfolding hasRow rowsMost
-  row-many h = rw (le-ltb (word t 0) 17408 h)
+  pub cell-spare : spare t ≡ true → placeOf t n ≡ cellFor t n
+  unfolding cellFor
+  cell-spare e = rw e
 
-  pub row-short : word t 0 < 17408 → length t < 77826 → false ≡ hasRow t n
-  unfolding hasRow rowsMost textsFrom
-  row-short h i = rw (lt-ltb (word t 0) 17408 h, lt-leb 77826 (length t) i)
+  pub cell-none : spare t ≡ false → pl.Lost ≡ cellFor t n
+  unfolding cellFor
+  cell-none e = rw e
 
-  pub row-long : word t 0 < 17408 → 77826 ≤ length t → 143362 ≤ length t → false ≡ hasRow t n
-  unfolding hasRow rowsMost textsFrom
-  row-long h i j = rw (lt-ltb (word t 0) 17408 h, le-leb 77826 (length t) i, le-ltb (length t) 143362 j)
-
-  pub row-by : (f : Found) → word t 0 < 17408 → 77826 ≤ length t → length t < 143362 → f ≡ seek t n → isMissing f ≡ hasRow t n
-  unfolding hasRow rowsMost textsFrom
-  row-by f h i j e = rw (lt-ltb (word t 0) 17408 h, le-leb 77826 (length t) i, lt-ltb (length t) 143362 j, e)
-
-  pub row-length : hasRow t n ≡ true → 77826 ≤ length t
-  unfolding textsFrom
-  row-length e = rowed t n e .long
+  pub cell-long : (i : ℕ) → cellFor t n ≡ pl.Free i → 112642 ≤ length t
+  unfolding textsFrom hasRow isFree
+  cell-long i e = rowed t n (ap isFree e) .long
 
 -- whether there is an index, test by test
-pub index-short : (t : List ℕ) → length t < 143362 → false ≡ indexed t
+pub index-short : (t : List ℕ) → length t < 178178 → false ≡ indexed t
 unfolding indexed textsFrom
-index-short t h = rw (lt-leb 143362 (length t) h)
+index-short t h = rw (lt-leb 178178 (length t) h)
 
-pub index-by : (t : List ℕ) (w : ℕ) → 143362 ≤ length t → w ≡ word t 0 → leb w 17408 ≡ indexed t
+pub index-by : (t : List ℕ) (w : ℕ) → 178178 ≤ length t → w ≡ word t 0 → leb w 17408 ≡ indexed t
 unfolding indexed textsFrom rowsMost
-index-by t w h e = rw (le-leb 143362 (length t) h, e)
+index-by t w h e = rw (le-leb 178178 (length t) h, e)
 
--- the row of a name
-pub noted-linked : (t : List ℕ) (n : Name) (c h : ℕ) → hasRow t n ≡ true → c ≡ word t 0 → h ≡ hash n → linked c (2 + 2 * h) t ≡ noted n t
+-- the index by the cell for a name
+pub noted-at : (t : List ℕ) (n : Name) (p : Place) → p ≡ cellFor t n → linkedAt p t ≡ noted n t
 unfolding noted
-noted-linked t n c h e p q = rw (e, p, q)
+noted-at t n p e = ap (λ (y : Place). linkedAt y t) e
 
-pub noted-plain : (t : List ℕ) (n : Name) → hasRow t n ≡ false → putWord t 0 17409 ≡ noted n t
-unfolding noted rowsMost
-noted-plain t n e = rw e
-
-pub linked-steps : (t : List ℕ) (c h l p : ℕ) → l ≡ word t h → p ≡ length t - 77826
-    → putWord (putWord (putWord (putWord t (8194 + 4 * c) l) (8194 + 4 * c + 2) p) h (c + 1)) 0 (c + 1) ≡ linked c h t
+pub linked-steps : (t : List ℕ) (c i p : ℕ) → c ≡ word t 0 → p ≡ length t - 112642
+    → putWord (putWord (putWord t (77826 + 2 * c) p) (2 + 2 * i) (c + 1)) 0 (c + 1) ≡ linked (word t 0) i t
 unfolding linked textsFrom
-linked-steps t c h l p e f = rw (e, f)
+linked-steps t c i p e f = rw (sym e, f)

@@ -245,7 +245,7 @@ pub finished-is : (room : ℕ) (p : Package) (names old : List ℕ) (s : State) 
 finished-is room p names old s d e f = rw (f, e, d) (written-is room p)
 
 -- the two buffers of a caller, before anything is written
-pub empty-buffers : started (replicate 65536 0) (replicate 143362 0) ≡ unwritten
+pub empty-buffers : started (replicate 65536 0) (replicate 178178 0) ≡ unwritten
 unfolding unwritten maxBytes
 empty-buffers =
     ap (λ y. started (replicate 65536 0) (replicate y 0)) buffer-size

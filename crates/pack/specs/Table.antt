@@ -1,6 +1,6 @@
--- Tables of names: names one after the other, each after its length byte; and the same behind an index of heads and links, so
--- that a name is found without looking at all others.
-use Prim.Native.Nat.{ℕ, zero, suc, _+_, _*_, _-_, _/_, _%_, _≤_}
+-- Tables of names: names one after the other, each after its length byte; and the same behind an index of trees, so that a name is
+-- found without looking at all others.
+use Prim.Native.Nat.{ℕ, zero, suc, _+_, _*_, _-_, _/_, _%_, _<_, _≤_}
 use mathlib.Core.Bool.{Bool, true, false, cond, _&&_}
 use mathlib.Core.List.{List, [], _∷_, _++_}
 use mathlib.Core.Path.{_≡_}
@@ -9,6 +9,8 @@ use lib.Dec.{ltb, leb}
 use Rattle.pack.specs.Names.{Name, eqName}
 use Rattle.pack.specs.RawNames.{oneOf}
 use Rattle.pack.specs.Write.{Found, At, Missing, lookup}
+use Rattle.pack.specs.declared.table.Place.{Place}
+use Rattle.pack.specs.declared.table.Place.the-variants as pl
 
 -- the names of a table, each after its length byte; the first number bounds the steps
 unfoldable pub tableF : ℕ → List ℕ → List Name
@@ -20,9 +22,10 @@ tableF (suc f) (l ∷ rest) = take l rest ∷ tableF f (drop l rest)
 unfoldable pub table : List ℕ → List Name
 table t = tableF (length t) t
 
--- An index stands before the names: how many names it has, 4,096 heads, and for each name a row of a link and a spot, all of 16 bits.
--- A head is 1 + the number of the last name of that hash, a link the same of the one before it in the chain, 0 for none; a spot is
--- where a name's length byte stands among the names.
+-- An index stands before the names: how many names it has, the cells, and for each name a spot, all of 16 bits. A spot is where a
+-- name's length byte stands among the names. A cell is 1 + the number of a name, or 0 while it is free: the cells 0 to 4095 are heads,
+-- and two more belong to each name. From a head on the names are a binary tree that branches by the bits of the hash, so that names
+-- are found in a few steps even where many share a head.
 
 -- the names that have rows: as many as a pack of 65,536 bytes can have that are told apart
 unfoldable pub rowsMost : ℕ
@@ -30,72 +33,130 @@ rowsMost = 17408
 
 -- where the names begin
 unfoldable pub textsFrom : ℕ
-textsFrom = 77826
+textsFrom = 112642
 
--- where the head of a hash stands, and the row of a number
-abbrev pub headAt : ℕ → ℕ
-headAt h = 2 + 2 * h
+-- where a cell stands, and the spot of a number
+abbrev pub cellAt : ℕ → ℕ
+cellAt i = 2 + 2 * i
 
-abbrev pub rowAt : ℕ → ℕ
-rowAt k = 8194 + 4 * k
+abbrev pub spotAt : ℕ → ℕ
+spotAt k = 77826 + 2 * k
+
+-- the cell below the name of the number k, by the lowest bit of h
+abbrev pub below : ℕ → ℕ → ℕ
+below k h = 4096 + 2 * k + h % 2
 
 -- 16 bits, lowest byte first
 unfoldable pub word : List ℕ → ℕ → ℕ
 word t i = getD t i 0 + 256 * getD t (i + 1) 0
 
+-- the same put at i
 unfoldable pub putWord : List ℕ → ℕ → ℕ → List ℕ
 putWord t i v = set (set t i (v % 256)) (i + 1) (v / 256 % 256)
 
--- which head a name has; any function of its bytes would be right
-unfoldable pub hashFrom : ℕ → Name → ℕ
-hashFrom h [] = h
-hashFrom h (b ∷ bs) = hashFrom ((h * 31 + b) % 4096) bs
+-- The bits by which a name goes down its tree: any function of its bytes would be right. They are two halves of 32 bits, and each goes
+-- into the next of the other, so that names with all bits alike are hard to make.
 
+-- the high half of a product added to its low one
+unfoldable pub fold : ℕ → ℕ
+fold x = (x + x / 4294967296) % 4294967296
+
+-- four bytes of a name from i on as one number, lowest first; those past its end are 0
+unfoldable pub quadAt : Name → ℕ → ℕ
+quadAt n i = getD n i 0 + 256 * getD n (i + 1) 0 + 65536 * getD n (i + 2) 0 + 16777216 * getD n (i + 3) 0
+
+-- four bytes more in a half
+unfoldable pub mixed : ℕ → ℕ → ℕ
+mixed b x = fold ((b + x + 1) * 1540483477)
+
+-- the bits of a name in so many steps from i on, from the halves of what stands before
+unfoldable pub hashFrom : ℕ → ℕ → ℕ → Name → ℕ → ℕ
+hashFrom zero a b n i = a + 4294967296 * b
+hashFrom (suc k) a b n i = hashFrom k (mixed b (quadAt n i)) ((a + mixed b (quadAt n i)) % 4294967296) n (i + 4)
+
+-- the bits of a name
 unfoldable pub hash : Name → ℕ
-hash n = hashFrom 0 n
+hash n = hashFrom ((length n + 3) / 4) 0 0 n 0
 
 -- the name whose length byte stands at p
 unfoldable pub textAt : List ℕ → ℕ → Name
 textAt t p = take (getD t p 0) (drop (p + 1) t)
 
--- the name of a row
+-- the name of a number
 unfoldable pub textOf : List ℕ → ℕ → Name
-textOf t k = textAt t (textsFrom + word t (rowAt k + 2))
+textOf t k = textAt t (textsFrom + word t (spotAt k))
 
--- a name in a chain, from a link on; the first number bounds the steps
-unfoldable pub chase : ℕ → List ℕ → Name → ℕ → Found
-chase zero t n l = Missing (word t 0)
-chase (suc f) t n zero = Missing (word t 0)
-chase (suc f) t n (suc k) = cond (eqName (textOf t k) n) (At k) (chase f t n (word t (rowAt k)))
+-- where a name with the bits h is from the cell i on, which holds w, or which cell would be its own; the first number bounds the steps
+unfoldable pub placeFrom : ℕ → List ℕ → Name → ℕ → ℕ → ℕ → Place
+placeFrom zero t n h i w = pl.Lost
+placeFrom (suc f) t n h i zero = pl.Free i
+placeFrom (suc f) t n h i (suc k) = cond (eqName (textOf t k) n) (pl.Taken k) (placeFrom f t n (h / 2) (below k h) (word t (cellAt (below k h))))
 
--- a name by its chain; links fall, so that the head bounds the steps
-unfoldable pub chased : List ℕ → Name → Found
-chased t n = chase (word t (headAt (hash n))) t n (word t (headAt (hash n)))
+-- the same from the head of its hash: no path is longer than there are names
+unfoldable pub placeOf : List ℕ → Name → Place
+placeOf t n = placeFrom 17409 t n (hash n / 4096) (hash n % 4096) (word t (cellAt (hash n % 4096)))
 
--- a name in a table with an index: by its chain, or one by one where not all names have rows
+-- what was found, among d names
+unfoldable pub foundIn : ℕ → Place → Found
+foundIn d (pl.Taken k) = At k
+foundIn d (pl.Free i) = Missing d
+foundIn d pl.Lost = Missing d
+
+-- a name in a table with an index: by its tree, or one by one where not all names have rows
 unfoldable pub seek : List ℕ → Name → Found
-seek t n = cond (ltb rowsMost (word t 0)) (lookup (table (drop textsFrom t)) n 0) (chased t n)
+seek t n = cond (ltb rowsMost (word t 0)) (lookup (table (drop textsFrom t)) n 0) (foundIn (word t 0) (placeOf t n))
 
 -- the number in an answer
 unfoldable pub numberIn : Found → ℕ
 numberIn (At k) = k
 numberIn (Missing k) = k
 
+-- the numbers in a place are small, whatever the table's bytes
+unfoldable pub Near : Place → Type 0
+Near (pl.Taken k) = k < 65536
+Near (pl.Free i) = i < 200000
+Near pl.Lost = Unit {0}
+
+-- whether a name was not found
 unfoldable pub isMissing : Found → Bool
 isMissing (At k) = false
 isMissing (Missing k) = true
 
+-- whether a name has a cell that would be its own
+unfoldable pub isFree : Place → Bool
+isFree (pl.Taken k) = false
+isFree (pl.Free i) = true
+isFree pl.Lost = false
+
+-- whether the number of one name more and its spot fit
+unfoldable pub spare : List ℕ → Bool
+spare t = ltb (word t 0) rowsMost && (leb textsFrom (length t) && ltb (length t) (textsFrom + 65536))
+
+-- the cell for a name that comes next
+unfoldable pub cellFor : List ℕ → Name → Place
+cellFor t n = cond (spare t) (placeOf t n) pl.Lost
+
 -- whether a name can have a row: it is new, and its number and its spot fit
 unfoldable pub hasRow : List ℕ → Name → Bool
-hasRow t n = ltb (word t 0) rowsMost && (leb textsFrom (length t) && (ltb (length t) (textsFrom + 65536) && isMissing (seek t n)))
+hasRow t n = isFree (cellFor t n)
 
--- the row of the number c in the chain whose head stands at h
+-- the row of the number c, whose cell is i
 unfoldable pub linked : ℕ → ℕ → List ℕ → List ℕ
-linked c h t = putWord (putWord (putWord (putWord t (rowAt c) (word t h)) (rowAt c + 2) (length t - textsFrom)) h (c + 1)) 0 (c + 1)
+linked c i t = putWord (putWord (putWord t (spotAt c) (length t - textsFrom)) (cellAt i) (c + 1)) 0 (c + 1)
+
+-- without rows for all
+unfoldable pub unindexed : List ℕ → List ℕ
+unindexed t = putWord t 0 (rowsMost + 1)
+
+-- a row more where there is a cell for it
+unfoldable pub linkedAt : Place → List ℕ → List ℕ
+linkedAt (pl.Taken k) t = unindexed t
+linkedAt (pl.Free i) t = linked (word t 0) i t
+linkedAt pl.Lost t = unindexed t
 
 -- the index with a row for a name that comes next; without rows for all from then on, where it can have none
 unfoldable pub noted : Name → List ℕ → List ℕ
-noted n t = cond (hasRow t n) (linked (word t 0) (headAt (hash n)) t) (putWord t 0 (rowsMost + 1))
+noted n t = linkedAt (cellFor t n) t
 
 -- a name more
 unfoldable pub enter : Name → List ℕ → List ℕ

@@ -2,6 +2,7 @@
 use crate::intern::put_entry;
 use crate::intern::start;
 use crate::record::Pack;
+use crate::table::ROOM;
 use crate::table::has_index;
 use wire::answer::Read;
 use wire::answer::Skipped;
@@ -190,7 +191,7 @@ fn many_names(s: &[u8], q: usize, count: usize) -> Skipped
     requires { ⌜ length (now s) ≤ 65536 ⌝ }
     ensures { λ r. ⌜ r ≡ skip (namesAfter (now (s .entry)) [] count q) ⌝ }
 {
-    let mut t = [0u8; 143362];
+    let mut t = [0u8; ROOM];
     read_names(s, q, count, &mut t)
 }
 

@@ -1,22 +1,33 @@
-// A table of names behind an index of heads and links (specs/Table), so that a name is found without looking at all others. All is
-// total: a byte past the end is 0, and a store there does nothing.
+// A table of names behind an index of trees (specs/Table), so that a name is found without looking at all others. All is total: a
+// byte past the end is 0, and a store there does nothing.
 use crate::intern::Found;
 use crate::intern::find_name;
 use crate::intern::same;
 use wire::writer::capped;
 ghost use mathlib.Core.Path.{_≡_};
-ghost use Prim.Native.Nat.{_+_, _-_, _≤_, _<_};
+ghost use Prim.Native.Nat.{_+_, _*_, _-_, _/_, _≤_, _<_, _^_};
 ghost use lib.ListN.{length, getD, set};
 ghost use Rattle.pack.specs.Names.{eqName};
 ghost use Rattle.pack.specs.Intern.{foundOf};
-ghost use Rattle.pack.specs.Table.{word as wordIn, putWord, hash as hashOf, textAt, chase as chaseFrom, chased, seek, numberIn, hasRow, indexed, linked, noted};
+ghost use Rattle.pack.specs.Table.{word as wordIn, putWord, fold as folded, hash as hashOf, quadAt, textAt, placeFrom, placeOf, Near, cellAt, seek, numberIn, spare as spareIn, cellFor, indexed, linked, unindexed, noted};
 
 // How many names have rows.
 const ROWS: usize = 17408;
+// How many heads there are.
+const HEADS: usize = 4096;
+// Where the spots begin.
+const SPOTS: usize = 77826;
 // Where the names begin.
-pub const TEXTS: usize = 77826;
+pub const TEXTS: usize = 112642;
 // What a table of any pack's names takes.
-pub const ROOM: usize = 143362;
+pub const ROOM: usize = 178178;
+
+// Where a name is: it has the number, the cell would be its own, or neither.
+pub enum Place {
+    Taken(usize),
+    Free(usize),
+    Lost,
+}
 
 // A byte of t.
 fn byte_at(t: &[u8], i: usize) -> usize
@@ -52,17 +63,42 @@ fn put_word(t: &mut [u8], i: usize, v: usize)
     set_byte(t, i + 1, (v / 256 % 256) as u8);
 }
 
-// Which head a name has.
-fn hash(n: &[u8]) -> usize
-    ensures { λ r. ⌜ (r ≡ hashOf (now (n .entry))) × (r < 4096) ⌝ }
+// The high half of a product added to its low one.
+fn fold(x: usize) -> usize
+    requires { ⌜ x + x / 4294967296 < 2 ^ 64 ⌝ }
+    ensures { λ r. ⌜ (r ≡ folded x) × (r < 4294967296) ⌝ }
 {
-    let mut h = 0;
+    (x + x / 4294967296) % 4294967296
+}
+
+// Four bytes of a name as one number; those past its end are 0.
+fn quad(n: &[u8], i: usize) -> usize
+    requires { ⌜ i < length (now n) ⌝ }
+    ensures { λ r. ⌜ (r ≡ quadAt (now (n .entry)) i) × (r < 4294967296) ⌝ }
+{
+    if i + 3 < n.len() {
+        return n[i] as usize
+            + 256 * n[i + 1] as usize
+            + 65536 * n[i + 2] as usize
+            + 16777216 * n[i + 3] as usize;
+    }
+    byte_at(n, i) + 256 * byte_at(n, i + 1) + 65536 * byte_at(n, i + 2)
+}
+
+// The bits by which a name goes down its tree.
+fn hash(n: &[u8]) -> usize
+    ensures { λ r. ⌜ r ≡ hashOf (now (n .entry)) ⌝ }
+{
+    let mut a = 0;
+    let mut b = 0;
     let mut i = 0;
     while i < n.len() {
-        h = (h * 31 + n[i] as usize) % 4096;
-        i += 1;
+        let c = fold((b + quad(n, i) + 1) * 1540483477);
+        b = (a + c) % 4294967296;
+        a = c;
+        i += 4;
     }
-    h
+    a + 4294967296 * b
 }
 
 // Whether the name whose length byte stands at p is n.
@@ -76,46 +112,54 @@ fn is_text(t: &[u8], p: usize, n: &[u8]) -> bool
     same(&t[b..e], n)
 }
 
-// A name in a chain, from a link on.
-fn chase(t: &[u8], n: &[u8], head: usize) -> Found
-    requires { ⌜ head < 65536 ⌝ }
-    ensures { λ r. ⌜ (foundOf r ≡ chaseFrom head (now (t .entry)) (now (n .entry)) head) × (numberIn (foundOf r) < 65536) ⌝ }
+// Where a name is from a cell on.
+fn descend(t: &[u8], n: &[u8], bits: usize, cell: usize) -> Place
+    requires { ⌜ cell < 200000 ⌝ }
+    ensures { λ r. ⌜ (r ≡ placeFrom 17409 (now (t .entry)) (now (n .entry)) bits cell (wordIn (now (t .entry)) (cellAt cell))) × Near r ⌝ }
 {
-    let mut f = head;
-    let mut l = head;
+    let mut f = ROWS + 1;
+    let mut h = bits;
+    let mut i = cell;
     while 0 < f {
-        if l == 0 {
-            return Found::Missing(word(t, 0));
+        let w = word(t, 2 + 2 * i);
+        if w == 0 {
+            return Place::Free(i);
         }
-        let k = l - 1;
-        let p = word(t, 8194 + 4 * k + 2);
+        let k = w - 1;
+        let p = word(t, SPOTS + 2 * k);
         if is_text(t, TEXTS + p, n) {
-            return Found::At(k);
+            return Place::Taken(k);
         }
-        l = word(t, 8194 + 4 * k);
+        i = HEADS + 2 * k + h % 2;
+        h = h / 2;
         f = f - 1;
     }
-    Found::Missing(word(t, 0))
+    Place::Lost
 }
 
-// A name by its chain.
-fn chase_head(t: &[u8], n: &[u8]) -> Found
-    ensures { λ r. ⌜ (foundOf r ≡ chased (now (t .entry)) (now (n .entry))) × (numberIn (foundOf r) < 65536) ⌝ }
+// Where a name is from the head of its hash on.
+fn place_of(t: &[u8], n: &[u8]) -> Place
+    ensures { λ r. ⌜ (r ≡ placeOf (now (t .entry)) (now (n .entry))) × Near r ⌝ }
 {
     let h = hash(n);
-    let head = word(t, 2 + 2 * h);
-    chase(t, n, head)
+    descend(t, n, h / HEADS, h % HEADS)
 }
 
 // The place of the name n in a table with an index.
 pub fn seek_name(t: &[u8], n: &[u8]) -> Found
     ensures { λ r. ⌜ (foundOf r ≡ seek (now (t .entry)) (now (n .entry))) × (numberIn (foundOf r) ≤ 65535 + (length (now (t .entry)) - 65535)) ⌝ }
 {
-    if ROWS < word(t, 0) {
+    let c = word(t, 0);
+    if ROWS < c {
         let b = capped(t.len(), 0, TEXTS);
         return find_name(&t[b..], n);
     }
-    chase_head(t, n)
+    let p = place_of(t, n);
+    match p {
+        Place::Taken(k) => Found::At(k),
+        Place::Free(_) => Found::Missing(c),
+        Place::Lost => Found::Missing(c),
+    }
 }
 
 // Whether t has room for a table of any pack's names, and all names that were entered have rows.
@@ -128,9 +172,9 @@ pub fn has_index(t: &[u8]) -> bool
     word(t, 0) <= ROWS
 }
 
-// Whether n can have a row.
-fn has_row(t: &[u8], n: &[u8]) -> bool
-    ensures { λ r. ⌜ r ≡ hasRow (now (t .entry)) (now (n .entry)) ⌝ }
+// Whether the number of one name more and its spot fit.
+fn spare(t: &[u8]) -> bool
+    ensures { λ r. ⌜ r ≡ spareIn (now (t .entry)) ⌝ }
 {
     if ROWS <= word(t, 0) {
         return false;
@@ -138,38 +182,47 @@ fn has_row(t: &[u8], n: &[u8]) -> bool
     if t.len() < TEXTS {
         return false;
     }
-    if ROOM <= t.len() {
-        return false;
-    }
-    let f = seek_name(t, n);
-    match f {
-        Found::At(_) => false,
-        Found::Missing(_) => true,
+    t.len() < ROOM
+}
+
+// The cell for the name n, which comes next.
+fn cell_for(t: &[u8], n: &[u8]) -> Place
+    ensures { λ r. ⌜ (r ≡ cellFor (now (t .entry)) (now (n .entry))) × Near r ⌝ }
+{
+    if spare(t) {
+        place_of(t, n)
+    } else {
+        Place::Lost
     }
 }
 
-// The row of the number c in the chain whose head stands at h.
-fn link(t: &mut [u8], c: usize, h: usize)
-    requires { ⌜ (c < 65536) × (h < 1000000) × (77826 ≤ length (now t)) ⌝ }
-    ensures { λ _. ⌜ now (t .exit) ≡ linked c h (now (t .entry)) ⌝ }
+// The next row, whose cell is i.
+fn link(t: &mut [u8], i: usize)
+    requires { ⌜ (i < 200000) × (112642 ≤ length (now t)) ⌝ }
+    ensures { λ _. ⌜ now (t .exit) ≡ linked (wordIn (now (t .entry)) 0) i (now (t .entry)) ⌝ }
 {
-    let l = word(t, h);
+    let c = word(t, 0);
     let p = t.len() - TEXTS;
-    put_word(t, 8194 + 4 * c, l);
-    put_word(t, 8194 + 4 * c + 2, p);
-    put_word(t, h, c + 1);
+    put_word(t, SPOTS + 2 * c, p);
+    put_word(t, 2 + 2 * i, c + 1);
     put_word(t, 0, c + 1);
+}
+
+// Without rows for all from then on.
+fn unindex(t: &mut [u8])
+    ensures { λ _. ⌜ now (t .exit) ≡ unindexed (now (t .entry)) ⌝ }
+{
+    put_word(t, 0, ROWS + 1);
 }
 
 // A row for the name n, which comes next; without rows for all from then on, where it can have none.
 pub fn note(t: &mut [u8], n: &[u8])
     ensures { λ _. ⌜ now (t .exit) ≡ noted (now (n .entry)) (now (t .entry)) ⌝ }
 {
-    if has_row(t, n) {
-        let c = word(t, 0);
-        let h = hash(n);
-        link(t, c, 2 + 2 * h);
-    } else {
-        put_word(t, 0, ROWS + 1);
+    let p = cell_for(t, n);
+    match p {
+        Place::Taken(_) => unindex(t),
+        Place::Free(i) => link(t, i),
+        Place::Lost => unindex(t),
     }
 }

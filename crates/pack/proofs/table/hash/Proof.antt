@@ -1,45 +1,56 @@
-use Prim.Native.Nat.{_<_, _≤_, _-_}
+use Prim.Native.Nat.{_<_, _≤_, _+_, _-_, _/_}
 use native.Mathlib.Omega.{arith}
-use mathlib.Core.Path.{_≡_, _∙_, refl, sym}
-use lib.ListN.{length, drop}
+use mathlib.Core.Path.{_≡_, _∙_, sym}
+use lib.ListN.{length}
 use Rattle.pack.specs.Table.{hash, hashFrom}
-use Rattle.pack.proofs.TableLaws.{hash-turn, hash-done}
+use Rattle.pack.proofs.TableLaws.{hash-begun, hash-turn, hash-done}
 use Rattle.pack.proofs.table.hash.Statement.{statement}
 use Rattle.pack.proofs.table.hash.Tie as tie
 
 abbrev Inv-loop : tie.InvT-loop
-Inv-loop n h₀ i₀ h i = (i ≤ length n) × (h < 4096) × (hashFrom h (drop i n) ≡ hash n)
+Inv-loop n a₀ b₀ i₀ a b i = (i ≤ length n + 3) × (a < 4294967296) × (b < 4294967296) × (hashFrom ((length n + 3 - i) / 4) a b n i ≡ hash n)
 
 abbrev μ-loop : tie.MeasureT-loop
-μ-loop n h₀ i₀ h i = length n - i
+μ-loop n a₀ b₀ i₀ a b i = length n + 3 - i
 
 loop-holds : tie.Need-loop-holds Inv-loop μ-loop
-unfolding hash
-loop-holds c = (omega arith, omega arith, refl)
+loop-holds c = (omega arith, omega arith, omega arith, hash-begun _)
 
-mul-h : tie.Need-mul-h Inv-loop μ-loop
-mul-h c = omega arith
+quad-requires : tie.Need-quad-requires Inv-loop μ-loop
+quad-requires c κs = c .loop-test .taken
 
-shared-slice-read-h : tie.Need-shared-slice-read-h Inv-loop μ-loop
-shared-slice-read-h c = omega arith
+add-fold : tie.Need-add-fold Inv-loop μ-loop
+add-fold c = omega (arith, c .quad .ensures .1)
 
-cast-h : tie.Need-cast-h Inv-loop μ-loop
-cast-h c = omega (arith, c .shared-slice-known .given (c .before .before .loop .i))
+add-fold-2 : tie.Need-add-fold-2 Inv-loop μ-loop
+add-fold-2 c = omega (arith, c .quad .ensures .1)
 
-add-h : tie.Need-add-h Inv-loop μ-loop
-add-h c = omega (arith, c .shared-slice-known .given (c .before .before .loop .i))
+mul-fold : tie.Need-mul-fold Inv-loop μ-loop
+mul-fold c = omega (arith, c .quad .ensures .1)
+
+fold-requires : tie.Need-fold-requires Inv-loop μ-loop
+fold-requires c κs = omega (arith, c .quad .ensures .1)
+
+add-b : tie.Need-add-b Inv-loop μ-loop
+add-b c = omega (arith, c .fold .ensures .1)
 
 add-i : tie.Need-add-i Inv-loop μ-loop
-add-i c = omega arith
+add-i c = omega (arith, c .before .before .before .before .before .good .0 .1)
 
 loop-less : tie.Need-loop-less Inv-loop μ-loop
 loop-less c = omega arith
 
 loop-again : tie.Need-loop-again Inv-loop μ-loop
-loop-again c = (omega arith, omega arith, hash-turn (c .before .before .before .args .n .now) (c .before .before .loop .h) (c .before .before .loop .i) (c .before .loop-test .taken) ∙ c .before .before .loop .inv .2)
+loop-again c = (omega arith, c .fold .ensures .1, omega arith, hash-turn (c .before .before .before .before .before .args .n .now) (c .before .before .before .loop .a) (c .before .before .before .loop .b) _ (c .before .before .before .loop .i) _ (c .before .before .loop-test .taken) (c .before .quad .ensures .0) (c .fold .ensures .0) ∙ c .before .before .before .loop .inv .3)
+
+mul-result : tie.Need-mul-result Inv-loop μ-loop
+mul-result c = omega arith
+
+add-result : tie.Need-add-result Inv-loop μ-loop
+add-result c = omega arith
 
 returns : tie.Need-returns Inv-loop μ-loop
-returns c = (sym (hash-done (c .before .before .args .n .now) _ _ (c .loop-test .left)) ∙ c .before .loop .inv .2, c .before .loop .inv .1)
+returns c = sym (hash-done (c .before .before .before .args .n .now) _ _ _ (c .loop-test .left)) ∙ c .before .loop .inv .3
 
 pub hash-spec : {M : Type 1} → statement M
 hash-spec =
@@ -48,11 +59,15 @@ hash-spec =
     Inv-loop
     μ-loop
     loop-holds
-    mul-h
-    shared-slice-read-h
-    cast-h
-    add-h
+    quad-requires
+    add-fold
+    add-fold-2
+    mul-fold
+    fold-requires
+    add-b
     add-i
     loop-less
     loop-again
+    mul-result
+    add-result
     returns)

@@ -40,23 +40,17 @@ add-put-word-4 c = search needs
 put-word-requires-3 : tie.Need-put-word-requires-3
 put-word-requires-3 c κs = search needs
 
-add-put-word-5 : tie.Need-add-put-word-5
-add-put-word-5 c = search needs
-
-put-word-requires-4 : tie.Need-put-word-requires-4
-put-word-requires-4 c κs = search needs
-
 same-length : tie.Need-same-length
 same-length c = search needs
 
 returns : tie.Need-returns
 returns c =
-    let a = c .before .before .before .before .before .before .before .before .before .before .before .before .before .before .before .before .before .before .before .args in
-    c .before .before .put-word4 .ensures
-    ∙ ap (λ l. putWord l 0 (a .c + 1)) (c .before .before .before .before .before .before .put-word3 .ensures
-    ∙ ap (λ l. putWord l (a .h) (a .c + 1)) (c .before .before .before .before .before .before .before .before .before .before .put-word2 .ensures
-    ∙ ap (λ l. putWord l (8194 + 4 * a .c + 2) (length (a .t .now) - 77826)) (c .before .before .before .before .before .before .before .before .before .before .before .before .before .before .put-word .ensures)))
-    ∙ linked-steps (a .t .now) (a .c) (a .h) (c .before .before .before .before .before .before .before .before .before .before .before .before .before .before .before .before .word .result) (length (a .t .now) - 77826) (c .before .before .before .before .before .before .before .before .before .before .before .before .before .before .before .before .word .ensures .0) refl
+    let a = c .before .before .before .before .before .before .before .before .before .before .before .before .before .before .before .args in
+    let w = c .before .before .before .before .before .before .before .before .before .before .before .before .word .result in
+    c .before .before .put-word3 .ensures
+    ∙ ap (λ l. putWord l 0 (w + 1)) (c .before .before .before .before .before .before .put-word2 .ensures
+    ∙ ap (λ l. putWord l (2 + 2 * a .i) (w + 1)) (c .before .before .before .before .before .before .before .before .before .before .put-word .ensures))
+    ∙ linked-steps (a .t .now) w (a .i) (length (a .t .now) - 112642) (c .before .before .before .before .before .before .before .before .before .before .before .before .word .ensures .0) refl
 
 pub link-spec : {M : Type 1} → statement M
 link-spec =
@@ -73,7 +67,5 @@ link-spec =
     put-word-requires-2
     add-put-word-4
     put-word-requires-3
-    add-put-word-5
-    put-word-requires-4
     same-length
     returns)

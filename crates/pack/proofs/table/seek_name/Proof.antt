@@ -1,9 +1,8 @@
 use native.Mathlib.Omega.{arith}
-use mathlib.Core.Path.{_≡_, _∙_, sym, subst}
-use lib.ListN.{length, length-take, length-drop}
-use Rattle.pack.specs.Table.{numberIn}
-use Rattle.pack.proofs.Interns.{found-number}
-use Rattle.pack.proofs.TableLaws.{seek-plain, seek-chased, found-less}
+use mathlib.Core.Path.{_∙_, subst, sym}
+use Rattle.pack.specs.Intern.{foundOf}
+use Rattle.pack.specs.Table.{Near, foundIn, numberIn}
+use Rattle.pack.proofs.TableLaws.{found-less, seek-found, seek-plain}
 use borrow.Author.Needs.{needs}
 use Rattle.pack.proofs.table.seek_name.Statement.{statement}
 use Rattle.pack.proofs.table.seek_name.Tie as tie
@@ -35,15 +34,29 @@ returns c =
       found-less (a .t .now) (a .n .now) (c .before .before .capped .result) _ (c .find-name .ensures),
     )
 
-chase-head-requires : tie.Need-chase-head-requires
-chase-head-requires c κs = search needs
+place-of-requires : tie.Need-place-of-requires
+place-of-requires c κs = search needs
+
+enum-known-p : tie.Need-enum-known-p
+enum-known-p c = search needs
+
+enum-told : tie.Need-enum-told
+enum-told c = search needs
+
+enum-told-2 : tie.Need-enum-told-2
+enum-told-2 c = search needs
 
 returns-2 : tie.Need-returns-2
-returns-2 c =
-    let a = c .before .before .before .before .before .args in
-    let w = c .before .before .word .ensures .0 in
-    let g = c .before .if1 .left in
-    (c .chase-head .ensures .0 ∙ seek-chased (a .t .now) (a .n .now) (omega arith), omega (arith, c .chase-head .ensures .1))
+unfolding foundOf foundIn numberIn Near
+returns-2 c = (seek-found _ _ _ _ (c .before .before .before .before .if1 .left) (c .before .before .before .before .before .word .ensures .0) (sym (c .before .p .given .1) ∙ c .before .before .before .place-of .ensures .0), omega (arith, subst Near (c .before .p .given .1) (c .before .before .before .place-of .ensures .1)))
+
+returns-3 : tie.Need-returns-3
+unfolding foundOf foundIn numberIn
+returns-3 c = (seek-found _ _ _ _ (c .before .before .before .if1 .left) (c .before .before .before .before .word .ensures .0) (sym (c .enum-told .given .1) ∙ c .before .before .place-of .ensures .0), omega (arith, c .before .before .before .if1 .left))
+
+returns-4 : tie.Need-returns-4
+unfolding foundOf foundIn numberIn
+returns-4 c = (seek-found _ _ _ _ (c .before .before .before .if1 .left) (c .before .before .before .before .word .ensures .0) (sym (c .enum-told2 .given .1) ∙ c .before .before .place-of .ensures .0), omega (arith, c .before .before .before .if1 .left))
 
 pub seek-name-spec : {M : Type 1} → statement M
 seek-name-spec =
@@ -56,5 +69,10 @@ seek-name-spec =
     part-find-name-end
     find-name-requires
     returns
-    chase-head-requires
-    returns-2)
+    place-of-requires
+    enum-known-p
+    enum-told
+    enum-told-2
+    returns-2
+    returns-3
+    returns-4)

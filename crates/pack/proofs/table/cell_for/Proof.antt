@@ -1,0 +1,22 @@
+use mathlib.Core.Path.{_∙_, sym}
+use Rattle.pack.specs.Table.{Near}
+use Rattle.pack.proofs.TableLaws.{cell-none, cell-spare}
+use borrow.Author.Needs.{needs}
+use Rattle.pack.proofs.table.cell_for.Statement.{statement}
+use Rattle.pack.proofs.table.cell_for.Tie as tie
+
+spare-requires : tie.Need-spare-requires
+spare-requires c κs = search needs
+
+place-of-requires : tie.Need-place-of-requires
+place-of-requires c κs = search needs
+
+returns : tie.Need-returns
+returns c = (c .place-of .ensures .0 ∙ cell-spare _ _ (sym (c .before .before .spare .ensures) ∙ c .before .if1 .taken), c .place-of .ensures .1)
+
+returns-2 : tie.Need-returns-2
+unfolding Near
+returns-2 c = (cell-none _ _ (sym (c .before .spare .ensures) ∙ c .if1 .left), tt)
+
+pub cell-for-spec : {M : Type 1} → statement M
+cell-for-spec = tie.close (tie.spec spare-requires place-of-requires returns returns-2)
