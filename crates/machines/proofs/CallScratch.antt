@@ -4,7 +4,7 @@ use native.Mathlib.Omega.{arith}
 use mathlib.Core.List.{List}
 use mathlib.Core.Path.{_≡_, refl}
 use lib.ListN.{length, getD, length-replicate, replicate}
-use Rattle.machines.specs.Ends.{EndsRight}
+use Rattle.machines.specs.Ends.{Blank}
 use Rattle.machines.specs.Relaid.{Long}
 use Rattle.machines.specs.Filled.{Empty}
 
@@ -24,6 +24,6 @@ scratch-empty =
     let a = length-replicate {A = ℕ} 32768 0 in let b = length-replicate {A = ℕ} 5958 0 in let c = length-replicate {A = ℕ} 4682 0 in
     record { forNames = omega arith; forMachines = omega arith; noMachine = zeros 32768; forNodes = omega arith; forPlaces = omega arith; forGoals = omega arith; forRegions = omega arith }
 
--- a table of zeros says no end
-pub scratch-ends : (s : List ℕ) (names : ℕ) → EndsRight s names (replicate 65536 0)
-scratch-ends s names = record { right = λ ns e p h. absurd (omega (arith, zeros 65536 p)) }
+-- a table of zeros keeps nothing
+pub scratch-ends : Blank (replicate 52432 0)
+scratch-ends = zeros 52432

@@ -8,16 +8,13 @@ use mathlib.Core.Path.{_≡_, refl, sym, ap, _∙_}
 use lib.ListN.{length, getD, set}
 use lib.Dec.{eqb}
 use borrow.Author.Tests.{eq-eqb, ne-eqb}
-use Rattle.wire.specs.Answer.{counted}
 use Rattle.pack.specs.Limits.{absent, maxLevel}
 use Rattle.pack.specs.Names.{Name}
-use Rattle.pack.specs.Read.{equationsIn, transitionIn}
 use Rattle.machines.specs.declared.lay.Entered.{Entered}
 use Rattle.machines.specs.declared.lay.Lay.{Lay}
 use Rattle.machines.specs.declared.opening.Opening.{Opening}
 use Rattle.machines.specs.declared.sure.Num.{Num}
 use Rattle.machines.specs.Laid.{holed}
-use Rattle.machines.specs.Stands.{endOf}
 use Rattle.machines.specs.Sure.{byteIn, numberIn}
 use Rattle.machines.specs.Lays.{Board, board, closeRegion, closeState, entered, enteredOf, fed, inner, lay, layMachine, layRegion, layState, lettersOf, machineAs, movedTo, movesAt, nameNumber, openRegion, openState, opening, passed, refineB, regionB, regionFrom, regionWords, regionsAt, spellLen, spelt, stateEnds, stateWords, sum, tally, times}
 use Rattle.machines.proofs.SureLaws.{no, on, yes}
@@ -99,22 +96,16 @@ unfolding openRegion
 open-region t u reg v lets st up a m h c w i g e f x y z = λ j. board (e j) (f j) lets (lay (h .next) (x j) (y j) (c .letters) (z j))
 
 module _ (ns : List Name) (s spots : List ℕ) where
-  pub open-state : (t u reg lets v : List ℕ) (a m : ℕ) (c : Lay) (i n : Num) (w l p q x y : ℕ)
+  pub open-state : (t u reg lets v : List ℕ) (a m : ℕ) (c : Lay) (i n : Num) (w l p x y : ℕ)
       → i ≡ numberIn s (c .next) → w ≡ spellLen s spots (i .value) lets a m (c .letters) → v ≡ spelt s spots (i .value) lets a m (c .letters)
-      → l ≡ sum (c .letters) 1 → p ≡ endOf (equationsIn ns s (i .next)) → u ≡ stateWords t (c .words) (c .next) p l w
-      → q ≡ endOf (counted (transitionIn ns s) s p) → n ≡ numberIn s q → x ≡ sum (c .words) 6 → y ≡ sum l w
+      → l ≡ sum (c .letters) 1 → p ≡ movesAt ns s (c .next) → u ≡ stateWords t (c .words) (c .next) p l w
+      → n ≡ regionsAt ns s (c .next) → x ≡ sum (c .words) 6 → y ≡ sum l w
       → (entered (n .next) x y (n .value) l w ≡ enteredOf ns s spots a m (board t reg lets c))
       × (board u reg v (lay (n .next) x (c .regions) y (c .hole)) ≡ openState ns s spots a m (board t reg lets c))
-  unfolding enteredOf openState nameNumber movesAt regionsAt lettersOf
-  open-state t u reg lets v a m c i n w l p q x y ei ew ev el ep eu eq en ex ey =
+  unfolding enteredOf openState nameNumber lettersOf
+  open-state t u reg lets v a m c i n w l p x y ei ew ev el moves eu regions ex ey =
       (λ j. entered (regions j .next) (ex j) (size j) (regions j .value) (el j) (letters j), λ j. board (words j) reg (name j) (lay (regions j .next) (ex j) (c .regions) (size j) (c .hole)))
     where
-      moves : p ≡ movesAt ns s (c .next)
-      moves = ep ∙ ap (λ (z : Num). endOf (equationsIn ns s (z .next))) ei
-
-      regions : n ≡ regionsAt ns s (c .next)
-      regions = en ∙ ap (numberIn s) (eq ∙ ap (λ (z : ℕ). endOf (counted (transitionIn ns s) s z)) moves)
-
       letters : w ≡ spellLen s spots (numberIn s (c .next) .value) lets a m (c .letters)
       letters = ew ∙ ap (λ (z : Num). spellLen s spots (z .value) lets a m (c .letters)) ei
 

@@ -2,6 +2,7 @@ pub mod Reading
 pub mod Standing
 pub mod SureLaws
 pub mod TableLaws
+pub mod KeptLaws
 pub mod EndLaws
 pub mod WalkLaws
 pub mod CoverLaws

@@ -6,9 +6,10 @@ pub mod Paths
 pub mod Walks
 pub mod Same
 pub mod Covers
-pub mod Ends
 pub mod Laid
 pub mod Lays
+pub mod Kept
+pub mod Ends
 pub mod Valid
 pub mod Repeats
 pub mod Marks

@@ -1,7 +1,7 @@
 // The call that lowers a pack's machines: nothing lent is changed before the answer is known.
 use crate::bringing::small;
-use crate::ends::place_ends;
 use crate::judging::judge_all;
+use crate::keeping::keep_machines;
 use crate::owners::place_nodes;
 use crate::owners::refused_count;
 use crate::owners::settle_all;
@@ -31,7 +31,7 @@ ghost use Rattle.pack.specs.Table.{tabled};
 ghost use Rattle.pack.specs.Intern.{render, table, unwritten};
 ghost use Rattle.pack.specs.Outcome.{Gives, answered, outputOf, reportOf, reported, returned};
 ghost use Rattle.pack.specs.Verdict.{Stands};
-ghost use Rattle.machines.specs.Ends.{EndsRight};
+ghost use Rattle.machines.specs.Ends.{Blank, EndsRight, KeptRight};
 ghost use Rattle.machines.specs.Laid.{sliceOf};
 ghost use Rattle.machines.specs.Brought.{totalT};
 ghost use Rattle.machines.specs.Relaid.{AllWrite, Long, enumsAt, equationsAt};
@@ -41,14 +41,14 @@ ghost use Rattle.machines.specs.Reporting.{EntersAll, bytesT, ofRefused}
 ghost use Rattle.machines.specs.Filled.{Answers, Empty, Filled, OpenedAs, Reports, machineCount};
 ghost use Rattle.machine_rules.specs.Call.{lowerMachines, machinesOf};
 
-// Fills the tables: names, machines by name, and for each machine where it is drawn, its regions and its node. How many
+// Fills the tables: names, what is kept of states, machines by name, and for each machine where it is drawn, its regions and its node. How many
 // machines are refused.
 fn fill_tables(
     s: &[u8],
     k: Pack,
     spots: &mut [u16],
     to: &mut [u16],
-    ends: &[u16],
+    ends: &mut [u16],
     t: &mut [usize],
     reg: &mut [usize],
     lets: &mut [u8],
@@ -57,15 +57,17 @@ fn fill_tables(
     ats: &mut [usize],
     regs: &mut [usize],
 ) -> usize
-    requires { ⌜ (length (now s) ≤ 65536) × Long (now t) (now reg) (now lets) × EndsRight (now s) (k .names) (now ends) ⌝ }
+    requires { ⌜ (length (now s) ≤ 65536) × Long (now t) (now reg) (now lets) × Blank (now ends) ⌝ }
     ensures { λ r. ⌜ ((ns : List Name) → length ns ≡ k .names → Filled ns (now (s .entry)) k (now (spots .entry)) (now (to .entry)) (now (nodes .entry)) (now (mats .entry)) (now (ats .entry)) (now (regs .entry)) (now (spots .exit)) (now (to .exit)) (now (nodes .exit)) (now (mats .exit)) (now (ats .exit)) (now (regs .exit))) ⌝ }
     ensures { λ r. ⌜ r ≡ totalT (refusedT (now (ats .exit))) (machineCount (now (s .entry)) k) 0 ⌝ }
+    ensures { λ r. ⌜ KeptRight (now (s .entry)) (k .names) (now (spots .exit)) (now (ends .exit)) ⌝ }
 {
     let c = number(s, k.nodes);
     let m = number(s, k.machines);
     let old = small(c.value);
     let n = small(m.value);
     place_names(s, k.names, spots);
+    keep_machines(s, k.names, spots, k.machines, ends);
     place_machines(s, k.names, k.machines, to);
     place_nodes(s, k.names, old, c.next, nodes);
     judge_all(
@@ -103,7 +105,7 @@ fn report_all(
     refused: usize,
     report: &mut [u8],
 ) -> Outcome
-    requires { ⌜ (length (now s) ≤ 65536) × Long (now t) (now reg) (now lets) × (n ≤ 65536) × Reports (now s) (now spots) (now to) (now mats) (now regs) (now ats) names n × EndsRight (now s) names (now ends) ⌝ }
+    requires { ⌜ (length (now s) ≤ 65536) × Long (now t) (now reg) (now lets) × (n ≤ 65536) × Reports (now s) (now spots) (now to) (now mats) (now regs) (now ats) names n × KeptRight (now s) names (now spots) (now ends) ⌝ }
     ensures { λ r. ⌜ ((ns : List Name) → length ns ≡ names → (es : ℕ → List ℕ) → EntersAll ns (now (s .entry)) (now (spots .entry)) (now (to .entry)) (now (mats .entry)) (now (regs .entry)) (now (ats .entry)) n es → (output : List ℕ) → Answers (reported (length (now (report .entry))) (two refused ++ bytesT (ofRefused (now (ats .entry)) es) n 0)) (r .number) (r .value) output output (now (report .entry)) (now (report .exit))) ⌝ }
 {
     let b = report_len(s, names, spots, to, ends, t, reg, lets, mats, ats, regs, n);
@@ -185,7 +187,7 @@ fn lower_opened(
     k: Pack,
     spots: &mut [u16],
     to: &mut [u16],
-    ends: &[u16],
+    ends: &mut [u16],
     t: &mut [usize],
     reg: &mut [usize],
     lets: &mut [u8],
@@ -196,7 +198,7 @@ fn lower_opened(
     output: &mut [u8],
     report: &mut [u8],
 ) -> Outcome
-    requires { ⌜ (length (now s) ≤ 65536) × Long (now t) (now reg) (now lets) × Empty (now spots) (now to) (now nodes) (now mats) (now ats) (now regs) × OpenedAs (now s) k × EndsRight (now s) (k .names) (now ends) ⌝ }
+    requires { ⌜ (length (now s) ≤ 65536) × Long (now t) (now reg) (now lets) × Empty (now spots) (now to) (now nodes) (now mats) (now ats) (now regs) × OpenedAs (now s) k × Blank (now ends) ⌝ }
     ensures { λ r. ⌜ ((p : Package) → Stands (now (s .entry)) k p → Answers (machinesOf (length (now (output .entry))) (length (now (report .entry))) p) (r .number) (r .value) (now (output .entry)) (now (output .exit)) (now (report .entry)) (now (report .exit))) ⌝ }
 {
     let names = k.names;
@@ -246,7 +248,7 @@ fn lower_whole(s: &[u8], k: Pack, output: &mut [u8], report: &mut [u8]) -> Outco
 {
     let mut spots = [0u16; 32768];
     let mut to = [0u16; 32768];
-    let mut ends = [0u16; 65536];
+    let mut ends = [0u16; 52432];
     let mut t = [0usize; 7698];
     let mut reg = [0usize; 514];
     let mut lets = [0u8; 131072];
@@ -254,13 +256,12 @@ fn lower_whole(s: &[u8], k: Pack, output: &mut [u8], report: &mut [u8]) -> Outco
     let mut mats = [0usize; 4682];
     let mut ats = [0usize; 4682];
     let mut regs = [0usize; 4682];
-    place_ends(s, k.names, k.machines, &mut ends);
     lower_opened(
         s,
         k,
         &mut spots,
         &mut to,
-        &ends,
+        &mut ends,
         &mut t,
         &mut reg,
         &mut lets,

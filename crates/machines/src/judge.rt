@@ -22,7 +22,7 @@ ghost use mathlib.Core.Path.{_≡_};
 ghost use Prim.Native.Nat.{_≤_};
 ghost use lib.ListN.{length};
 ghost use Rattle.pack.specs.Names.{Name};
-ghost use Rattle.machines.specs.Ends.{EndsRight};
+ghost use Rattle.machines.specs.Ends.{EndsRight, KeptRight};
 ghost use Rattle.machines.specs.Lays.{board};
 ghost use Rattle.machines.specs.Judging.{noName, named as namedOf, refusedBy, stateCalled, calledAt, againCalled, outputsJ, outputsAt, checkedJ, laidJ, judgeAt, boardAt};
 
@@ -174,7 +174,7 @@ fn judge_laid(
     if d < letters {
         return refused(5, again_called(lets, d), no_name());
     }
-    let c = check_region(s, names, t, Pack::LEVELS, 0);
+    let c = check_region(s, names, ends, t, Pack::LEVELS, 0);
     judge_checked(s, names, ends, t, c, outputs, regions)
 }
 
@@ -190,19 +190,19 @@ pub fn judge(
     lets: &mut [u8],
     at: usize,
 ) -> Judged
-    requires { ⌜ (length (now s) ≤ 65536) × EndsRight (now s) names (now ends) ⌝ }
+    requires { ⌜ (length (now s) ≤ 65536) × KeptRight (now s) names (now spots) (now ends) ⌝ }
     ensures { λ r. ⌜ ((ns : List Name) → length ns ≡ names → r ≡ judgeAt ns (now (s .entry)) (now (spots .entry)) (now (to .entry)) at (now (t .entry)) (now (reg .entry)) (now (lets .entry))) ⌝ }
     ensures { λ r. ⌜ ((ns : List Name) → length ns ≡ names → now (lets .exit) ≡ boardAt ns (now (s .entry)) (now (spots .entry)) (now (to .entry)) at (now (t .entry)) (now (reg .entry)) (now (lets .entry)) .lets) ⌝ }
 {
     let m = number(s, at);
     let i = to_initial(s, names, m.next);
-    let w = walk_machine(s, names, spots, to, m.value, i);
+    let w = walk_machine(s, names, spots, to, ends, m.value, i);
     match w {
         Walked::Cycle(n) => refused(7, named(n), no_name()),
         Walked::Unknown { state, name } => refused(6, named(state), named(name)),
         Walked::Large => refused(17, no_name(), no_name()),
         Walked::Went(_, _, _) => {
-            let l = lay_machine(s, names, spots, to, t, reg, lets, i);
+            let l = lay_machine(s, names, spots, to, ends, t, reg, lets, i);
             let o = to_outputs(s, names, m.next);
             judge_laid(s, names, ends, t, lets, l.letters, l.regions, o)
         }

@@ -2,12 +2,12 @@
 // the full names of states. What comes after looks at the tables alone, and meets no refinement and no prefix.
 use crate::cells::cell;
 use crate::cover::both;
+use crate::ends::moves_of;
+use crate::ends::regions_of;
 use crate::opening::Opening;
 use crate::opening::machine_as;
 use crate::opening::region_from;
 use crate::spell::spell;
-use crate::sure::after_equations;
-use crate::sure::after_transitions;
 use crate::sure::number;
 use crate::table::put;
 use crate::words::put_region_words;
@@ -20,6 +20,7 @@ ghost use mathlib.Core.Path.{_≡_};
 ghost use Prim.Native.Nat.{ℕ, _≤_};
 ghost use lib.ListN.{length};
 ghost use Rattle.pack.specs.Names.{Name};
+ghost use Rattle.machines.specs.Ends.{EndsRight};
 ghost use Rattle.machines.specs.Laid.{holed};
 ghost use Rattle.machines.specs.Lays.{sum as sumOf, tally as tallyOf, board, closeState, enteredOf, lay as laid, layMachine, layRegion, layState, movedTo, openRegion, openState};
 
@@ -84,21 +85,22 @@ fn open_state(
     s: &[u8],
     names: usize,
     spots: &[u16],
+    ends: &[u16],
     t: &mut [usize],
     lets: &mut [u8],
     a: usize,
     m: usize,
     c: Lay,
 ) -> Entered
-    requires { ⌜ length (now s) ≤ 65536 ⌝ }
+    requires { ⌜ (length (now s) ≤ 65536) × EndsRight (now s) names (now ends) ⌝ }
     ensures { λ r. ⌜ ((ns : List Name) → length ns ≡ names → ((reg : List ℕ) → (r ≡ enteredOf ns (now (s .entry)) (now (spots .entry)) a m (board (now (t .entry)) reg (now (lets .entry)) c)) × (board (now (t .exit)) reg (now (lets .exit)) (laid (r .next) (r .words) (c .regions) (r .letters) (c .hole)) ≡ openState ns (now (s .entry)) (now (spots .entry)) a m (board (now (t .entry)) reg (now (lets .entry)) c)))) ⌝ }
 {
     let i = number(s, c.next);
     let w = spell(s, spots, i.value, a, m, lets, c.letters);
     let l = sum(c.letters, 1);
-    let tr = after_equations(s, names, i.next);
+    let tr = moves_of(s, names, ends, c.next);
     put_state_words(t, c.words, c.next, tr, l, w);
-    let n = number(s, after_transitions(s, names, tr));
+    let n = regions_of(s, names, ends, c.next);
     Entered {
         next: n.next,
         words: sum(c.words, 6),
@@ -153,6 +155,7 @@ fn lay_state(
     names: usize,
     spots: &[u16],
     to: &[u16],
+    ends: &[u16],
     t: &mut [usize],
     reg: &mut [usize],
     lets: &mut [u8],
@@ -162,10 +165,10 @@ fn lay_state(
     m: usize,
     c: Lay,
 ) -> Lay
-    requires { ⌜ length (now s) ≤ 65536 ⌝ }
+    requires { ⌜ (length (now s) ≤ 65536) × EndsRight (now s) names (now ends) ⌝ }
     ensures { λ r. ⌜ ((ns : List Name) → length ns ≡ names → board (now (t .exit)) (now (reg .exit)) (now (lets .exit)) r ≡ layState ns (now (s .entry)) (now (spots .entry)) (now (to .entry)) (layRegion ns (now (s .entry)) (now (spots .entry)) (now (to .entry)) levels) up a m (board (now (t .entry)) (now (reg .entry)) (now (lets .entry)) c)) ⌝ }
 {
-    let b = open_state(s, names, spots, t, lets, a, m, c);
+    let b = open_state(s, names, spots, ends, t, lets, a, m, c);
     let mut n = b.regions;
     let mut k = 0;
     let mut e = Lay {
@@ -182,6 +185,7 @@ fn lay_state(
             names,
             spots,
             to,
+            ends,
             t,
             reg,
             lets,
@@ -207,6 +211,7 @@ fn lay_state(
         names,
         spots,
         to,
+        ends,
         t,
         reg,
         lets,
@@ -228,6 +233,7 @@ fn lay_region(
     names: usize,
     spots: &[u16],
     to: &[u16],
+    ends: &[u16],
     t: &mut [usize],
     reg: &mut [usize],
     lets: &mut [u8],
@@ -239,7 +245,7 @@ fn lay_region(
     h: Opening,
     c: Lay,
 ) -> Lay
-    requires { ⌜ length (now s) ≤ 65536 ⌝ }
+    requires { ⌜ (length (now s) ≤ 65536) × EndsRight (now s) names (now ends) ⌝ }
     ensures { λ r. ⌜ ((ns : List Name) → length ns ≡ names → board (now (t .exit)) (now (reg .exit)) (now (lets .exit)) r ≡ layRegion ns (now (s .entry)) (now (spots .entry)) (now (to .entry)) levels st up a m h (board (now (t .entry)) (now (reg .entry)) (now (lets .entry)) c)) ⌝ }
 {
     if levels == 0 {
@@ -256,6 +262,7 @@ fn lay_region(
             names,
             spots,
             to,
+            ends,
             t,
             reg,
             lets,
@@ -277,12 +284,13 @@ pub fn lay_machine(
     names: usize,
     spots: &[u16],
     to: &[u16],
+    ends: &[u16],
     t: &mut [usize],
     reg: &mut [usize],
     lets: &mut [u8],
     at: usize,
 ) -> Lay
-    requires { ⌜ length (now s) ≤ 65536 ⌝ }
+    requires { ⌜ (length (now s) ≤ 65536) × EndsRight (now s) names (now ends) ⌝ }
     ensures { λ r. ⌜ ((ns : List Name) → length ns ≡ names → board (now (t .exit)) (now (reg .exit)) (now (lets .exit)) r ≡ layMachine ns (now (s .entry)) (now (spots .entry)) (now (to .entry)) at (now (t .entry)) (now (reg .entry)) (now (lets .entry))) ⌝ }
 {
     let c = Lay {
@@ -298,6 +306,7 @@ pub fn lay_machine(
         names,
         spots,
         to,
+        ends,
         t,
         reg,
         lets,

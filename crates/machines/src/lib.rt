@@ -3,9 +3,11 @@ pub mod cells; // tables of 16-bit words
 pub mod sure; // total readers on a checked pack
 pub mod table; // names and machines by name index
 pub mod path; // the machines on the way from the top
+pub mod kept; // what is kept of equations, guards and states
+pub mod ends; // where equations, guards and heads end
 pub mod heads; // what resolving needs of a state
 pub mod walk; // resolving, which counts states and makes no tree
-pub mod ends; // where equations end
+pub mod keeping; // what is kept, filled
 pub mod cover; // whether a resolved machine's states give an output
 pub mod spell; // full names of states, as letters
 pub mod opening; // a region before its states

@@ -45,7 +45,7 @@ fn put_equations(
 {
     let m = number(s, at);
     let i = to_initial(s, names, m.next);
-    let l = lay_machine(s, names, spots, to, t, reg, lets, i);
+    let l = lay_machine(s, names, spots, to, ends, t, reg, lets, i);
     let o = to_outputs(s, names, m.next);
     let v = put_regions_equations(old, s, names, spots, t, reg, lets, l.regions, out, made, w);
     put_outputs(old, s, names, ends, t, lets, o, out, made, v)
@@ -58,6 +58,7 @@ fn put_machine_enums(
     names: usize,
     spots: &[u16],
     to: &[u16],
+    ends: &[u16],
     t: &mut [usize],
     reg: &mut [usize],
     lets: &mut [u8],
@@ -66,12 +67,12 @@ fn put_machine_enums(
     made: &mut [u8],
     w: Writer,
 ) -> Writer
-    requires { ⌜ length (now s) ≤ 65536 ⌝ }
+    requires { ⌜ (length (now s) ≤ 65536) × EndsRight (now s) names (now ends) ⌝ }
     ensures { λ r. ⌜ ((ns : List Name) → length ns ≡ names → stateOf (now (out .exit)) (now (made .exit)) r ≡ render (now (old .entry)) (enumsAt ns (now (s .entry)) (now (spots .entry)) (now (to .entry)) at (now (t .entry)) (now (reg .entry)) (now (lets .entry))) (stateOf (now (out .entry)) (now (made .entry)) w)) ⌝ }
 {
     let m = number(s, at);
     let i = to_initial(s, names, m.next);
-    let l = lay_machine(s, names, spots, to, t, reg, lets, i);
+    let l = lay_machine(s, names, spots, to, ends, t, reg, lets, i);
     let n = pack_name(s, spots, m.value);
     put_enums(old, n, t, reg, lets, l.regions, out, made, w)
 }
@@ -177,6 +178,7 @@ pub fn put_all_enums(
     names: usize,
     spots: &[u16],
     to: &[u16],
+    ends: &[u16],
     t: &mut [usize],
     reg: &mut [usize],
     lets: &mut [u8],
@@ -186,7 +188,7 @@ pub fn put_all_enums(
     made: &mut [u8],
     w: Writer,
 ) -> Writer
-    requires { ⌜ (length (now s) ≤ 65536) × Long (now t) (now reg) (now lets) ⌝ }
+    requires { ⌜ (length (now s) ≤ 65536) × Long (now t) (now reg) (now lets) × EndsRight (now s) names (now ends) ⌝ }
     ensures { λ r. ⌜ ((ns : List Name) → length ns ≡ names → (ens : ℕ → List Item) → AllWrite (now (old .entry)) (enumsAt ns (now (s .entry)) (now (spots .entry)) (now (to .entry))) (now (mats .entry)) n ens → stateOf (now (out .exit)) (now (made .exit)) r ≡ render (now (old .entry)) (eachT ens n 0) (stateOf (now (out .entry)) (now (made .entry)) w)) ⌝ }
 {
     let mut v = w;
@@ -194,7 +196,21 @@ pub fn put_all_enums(
     let mut c = n;
     while 0 < c {
         let m = entry(mats, i);
-        v = put_machine_enums(old, s, names, spots, to, t, reg, lets, m, out, made, v);
+        v = put_machine_enums(
+            old,
+            s,
+            names,
+            spots,
+            to,
+            ends,
+            t,
+            reg,
+            lets,
+            m,
+            out,
+            made,
+            v,
+        );
         i += 1;
         c = left(v, c - 1);
     }

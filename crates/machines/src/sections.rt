@@ -31,6 +31,7 @@ fn put_enums_part(
     names: usize,
     spots: &[u16],
     to: &[u16],
+    ends: &[u16],
     t: &mut [usize],
     reg: &mut [usize],
     lets: &mut [u8],
@@ -43,7 +44,7 @@ fn put_enums_part(
     made: &mut [u8],
     w: Writer,
 ) -> Writer
-    requires { ⌜ (length (now s) ≤ 65536) × (n ≤ 65536) × Long (now t) (now reg) (now lets) ⌝ }
+    requires { ⌜ (length (now s) ≤ 65536) × (n ≤ 65536) × Long (now t) (now reg) (now lets) × EndsRight (now s) names (now ends) ⌝ }
     ensures { λ r. ⌜ ((ns : List Name) → length ns ≡ names → (ats : List ℕ) (ens : ℕ → List Item) → AllWrite (now (old .entry)) (enumsAt ns (now (s .entry)) (now (spots .entry)) (now (to .entry))) (now (mats .entry)) n ens → stateOf (now (out .exit)) (now (made .exit)) r ≡ render (now (old .entry)) (enumsPartT ns (now (s .entry)) (now (mats .entry)) ats (now (regs .entry)) (now (spots .entry)) n ens at end) (stateOf (now (out .entry)) (now (made .entry)) w)) ⌝ }
 {
     let c = number(s, at);
@@ -58,6 +59,7 @@ fn put_enums_part(
         names,
         spots,
         to,
+        ends,
         t,
         reg,
         lets,
@@ -124,6 +126,7 @@ pub fn put_sections(
         k.names,
         spots,
         to,
+        ends,
         t,
         reg,
         lets,

@@ -1,9 +1,9 @@
 // The checks of a machine that is laid out: its states' names, each region's initial state, and targets.
 // A region's states share their prefix, so that names within it are compared as indexes.
+use crate::ends::guard_end;
 use crate::rows::first;
 use crate::rows::inner;
 use crate::rows::word;
-use crate::sure::after_expr;
 use crate::sure::number;
 use crate::table::entry;
 ghost use mathlib.Core.List.{List};
@@ -11,6 +11,7 @@ ghost use mathlib.Core.Path.{_≡_};
 ghost use Prim.Native.Nat.{_≤_};
 ghost use lib.ListN.{length};
 ghost use Rattle.pack.specs.Names.{Name};
+ghost use Rattle.machines.specs.Ends.{EndsRight};
 ghost use Rattle.machines.specs.Valid.{amongT, hasT, targetsT, checkedState, checkedRegion};
 
 // What checking came to: nothing wrong, a region (by its word) whose initial state is not among its states,
@@ -52,15 +53,15 @@ fn has_state(s: &[u8], t: &[usize], q: usize, x: usize) -> bool
 }
 
 // The targets of the state at the word p, in the region at the word q.
-fn check_targets(s: &[u8], names: usize, t: &[usize], q: usize, p: usize) -> Checked
-    requires { ⌜ length (now s) ≤ 65536 ⌝ }
+fn check_targets(s: &[u8], names: usize, ends: &[u16], t: &[usize], q: usize, p: usize) -> Checked
+    requires { ⌜ (length (now s) ≤ 65536) × EndsRight (now s) names (now ends) ⌝ }
     ensures { λ r. ⌜ ((ns : List Name) → length ns ≡ names → r ≡ targetsT ns (now (s .entry)) (now (t .entry)) q p) ⌝ }
 {
     let c = number(s, word(t, p, 1));
     let mut n = c.value;
     let mut o = c.next;
     while 0 < n {
-        let x = number(s, after_expr(s, names, o));
+        let x = number(s, guard_end(s, names, ends, o));
         if has_state(s, t, q, x.value) {
             o = x.next;
             n = n - 1;
@@ -76,18 +77,26 @@ fn check_targets(s: &[u8], names: usize, t: &[usize], q: usize, p: usize) -> Che
 }
 
 // A state: its targets, then its regions.
-fn check_state(s: &[u8], names: usize, t: &[usize], levels: usize, q: usize, p: usize) -> Checked
-    requires { ⌜ length (now s) ≤ 65536 ⌝ }
+fn check_state(
+    s: &[u8],
+    names: usize,
+    ends: &[u16],
+    t: &[usize],
+    levels: usize,
+    q: usize,
+    p: usize,
+) -> Checked
+    requires { ⌜ (length (now s) ≤ 65536) × EndsRight (now s) names (now ends) ⌝ }
     ensures { λ r. ⌜ ((ns : List Name) → length ns ≡ names → r ≡ checkedState ns (now (s .entry)) (now (t .entry)) (checkedRegion ns (now (s .entry)) (now (t .entry)) levels) q p) ⌝ }
 {
-    let c = check_targets(s, names, t, q, p);
+    let c = check_targets(s, names, ends, t, q, p);
     let Checked::Fine = c else {
         return c;
     };
     let mut n = word(t, p, 5);
     let mut g = inner(t, p);
     while 0 < n {
-        let r = check_region(s, names, t, levels, g);
+        let r = check_region(s, names, ends, t, levels, g);
         let Checked::Fine = r else {
             return r;
         };
@@ -98,8 +107,15 @@ fn check_state(s: &[u8], names: usize, t: &[usize], levels: usize, q: usize, p: 
 }
 
 // A region: its initial state, then its states.
-pub fn check_region(s: &[u8], names: usize, t: &[usize], levels: usize, q: usize) -> Checked
-    requires { ⌜ length (now s) ≤ 65536 ⌝ }
+pub fn check_region(
+    s: &[u8],
+    names: usize,
+    ends: &[u16],
+    t: &[usize],
+    levels: usize,
+    q: usize,
+) -> Checked
+    requires { ⌜ (length (now s) ≤ 65536) × EndsRight (now s) names (now ends) ⌝ }
     ensures { λ r. ⌜ ((ns : List Name) → length ns ≡ names → r ≡ checkedRegion ns (now (s .entry)) (now (t .entry)) levels q) ⌝ }
 {
     if levels == 0 {
@@ -109,7 +125,7 @@ pub fn check_region(s: &[u8], names: usize, t: &[usize], levels: usize, q: usize
         let mut n = word(t, q, 6);
         let mut p = first(t, q);
         while 0 < n {
-            let r = check_state(s, names, t, levels - 1, q, p);
+            let r = check_state(s, names, ends, t, levels - 1, q, p);
             let Checked::Fine = r else {
                 return r;
             };

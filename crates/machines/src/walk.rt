@@ -17,6 +17,7 @@ ghost use mathlib.Core.Path.{_≡_};
 ghost use Prim.Native.Nat.{_≤_};
 ghost use lib.ListN.{length};
 ghost use Rattle.pack.specs.Names.{Name};
+ghost use Rattle.machines.specs.Ends.{KeptRight};
 ghost use Rattle.machines.specs.Walks.{lenAt, enterW, qualifyOf, stateW, walk as walkIn, machineW};
 
 // What walking came to: the offset after, how many states so far, the longest name's length; or why it stopped.
@@ -69,18 +70,19 @@ fn walk_state(
     names: usize,
     spots: &[u16],
     to: &[u16],
+    ends: &[u16],
     levels: usize,
     p: Path,
     at: usize,
     count: usize,
 ) -> Walked
-    requires { ⌜ length (now s) ≤ 65536 ⌝ }
+    requires { ⌜ (length (now s) ≤ 65536) × KeptRight (now s) names (now spots) (now ends) ⌝ }
     ensures { λ r. ⌜ ((ns : List Name) → length ns ≡ names → r ≡ stateW ns (now (s .entry)) (now (spots .entry)) (now (to .entry)) (walkIn ns (now (s .entry)) (now (spots .entry)) (now (to .entry)) levels) p at count) ⌝ }
 {
     if Pack::STATES <= count {
         return Walked::Large;
     }
-    let h = head(s, names, spots, at);
+    let h = head(s, names, spots, ends, at);
     let t = number(s, h.next);
     let mut n = t.value;
     let mut o = t.next;
@@ -88,7 +90,7 @@ fn walk_state(
     let mut a = h.value;
     while 0 < n {
         let g = region(s, o);
-        let e = walk_states(s, names, spots, to, levels, p, g.value, g.next, c);
+        let e = walk_states(s, names, spots, to, ends, levels, p, g.value, g.next, c);
         let Walked::Went(next, states, longest) = e else {
             return e;
         };
@@ -107,7 +109,7 @@ fn walk_state(
         return d;
     };
     let q = pushed(p, f.value);
-    let y = walk_states(s, names, spots, to, levels, q, k, b, c);
+    let y = walk_states(s, names, spots, to, ends, levels, q, k, b, c);
     let Walked::Went(_, j, w) = y else {
         return y;
     };
@@ -120,13 +122,14 @@ fn walk_states(
     names: usize,
     spots: &[u16],
     to: &[u16],
+    ends: &[u16],
     levels: usize,
     p: Path,
     count: usize,
     at: usize,
     done: usize,
 ) -> Walked
-    requires { ⌜ length (now s) ≤ 65536 ⌝ }
+    requires { ⌜ (length (now s) ≤ 65536) × KeptRight (now s) names (now spots) (now ends) ⌝ }
     ensures { λ r. ⌜ ((ns : List Name) → length ns ≡ names → r ≡ walkIn ns (now (s .entry)) (now (spots .entry)) (now (to .entry)) levels p count at done) ⌝ }
 {
     if levels == 0 {
@@ -137,7 +140,7 @@ fn walk_states(
     let mut c = done;
     let mut a: usize = 0;
     while 0 < n {
-        let e = walk_state(s, names, spots, to, levels - 1, p, o, c);
+        let e = walk_state(s, names, spots, to, ends, levels - 1, p, o, c);
         let Walked::Went(next, states, longest) = e else {
             return e;
         };
@@ -155,10 +158,11 @@ pub fn walk_machine(
     names: usize,
     spots: &[u16],
     to: &[u16],
+    ends: &[u16],
     m: usize,
     at: usize,
 ) -> Walked
-    requires { ⌜ length (now s) ≤ 65536 ⌝ }
+    requires { ⌜ (length (now s) ≤ 65536) × KeptRight (now s) names (now spots) (now ends) ⌝ }
     ensures { λ r. ⌜ ((ns : List Name) → length ns ≡ names → r ≡ machineW ns (now (s .entry)) (now (spots .entry)) (now (to .entry)) m at) ⌝ }
 {
     let k = machine(s, at);
@@ -167,6 +171,7 @@ pub fn walk_machine(
         names,
         spots,
         to,
+        ends,
         Pack::LEVELS,
         start(m),
         k.value,

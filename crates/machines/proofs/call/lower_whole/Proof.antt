@@ -3,12 +3,6 @@ use borrow.Author.Needs.{needs}
 use Rattle.machines.proofs.call.lower_whole.Statement.{statement}
 use Rattle.machines.proofs.call.lower_whole.Tie as tie
 
-slice-aggregate-place-ends : tie.Need-slice-aggregate-place-ends
-slice-aggregate-place-ends c = search needs
-
-place-ends-requires : tie.Need-place-ends-requires
-place-ends-requires c κs = (c .before .before .before .before .pre .0, scratch-ends _ _)
-
 slice-aggregate-lower-opened : tie.Need-slice-aggregate-lower-opened
 slice-aggregate-lower-opened c = search needs
 
@@ -40,7 +34,7 @@ slice-aggregate-lower-opened-10 : tie.Need-slice-aggregate-lower-opened-10
 slice-aggregate-lower-opened-10 c = search needs
 
 lower-opened-requires : tie.Need-lower-opened-requires
-lower-opened-requires c κs = (c .before .before .before .before .before .before .before .before .before .before .before .before .before .before .before .before .before .before .pre .0, scratch-long, scratch-empty, c .before .before .before .before .before .before .before .before .before .before .before .before .before .before .before .before .before .before .pre .1, c .before .before .before .before .before .before .before .before .before .before .before .before .before .place-ends .ensures)
+lower-opened-requires c κs = (c .before .before .before .before .before .before .before .before .before .before .before .before .before .before .before .pre .0, scratch-long, scratch-empty, c .before .before .before .before .before .before .before .before .before .before .before .before .before .before .before .pre .1, scratch-ends)
 
 same-length : tie.Need-same-length
 same-length c = search needs
@@ -55,8 +49,6 @@ pub lower-whole-spec : {M : Type 1} → statement M
 lower-whole-spec =
     tie.close
     (tie.spec
-    slice-aggregate-place-ends
-    place-ends-requires
     slice-aggregate-lower-opened
     slice-aggregate-lower-opened-2
     slice-aggregate-lower-opened-3

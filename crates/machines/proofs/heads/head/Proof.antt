@@ -1,69 +1,25 @@
-use Prim.Native.Nat.{_-_}
-use mathlib.Core.List.{List}
-use mathlib.Core.Path.{_≡_, refl}
-use lib.ListN.{length}
+use Rattle.machines.proofs.EndLaws.{head-kept}
 use borrow.Author.Needs.{needs}
-use Rattle.pack.specs.Names.{Name}
-use Rattle.machines.specs.Sure.{turns}
-use Rattle.machines.specs.Walks.{targetT, maxOf}
-use Rattle.machines.proofs.SureLaws.{turns-went, turns-done}
-use Rattle.machines.proofs.WalkLaws.{head-is}
 use Rattle.machines.proofs.heads.head.Statement.{statement}
 use Rattle.machines.proofs.heads.head.Tie as tie
 
-abbrev Inv-loop : tie.InvT-loop
-Inv-loop s names spots at n₀ p₀ a₀ n p a = (ns : List Name) → length ns ≡ names → turns (targetT ns s spots) maxOf n p a ≡ turns (targetT ns s spots) maxOf n₀ p₀ a₀
+kept-regions-requires : tie.Need-kept-regions-requires
+kept-regions-requires c κs = search needs
 
-abbrev μ-loop : tie.MeasureT-loop
-μ-loop s names spots at n₀ p₀ a₀ n p a = n
+kept-longest-requires : tie.Need-kept-longest-requires
+kept-longest-requires c κs = search needs
 
-number-requires : tie.Need-number-requires Inv-loop μ-loop
-number-requires c κs = search needs
+returns : tie.Need-returns
+returns c = head-kept _ _ _ _ _ _ _ (c .before .before .before .before .before .before .pre .1) (c .before .before .kept-regions .ensures) (c .before .if1 .taken) (c .kept-longest .ensures)
 
-after-equations-requires : tie.Need-after-equations-requires Inv-loop μ-loop
-after-equations-requires c κs = search needs
+moves-of-requires : tie.Need-moves-of-requires
+moves-of-requires c κs = (c .before .before .before .before .before .pre .0, c .before .before .before .before .before .pre .1 .ends)
 
-number-requires-2 : tie.Need-number-requires-2 Inv-loop μ-loop
-number-requires-2 c κs = search needs
+read-head-requires : tie.Need-read-head-requires
+read-head-requires c κs = (c .before .before .before .before .before .before .pre .0, c .before .before .before .before .before .before .pre .1 .ends)
 
-name-len-requires : tie.Need-name-len-requires Inv-loop μ-loop
-name-len-requires c κs = search needs
-
-loop-holds : tie.Need-loop-holds Inv-loop μ-loop
-loop-holds c = λ ns e. refl
-
-target-len-requires : tie.Need-target-len-requires Inv-loop μ-loop
-target-len-requires c κs = search needs
-
-most-requires : tie.Need-most-requires Inv-loop μ-loop
-most-requires c κs = search needs
-
-sub-n : tie.Need-sub-n Inv-loop μ-loop
-sub-n c = search needs
-
-loop-less : tie.Need-loop-less Inv-loop μ-loop
-loop-less c = search needs
-
-loop-again : tie.Need-loop-again Inv-loop μ-loop
-loop-again c = λ ns e. turns-went (targetT ns _ _) maxOf _ _ _ _ _ _ (c .before .before .loop-test .taken) (c .before .target-len .ensures ns e) (c .most .ensures) (c .before .before .before .loop .inv ns e)
-
-returns : tie.Need-returns Inv-loop μ-loop
-returns c = λ ns e. head-is ns _ _ _ _ _ _ _ _ (c .before .before .before .before .before .number .ensures) (c .before .before .before .before .after-equations .ensures ns e) (c .before .before .before .number2 .ensures) (c .before .before .name-len .ensures) (turns-done (targetT ns _ _) maxOf _ _ _ _ (c .loop-test .left) (c .before .loop .inv ns e))
+returns-2 : tie.Need-returns-2
+returns-2 c = λ ns e. c .read-head .ensures ns e (c .before .moves-of .ensures ns e)
 
 pub head-spec : {M : Type 1} → statement M
-head-spec =
-    tie.close
-    (tie.spec
-    Inv-loop
-    μ-loop
-    number-requires
-    after-equations-requires
-    number-requires-2
-    name-len-requires
-    loop-holds
-    target-len-requires
-    most-requires
-    sub-n
-    loop-less
-    loop-again
-    returns)
+head-spec = tie.close (tie.spec kept-regions-requires kept-longest-requires returns moves-of-requires read-head-requires returns-2)

@@ -3,8 +3,8 @@ use borrow.Author.Needs.{needs}
 use Rattle.machines.proofs.heads.target_len.Statement.{statement}
 use Rattle.machines.proofs.heads.target_len.Tie as tie
 
-after-expr-requires : tie.Need-after-expr-requires
-after-expr-requires c κs = search needs
+guard-end-requires : tie.Need-guard-end-requires
+guard-end-requires c κs = c .before .before .before .pre
 
 number-requires : tie.Need-number-requires
 number-requires c κs = search needs
@@ -13,8 +13,8 @@ name-len-requires : tie.Need-name-len-requires
 name-len-requires c κs = search needs
 
 returns : tie.Need-returns
-returns c = λ ns e. target-is ns _ _ _ _ _ _ (c .before .before .after-expr .ensures ns e) (c .before .number .ensures) (c .name-len .ensures)
+returns c = λ ns e. target-is ns _ _ _ _ _ _ (c .before .before .guard-end .ensures ns e) (c .before .number .ensures) (c .name-len .ensures)
 
 pub target-len-spec : {M : Type 1} → statement M
 target-len-spec =
-    tie.close (tie.spec after-expr-requires number-requires name-len-requires returns)
+    tie.close (tie.spec guard-end-requires number-requires name-len-requires returns)

@@ -58,7 +58,7 @@ to-outputs-requires : tie.Need-to-outputs-requires
 to-outputs-requires c κs = c .before .before .before .before .before .before .before .before .before .before .before .before .before .before .before .before .before .before .before .before .before .before .pre .0
 
 judge-laid-requires : tie.Need-judge-laid-requires
-judge-laid-requires c κs = c .before .before .before .before .before .before .before .before .before .before .before .before .before .before .before .before .before .before .before .before .before .before .before .before .before .pre
+judge-laid-requires c κs = (c .before .before .before .before .before .before .before .before .before .before .before .before .before .before .before .before .before .before .before .before .before .before .before .before .before .pre .0, c .before .before .before .before .before .before .before .before .before .before .before .before .before .before .before .before .before .before .before .before .before .before .before .before .before .pre .1 .ends)
 
 returns : tie.Need-returns
 returns c = (λ ns e. judged-cycle ns _ _ _ _ _ _ _ _ _ _ (c .before .before .before .before .before .before .before .before .number .ensures) (c .before .before .before .before .before .before .before .to-initial .ensures ns e) (c .before .before .before .before .before .before .walk-machine .ensures ns e) _ _ _ _ (c .before .before .before .before .w .given .1) (c .before .before .named .ensures) (c .before .no-name .ensures) (c .refused .ensures), λ ns e. letters-cycle ns _ _ _ _ _ _ _ _ _ _ (c .before .before .before .before .before .before .before .before .number .ensures) (c .before .before .before .before .before .before .before .to-initial .ensures ns e) (c .before .before .before .before .before .before .walk-machine .ensures ns e) _ (c .before .before .before .before .w .given .1))

@@ -30,35 +30,35 @@ use Rattle.machines.proofs.table.entry.Reads as entry-reads
 use Rattle.machines.proofs.lay.+lay_region+lay_state.{statement}
 use Rattle.machines.proofs.lay.+lay_region+lay_state.Tie.{close}
 
-abbrev μ-lay-region : Measures 6 lay-region-kinds.ps ℕ
-μ-lay-region κs a = a .1 .1 .1 .1 .1 .1 .1 .0 + a .1 .1 .1 .1 .1 .1 .1 .0
+abbrev μ-lay-region : Measures 7 lay-region-kinds.ps ℕ
+μ-lay-region κs a = a .1 .1 .1 .1 .1 .1 .1 .1 .0 + a .1 .1 .1 .1 .1 .1 .1 .1 .0
 
-abbrev μ-lay-state : Measures 6 lay-state-kinds.ps ℕ
-μ-lay-state κs a = a .1 .1 .1 .1 .1 .1 .1 .0 + a .1 .1 .1 .1 .1 .1 .1 .0 + 1
+abbrev μ-lay-state : Measures 7 lay-state-kinds.ps ℕ
+μ-lay-state κs a = a .1 .1 .1 .1 .1 .1 .1 .1 .0 + a .1 .1 .1 .1 .1 .1 .1 .1 .0 + 1
 
-abbrev lay-region-at : ℕ → In 6 lay-region-kinds.ps
+abbrev lay-region-at : ℕ → In 7 lay-region-kinds.ps
 lay-region-at t =
-    and 6 lay-region-kinds.ps (is 6 lay-region-kinds.ps μ-lay-region t) lay-region.Pre
+    and 7 lay-region-kinds.ps (is 7 lay-region-kinds.ps μ-lay-region t) lay-region.Pre
 
-abbrev lay-region-below : ℕ → In 6 lay-region-kinds.ps
+abbrev lay-region-below : ℕ → In 7 lay-region-kinds.ps
 lay-region-below t =
-    and 6 lay-region-kinds.ps (falls 6 lay-region-kinds.ps _<_ μ-lay-region t) lay-region.Pre
+    and 7 lay-region-kinds.ps (falls 7 lay-region-kinds.ps _<_ μ-lay-region t) lay-region.Pre
 
-abbrev lay-state-at : ℕ → In 6 lay-state-kinds.ps
-lay-state-at t = and 6 lay-state-kinds.ps (is 6 lay-state-kinds.ps μ-lay-state t) lay-state.Pre
+abbrev lay-state-at : ℕ → In 7 lay-state-kinds.ps
+lay-state-at t = and 7 lay-state-kinds.ps (is 7 lay-state-kinds.ps μ-lay-state t) lay-state.Pre
 
-abbrev lay-state-below : ℕ → In 6 lay-state-kinds.ps
+abbrev lay-state-below : ℕ → In 7 lay-state-kinds.ps
 lay-state-below t =
-    and 6 lay-state-kinds.ps (falls 6 lay-state-kinds.ps _<_ μ-lay-state t) lay-state.Pre
+    and 7 lay-state-kinds.ps (falls 7 lay-state-kinds.ps _<_ μ-lay-state t) lay-state.Pre
 
 abbrev lay-region-calls : ℕ → lay-region-lts.Claims
 lay-region-calls t = (moved-reads.Asked, moved-reads.Learnt, both-reads.Asked, both-reads.Learnt, open-region-reads.Asked, open-region-reads.Learnt, lay-state-below t, lay-state.Post, put-word-reads.Asked, put-word-reads.Learnt)
 
 abbrev lay-region-Inv-loop : lay-region-lts.InvT-loop
-lay-region-Inv-loop s names spots to t₀ reg₀ lets₀ levels st up a m c e₀ n₀ t reg lets e n = (length t ≡ length t₀) × (length reg ≡ length reg₀) × (length lets ≡ length lets₀) × ((ns : List Name) → length ns ≡ names → times (layState ns s spots to (layRegion ns s spots to (levels - 1)) (c .regions) a m) n (board t reg lets e) ≡ times (layState ns s spots to (layRegion ns s spots to (levels - 1)) (c .regions) a m) n₀ (board t₀ reg₀ lets₀ e₀))
+lay-region-Inv-loop s names spots to ends t₀ reg₀ lets₀ levels st up a m c e₀ n₀ t reg lets e n = (length t ≡ length t₀) × (length reg ≡ length reg₀) × (length lets ≡ length lets₀) × ((ns : List Name) → length ns ≡ names → times (layState ns s spots to (layRegion ns s spots to (levels - 1)) (c .regions) a m) n (board t reg lets e) ≡ times (layState ns s spots to (layRegion ns s spots to (levels - 1)) (c .regions) a m) n₀ (board t₀ reg₀ lets₀ e₀))
 
 abbrev lay-region-μ-loop : lay-region-lts.MeasureT-loop
-lay-region-μ-loop s names spots to t₀ reg₀ lets₀ levels st up a m c e₀ n₀ t reg lets e n = n
+lay-region-μ-loop s names spots to ends t₀ reg₀ lets₀ levels st up a m c e₀ n₀ t reg lets e n = n
 
 lay-region-moved-requires : (t : ℕ) → lay-region-lts.Need-moved-requires (lay-region-calls t) (lay-region-at t) lay-region.Post lay-region-Inv-loop lay-region-μ-loop
 lay-region-moved-requires t c κs = search needs
@@ -85,7 +85,7 @@ lay-region-sub-lay-state : (t : ℕ) → lay-region-lts.Need-sub-lay-state (lay-
 lay-region-sub-lay-state t c = omega (arith, c .before .before .before .before .before .before .before .before .before .before .before .before .before .before .before .if1 .left)
 
 lay-region-lay-state-requires : (t : ℕ) → lay-region-lts.Need-lay-state-requires (lay-region-calls t) (lay-region-at t) lay-region.Post lay-region-Inv-loop lay-region-μ-loop
-lay-region-lay-state-requires t c κs = (omega (arith, c .before .before .before .before .before .before .before .before .before .before .before .before .before .before .before .if1 .left, c .before .before .before .before .before .before .before .before .before .before .before .before .before .before .before .before .before .before .before .before .before .before .pre .0), c .before .before .before .before .before .before .before .before .before .before .before .before .before .before .before .before .before .before .before .before .before .before .pre .1)
+lay-region-lay-state-requires t c κs = (omega (arith, c .before .before .before .before .before .before .before .before .before .before .before .before .before .before .before .if1 .left, c .before .before .before .before .before .before .before .before .before .before .before .before .before .before .before .before .before .before .before .before .before .before .before .pre .0), c .before .before .before .before .before .before .before .before .before .before .before .before .before .before .before .before .before .before .before .before .before .before .before .pre .1)
 
 lay-region-sub-n : (t : ℕ) → lay-region-lts.Need-sub-n (lay-region-calls t) (lay-region-at t) lay-region.Post lay-region-Inv-loop lay-region-μ-loop
 lay-region-sub-n t c = omega (arith, c .before .before .before .before .before .before .before .before .before .before .loop-test .taken)
@@ -94,7 +94,7 @@ lay-region-loop-less : (t : ℕ) → lay-region-lts.Need-loop-less (lay-region-c
 lay-region-loop-less t c = omega (arith, c .before .before .before .before .before .before .before .before .before .before .loop-test .taken)
 
 lay-region-loop-again : (t : ℕ) → lay-region-lts.Need-loop-again (lay-region-calls t) (lay-region-at t) lay-region.Post lay-region-Inv-loop lay-region-μ-loop
-lay-region-loop-again t c = (c .before .before .before .before .before .before .lay-state .kept .1 .1 .1 .1 .0 ∙ c .before .before .before .before .before .before .before .before .before .before .before .loop .inv .0, c .before .before .before .before .before .before .lay-state .kept .1 .1 .1 .1 .1 .0 ∙ c .before .before .before .before .before .before .before .before .before .before .before .loop .inv .1, c .before .before .before .before .before .before .lay-state .kept .1 .1 .1 .1 .1 .1 .0 ∙ c .before .before .before .before .before .before .before .before .before .before .before .loop .inv .2, λ ns e. times-went _ _ _ _ _ (c .before .before .before .before .before .before .before .before .before .before .loop-test .taken) (c .before .before .before .before .before .before .lay-state .ensures ns e) (c .before .before .before .before .before .before .before .before .before .before .before .loop .inv .3 ns e))
+lay-region-loop-again t c = (c .before .before .before .before .before .before .lay-state .kept .1 .1 .1 .1 .1 .0 ∙ c .before .before .before .before .before .before .before .before .before .before .before .loop .inv .0, c .before .before .before .before .before .before .lay-state .kept .1 .1 .1 .1 .1 .1 .0 ∙ c .before .before .before .before .before .before .before .before .before .before .before .loop .inv .1, c .before .before .before .before .before .before .lay-state .kept .1 .1 .1 .1 .1 .1 .1 .0 ∙ c .before .before .before .before .before .before .before .before .before .before .before .loop .inv .2, λ ns e. times-went _ _ _ _ _ (c .before .before .before .before .before .before .before .before .before .before .loop-test .taken) (c .before .before .before .before .before .before .lay-state .ensures ns e) (c .before .before .before .before .before .before .before .before .before .before .before .loop .inv .3 ns e))
 
 lay-region-put-word-requires : (t : ℕ) → lay-region-lts.Need-put-word-requires (lay-region-calls t) (lay-region-at t) lay-region.Post lay-region-Inv-loop lay-region-μ-loop
 lay-region-put-word-requires t c κs = search needs
@@ -109,19 +109,19 @@ lay-region-same-length-3 : (t : ℕ) → lay-region-lts.Need-same-length-3 (lay-
 lay-region-same-length-3 t c = c .before .before .before .before .before .loop .inv .2
 
 lay-region-returns-3 : (t : ℕ) → lay-region-lts.Need-returns-3 (lay-region-calls t) (lay-region-at t) lay-region.Post lay-region-Inv-loop lay-region-μ-loop
-lay-region-returns-3 t c = λ ns e. region-some ns _ _ _ _ _ _ _ _ _ _ _ _ _ _ (c .before .before .before .before .before .before .before .before .before .before .before .before .before .before .before .before .if1 .left) (c .before .before .before .before .before .before .before .before .before .before .before .before .before .before .both .ensures) (c .before .before .before .before .before .before .before .before .before .before .before .before .before .if2 .left) (c .before .before .before .before .before .before .before .before .before .before .open-region .ensures (c .before .before .before .before .before .before .before .before .before .before .before .before .before .before .before .before .before .before .before .before .before .before .before .args .lets .now)) (times-done _ _ _ _ (c .before .before .before .before .loop-test .left) (c .before .before .before .before .before .loop .inv .3 ns e)) (close-region _ _ _ _ _ _ (c .before .before .put-word .ensures))
+lay-region-returns-3 t c = λ ns e. region-some ns _ _ _ _ _ _ _ _ _ _ _ _ _ _ (c .before .before .before .before .before .before .before .before .before .before .before .before .before .before .before .before .if1 .left) (c .before .before .before .before .before .before .before .before .before .before .before .before .before .before .both .ensures) (c .before .before .before .before .before .before .before .before .before .before .before .before .before .if2 .left) (c .before .before .before .before .before .before .before .before .before .before .open-region .ensures (c .before .before .before .before .before .before .before .before .before .before .before .before .before .before .before .before .before .before .before .before .before .before .before .before .args .lets .now)) (times-done _ _ _ _ (c .before .before .before .before .loop-test .left) (c .before .before .before .before .before .loop .inv .3 ns e)) (close-region _ _ _ _ _ _ (c .before .before .put-word .ensures))
 
 abbrev lay-state-calls : ℕ → lay-state-lts.Claims
 lay-state-calls t = (open-state-reads.Asked, open-state-reads.Learnt, region-from-reads.Asked, region-from-reads.Learnt, lay-region-below t, lay-region.Post, tally-reads.Asked, tally-reads.Learnt, number-reads.Asked, number-reads.Learnt, close-state-reads.Asked, close-state-reads.Learnt, entry-reads.Asked, entry-reads.Learnt, machine-as-reads.Asked, machine-as-reads.Learnt)
 
 abbrev lay-state-Inv-loop : lay-state-lts.InvT-loop
-lay-state-Inv-loop s names spots to t₀ reg₀ lets₀ levels up a m c b n₀ k₀ e₀ t reg lets n k e = (length t ≡ length t₀) × (length reg ≡ length reg₀) × (length lets ≡ length lets₀) × ((ns : List Name) → length ns ≡ names → inner (regionB ns s spots to (layRegion ns s spots to levels) (c .words) up a m) n k (board t reg lets e) (refineB ns s spots to (layRegion ns s spots to levels) (c .words) up (b .letter) (b .length)) ≡ inner (regionB ns s spots to (layRegion ns s spots to levels) (c .words) up a m) n₀ k₀ (board t₀ reg₀ lets₀ e₀) (refineB ns s spots to (layRegion ns s spots to levels) (c .words) up (b .letter) (b .length)))
+lay-state-Inv-loop s names spots to ends t₀ reg₀ lets₀ levels up a m c b n₀ k₀ e₀ t reg lets n k e = (length t ≡ length t₀) × (length reg ≡ length reg₀) × (length lets ≡ length lets₀) × ((ns : List Name) → length ns ≡ names → inner (regionB ns s spots to (layRegion ns s spots to levels) (c .words) up a m) n k (board t reg lets e) (refineB ns s spots to (layRegion ns s spots to levels) (c .words) up (b .letter) (b .length)) ≡ inner (regionB ns s spots to (layRegion ns s spots to levels) (c .words) up a m) n₀ k₀ (board t₀ reg₀ lets₀ e₀) (refineB ns s spots to (layRegion ns s spots to levels) (c .words) up (b .letter) (b .length)))
 
 abbrev lay-state-μ-loop : lay-state-lts.MeasureT-loop
-lay-state-μ-loop s names spots to t₀ reg₀ lets₀ levels up a m c b n₀ k₀ e₀ t reg lets n k e = n
+lay-state-μ-loop s names spots to ends t₀ reg₀ lets₀ levels up a m c b n₀ k₀ e₀ t reg lets n k e = n
 
 lay-state-open-state-requires : (t : ℕ) → lay-state-lts.Need-open-state-requires (lay-state-calls t) (lay-state-at t) lay-state.Post lay-state-Inv-loop lay-state-μ-loop
-lay-state-open-state-requires t c κs = c .before .before .before .before .before .before .before .before .pre .1
+lay-state-open-state-requires t c κs = c .before .before .before .before .before .before .before .before .before .pre .1
 
 lay-state-loop-holds : (t : ℕ) → lay-state-lts.Need-loop-holds (lay-state-calls t) (lay-state-at t) lay-state.Post lay-state-Inv-loop lay-state-μ-loop
 lay-state-loop-holds t c = (refl, refl, refl, λ ns e. refl)
@@ -130,7 +130,7 @@ lay-state-region-from-requires : (t : ℕ) → lay-state-lts.Need-region-from-re
 lay-state-region-from-requires t c κs = search needs
 
 lay-state-lay-region-requires : (t : ℕ) → lay-state-lts.Need-lay-region-requires (lay-state-calls t) (lay-state-at t) lay-state.Post lay-state-Inv-loop lay-state-μ-loop
-lay-state-lay-region-requires t c κs = (omega (arith, c .before .before .before .before .before .before .before .before .before .before .before .before .before .before .before .before .before .before .before .pre .0), c .before .before .before .before .before .before .before .before .before .before .before .before .before .before .before .before .before .before .before .pre .1)
+lay-state-lay-region-requires t c κs = (omega (arith, c .before .before .before .before .before .before .before .before .before .before .before .before .before .before .before .before .before .before .before .before .pre .0), c .before .before .before .before .before .before .before .before .before .before .before .before .before .before .before .before .before .before .before .before .pre .1)
 
 lay-state-tally-requires : (t : ℕ) → lay-state-lts.Need-tally-requires (lay-state-calls t) (lay-state-at t) lay-state.Post lay-state-Inv-loop lay-state-μ-loop
 lay-state-tally-requires t c κs = search needs
@@ -142,7 +142,7 @@ lay-state-loop-less : (t : ℕ) → lay-state-lts.Need-loop-less (lay-state-call
 lay-state-loop-less t c = omega (arith, c .before .before .before .before .before .before .before .before .before .before .before .before .loop-test .taken)
 
 lay-state-loop-again : (t : ℕ) → lay-state-lts.Need-loop-again (lay-state-calls t) (lay-state-at t) lay-state.Post lay-state-Inv-loop lay-state-μ-loop
-lay-state-loop-again t c = (c .before .before .before .before .before .before .before .lay-region .kept .1 .1 .1 .1 .0 ∙ c .before .before .before .before .before .before .before .before .before .before .before .before .before .loop .inv .0, c .before .before .before .before .before .before .before .lay-region .kept .1 .1 .1 .1 .1 .0 ∙ c .before .before .before .before .before .before .before .before .before .before .before .before .before .loop .inv .1, c .before .before .before .before .before .before .before .lay-region .kept .1 .1 .1 .1 .1 .1 .0 ∙ c .before .before .before .before .before .before .before .before .before .before .before .before .before .loop .inv .2, λ ns e. inner-went _ _ _ _ _ _ _ _ (c .before .before .before .before .before .before .before .before .before .before .before .before .loop-test .taken) (region-on ns _ _ _ _ _ _ _ _ _ _ _ (c .before .before .before .before .before .before .before .before .before .before .before .region-from .ensures) (c .before .before .before .before .before .before .before .lay-region .ensures ns e)) (c .tally .ensures) (c .before .before .before .before .before .before .before .before .before .before .before .before .before .loop .inv .3 ns e))
+lay-state-loop-again t c = (c .before .before .before .before .before .before .before .lay-region .kept .1 .1 .1 .1 .1 .0 ∙ c .before .before .before .before .before .before .before .before .before .before .before .before .before .loop .inv .0, c .before .before .before .before .before .before .before .lay-region .kept .1 .1 .1 .1 .1 .1 .0 ∙ c .before .before .before .before .before .before .before .before .before .before .before .before .before .loop .inv .1, c .before .before .before .before .before .before .before .lay-region .kept .1 .1 .1 .1 .1 .1 .1 .0 ∙ c .before .before .before .before .before .before .before .before .before .before .before .before .before .loop .inv .2, λ ns e. inner-went _ _ _ _ _ _ _ _ (c .before .before .before .before .before .before .before .before .before .before .before .before .loop-test .taken) (region-on ns _ _ _ _ _ _ _ _ _ _ _ (c .before .before .before .before .before .before .before .before .before .before .before .region-from .ensures) (c .before .before .before .before .before .before .before .lay-region .ensures ns e)) (c .tally .ensures) (c .before .before .before .before .before .before .before .before .before .before .before .before .before .loop .inv .3 ns e))
 
 lay-state-number-requires : (t : ℕ) → lay-state-lts.Need-number-requires (lay-state-calls t) (lay-state-at t) lay-state.Post lay-state-Inv-loop lay-state-μ-loop
 lay-state-number-requires t c κs = search needs
@@ -151,16 +151,16 @@ lay-state-close-state-requires : (t : ℕ) → lay-state-lts.Need-close-state-re
 lay-state-close-state-requires t c κs = search needs
 
 lay-state-same-length : (t : ℕ) → lay-state-lts.Need-same-length (lay-state-calls t) (lay-state-at t) lay-state.Post lay-state-Inv-loop lay-state-μ-loop
-lay-state-same-length t c = c .before .before .close-state .kept .0 ∙ c .before .before .before .before .before .before .before .before .loop .inv .0 ∙ c .before .before .before .before .before .before .before .before .before .before .before .before .before .open-state .kept .1 .1 .1 .0
+lay-state-same-length t c = c .before .before .close-state .kept .0 ∙ c .before .before .before .before .before .before .before .before .loop .inv .0 ∙ c .before .before .before .before .before .before .before .before .before .before .before .before .before .open-state .kept .1 .1 .1 .1 .0
 
 lay-state-same-length-2 : (t : ℕ) → lay-state-lts.Need-same-length-2 (lay-state-calls t) (lay-state-at t) lay-state.Post lay-state-Inv-loop lay-state-μ-loop
 lay-state-same-length-2 t c = c .before .before .before .before .before .before .before .before .loop .inv .1
 
 lay-state-same-length-3 : (t : ℕ) → lay-state-lts.Need-same-length-3 (lay-state-calls t) (lay-state-at t) lay-state.Post lay-state-Inv-loop lay-state-μ-loop
-lay-state-same-length-3 t c = c .before .before .before .before .before .before .before .before .loop .inv .2 ∙ c .before .before .before .before .before .before .before .before .before .before .before .before .before .open-state .kept .1 .1 .1 .1 .0
+lay-state-same-length-3 t c = c .before .before .before .before .before .before .before .before .loop .inv .2 ∙ c .before .before .before .before .before .before .before .before .before .before .before .before .before .open-state .kept .1 .1 .1 .1 .1 .0
 
 lay-state-returns : (t : ℕ) → lay-state-lts.Need-returns (lay-state-calls t) (lay-state-at t) lay-state.Post lay-state-Inv-loop lay-state-μ-loop
-lay-state-returns t c = λ ns e. state-on ns _ _ _ _ _ _ _ _ _ _ _ (c .before .before .before .before .before .before .before .before .before .before .before .before .before .open-state .ensures ns e (c .before .before .before .before .before .before .before .before .before .before .before .before .before .before .before .before .before .before .before .before .before .before .args .reg .now) .0) (c .before .before .before .before .before .before .before .before .before .before .before .before .before .open-state .ensures ns e (c .before .before .before .before .before .before .before .before .before .before .before .before .before .before .before .before .before .before .before .before .before .before .args .reg .now) .1) (refine-plain ns _ _ _ _ _ _ _ _ _ _ _ _ (c .before .before .before .before .before .before .number .ensures) (c .before .before .before .before .if1 .taken) (c .before .before .close-state .ensures (c .before .before .before .before .before .before .before .before .loop .reg) (c .before .before .before .before .before .before .before .before .loop .lets)) ∙ inner-done _ _ _ _ _ _ (c .before .before .before .before .before .before .before .loop-test .left) (c .before .before .before .before .before .before .before .before .loop .inv .3 ns e))
+lay-state-returns t c = λ ns e. state-on ns _ _ _ _ _ _ _ _ _ _ _ (c .before .before .before .before .before .before .before .before .before .before .before .before .before .open-state .ensures ns e (c .before .before .before .before .before .before .before .before .before .before .before .before .before .before .before .before .before .before .before .before .before .before .before .args .reg .now) .0) (c .before .before .before .before .before .before .before .before .before .before .before .before .before .open-state .ensures ns e (c .before .before .before .before .before .before .before .before .before .before .before .before .before .before .before .before .before .before .before .before .before .before .before .args .reg .now) .1) (refine-plain ns _ _ _ _ _ _ _ _ _ _ _ _ (c .before .before .before .before .before .before .number .ensures) (c .before .before .before .before .if1 .taken) (c .before .before .close-state .ensures (c .before .before .before .before .before .before .before .before .loop .reg) (c .before .before .before .before .before .before .before .before .loop .lets)) ∙ inner-done _ _ _ _ _ _ (c .before .before .before .before .before .before .before .loop-test .left) (c .before .before .before .before .before .before .before .before .loop .inv .3 ns e))
 
 lay-state-cell-requires : (t : ℕ) → lay-state-lts.Need-cell-requires (lay-state-calls t) (lay-state-at t) lay-state.Post lay-state-Inv-loop lay-state-μ-loop
 lay-state-cell-requires t c κs = search needs
@@ -169,7 +169,7 @@ lay-state-machine-as-requires : (t : ℕ) → lay-state-lts.Need-machine-as-requ
 lay-state-machine-as-requires t c κs = search needs
 
 lay-state-lay-region-requires-2 : (t : ℕ) → lay-state-lts.Need-lay-region-requires-2 (lay-state-calls t) (lay-state-at t) lay-state.Post lay-state-Inv-loop lay-state-μ-loop
-lay-state-lay-region-requires-2 t c κs = (omega (arith, c .before .before .before .before .before .before .before .before .before .before .before .before .before .before .before .before .before .before .before .before .before .before .before .pre .0), c .before .before .before .before .before .before .before .before .before .before .before .before .before .before .before .before .before .before .before .before .before .before .before .pre .1)
+lay-state-lay-region-requires-2 t c κs = (omega (arith, c .before .before .before .before .before .before .before .before .before .before .before .before .before .before .before .before .before .before .before .before .before .before .before .before .pre .0), c .before .before .before .before .before .before .before .before .before .before .before .before .before .before .before .before .before .before .before .before .before .before .before .before .pre .1)
 
 lay-state-tally-requires-2 : (t : ℕ) → lay-state-lts.Need-tally-requires-2 (lay-state-calls t) (lay-state-at t) lay-state.Post lay-state-Inv-loop lay-state-μ-loop
 lay-state-tally-requires-2 t c κs = search needs
@@ -178,16 +178,16 @@ lay-state-close-state-requires-2 : (t : ℕ) → lay-state-lts.Need-close-state-
 lay-state-close-state-requires-2 t c κs = search needs
 
 lay-state-same-length-4 : (t : ℕ) → lay-state-lts.Need-same-length-4 (lay-state-calls t) (lay-state-at t) lay-state.Post lay-state-Inv-loop lay-state-μ-loop
-lay-state-same-length-4 t c = c .before .before .close-state2 .kept .0 ∙ c .before .before .before .before .before .before .before .before .before .before .before .lay-region2 .kept .1 .1 .1 .1 .0 ∙ c .before .before .before .before .before .before .before .before .before .before .before .before .before .before .before .before .before .before .before .before .before .loop .inv .0 ∙ c .before .before .before .before .before .before .before .before .before .before .before .before .before .before .before .before .before .before .before .before .before .before .before .before .before .before .open-state .kept .1 .1 .1 .0
+lay-state-same-length-4 t c = c .before .before .close-state2 .kept .0 ∙ c .before .before .before .before .before .before .before .before .before .before .before .lay-region2 .kept .1 .1 .1 .1 .1 .0 ∙ c .before .before .before .before .before .before .before .before .before .before .before .before .before .before .before .before .before .before .before .before .before .loop .inv .0 ∙ c .before .before .before .before .before .before .before .before .before .before .before .before .before .before .before .before .before .before .before .before .before .before .before .before .before .before .open-state .kept .1 .1 .1 .1 .0
 
 lay-state-same-length-5 : (t : ℕ) → lay-state-lts.Need-same-length-5 (lay-state-calls t) (lay-state-at t) lay-state.Post lay-state-Inv-loop lay-state-μ-loop
-lay-state-same-length-5 t c = c .before .before .before .before .before .before .before .before .before .before .before .lay-region2 .kept .1 .1 .1 .1 .1 .0 ∙ c .before .before .before .before .before .before .before .before .before .before .before .before .before .before .before .before .before .before .before .before .before .loop .inv .1
+lay-state-same-length-5 t c = c .before .before .before .before .before .before .before .before .before .before .before .lay-region2 .kept .1 .1 .1 .1 .1 .1 .0 ∙ c .before .before .before .before .before .before .before .before .before .before .before .before .before .before .before .before .before .before .before .before .before .loop .inv .1
 
 lay-state-same-length-6 : (t : ℕ) → lay-state-lts.Need-same-length-6 (lay-state-calls t) (lay-state-at t) lay-state.Post lay-state-Inv-loop lay-state-μ-loop
-lay-state-same-length-6 t c = c .before .before .before .before .before .before .before .before .before .before .before .lay-region2 .kept .1 .1 .1 .1 .1 .1 .0 ∙ c .before .before .before .before .before .before .before .before .before .before .before .before .before .before .before .before .before .before .before .before .before .loop .inv .2 ∙ c .before .before .before .before .before .before .before .before .before .before .before .before .before .before .before .before .before .before .before .before .before .before .before .before .before .before .open-state .kept .1 .1 .1 .1 .0
+lay-state-same-length-6 t c = c .before .before .before .before .before .before .before .before .before .before .before .lay-region2 .kept .1 .1 .1 .1 .1 .1 .1 .0 ∙ c .before .before .before .before .before .before .before .before .before .before .before .before .before .before .before .before .before .before .before .before .before .loop .inv .2 ∙ c .before .before .before .before .before .before .before .before .before .before .before .before .before .before .before .before .before .before .before .before .before .before .before .before .before .before .open-state .kept .1 .1 .1 .1 .1 .0
 
 lay-state-returns-2 : (t : ℕ) → lay-state-lts.Need-returns-2 (lay-state-calls t) (lay-state-at t) lay-state.Post lay-state-Inv-loop lay-state-μ-loop
-lay-state-returns-2 t c = λ ns e. state-on ns _ _ _ _ _ _ _ _ _ _ _ (c .before .before .before .before .before .before .before .before .before .before .before .before .before .before .before .before .before .before .before .before .before .before .before .before .before .before .open-state .ensures ns e (c .before .before .before .before .before .before .before .before .before .before .before .before .before .before .before .before .before .before .before .before .before .before .before .before .before .before .before .before .before .before .before .before .before .before .before .args .reg .now) .0) (c .before .before .before .before .before .before .before .before .before .before .before .before .before .before .before .before .before .before .before .before .before .before .before .before .before .before .open-state .ensures ns e (c .before .before .before .before .before .before .before .before .before .before .before .before .before .before .before .before .before .before .before .before .before .before .before .before .before .before .before .before .before .before .before .before .before .before .before .args .reg .now) .1) (refine-into ns _ _ _ _ _ _ _ _ _ _ _ _ _ _ _ _ (c .before .before .before .before .before .before .before .before .before .before .before .before .before .before .before .before .before .before .before .number .ensures) (c .before .before .before .before .before .before .before .before .before .before .before .before .before .before .before .before .before .if1 .left) (c .before .before .before .before .before .before .before .before .before .before .before .before .before .before .before .before .cell .ensures) (c .before .before .before .before .before .before .before .before .before .before .before .before .before .before .before .machine-as .ensures) (c .before .before .before .before .before .before .before .before .before .before .before .lay-region2 .ensures ns e) (c .before .before .before .tally2 .ensures) (c .before .before .close-state2 .ensures _ _) ∙ inner-done _ _ _ _ _ _ (c .before .before .before .before .before .before .before .before .before .before .before .before .before .before .before .before .before .before .before .before .loop-test .left) (c .before .before .before .before .before .before .before .before .before .before .before .before .before .before .before .before .before .before .before .before .before .loop .inv .3 ns e))
+lay-state-returns-2 t c = λ ns e. state-on ns _ _ _ _ _ _ _ _ _ _ _ (c .before .before .before .before .before .before .before .before .before .before .before .before .before .before .before .before .before .before .before .before .before .before .before .before .before .before .open-state .ensures ns e (c .before .before .before .before .before .before .before .before .before .before .before .before .before .before .before .before .before .before .before .before .before .before .before .before .before .before .before .before .before .before .before .before .before .before .before .before .args .reg .now) .0) (c .before .before .before .before .before .before .before .before .before .before .before .before .before .before .before .before .before .before .before .before .before .before .before .before .before .before .open-state .ensures ns e (c .before .before .before .before .before .before .before .before .before .before .before .before .before .before .before .before .before .before .before .before .before .before .before .before .before .before .before .before .before .before .before .before .before .before .before .before .args .reg .now) .1) (refine-into ns _ _ _ _ _ _ _ _ _ _ _ _ _ _ _ _ (c .before .before .before .before .before .before .before .before .before .before .before .before .before .before .before .before .before .before .before .number .ensures) (c .before .before .before .before .before .before .before .before .before .before .before .before .before .before .before .before .before .if1 .left) (c .before .before .before .before .before .before .before .before .before .before .before .before .before .before .before .before .cell .ensures) (c .before .before .before .before .before .before .before .before .before .before .before .before .before .before .before .machine-as .ensures) (c .before .before .before .before .before .before .before .before .before .before .before .lay-region2 .ensures ns e) (c .before .before .before .tally2 .ensures) (c .before .before .close-state2 .ensures _ _) ∙ inner-done _ _ _ _ _ _ (c .before .before .before .before .before .before .before .before .before .before .before .before .before .before .before .before .before .before .before .before .loop-test .left) (c .before .before .before .before .before .before .before .before .before .before .before .before .before .before .before .before .before .before .before .before .before .loop .inv .3 ns e))
 
 pub +lay-region+lay-state-spec : {M : Type 1} → statement M
 +lay-region+lay-state-spec = close μ-lay-region μ-lay-state (λ t. lay-region-lts.spec (lay-region-calls t)

@@ -25,40 +25,40 @@ use Rattle.machines.proofs.valid.has_state.Reads as has-state-reads
 use Rattle.machines.proofs.valid.+check_region+check_state.{statement}
 use Rattle.machines.proofs.valid.+check_region+check_state.Tie.{close}
 
-abbrev μ-check-region : Measures 2 check-region-kinds.ps ℕ
-μ-check-region κs a = a .1 .1 .1 .0 + a .1 .1 .1 .0
+abbrev μ-check-region : Measures 3 check-region-kinds.ps ℕ
+μ-check-region κs a = a .1 .1 .1 .1 .0 + a .1 .1 .1 .1 .0
 
-abbrev μ-check-state : Measures 2 check-state-kinds.ps ℕ
-μ-check-state κs a = a .1 .1 .1 .0 + a .1 .1 .1 .0 + 1
+abbrev μ-check-state : Measures 3 check-state-kinds.ps ℕ
+μ-check-state κs a = a .1 .1 .1 .1 .0 + a .1 .1 .1 .1 .0 + 1
 
-abbrev check-region-at : ℕ → In 2 check-region-kinds.ps
+abbrev check-region-at : ℕ → In 3 check-region-kinds.ps
 check-region-at t =
-    and 2 check-region-kinds.ps (is 2 check-region-kinds.ps μ-check-region t) check-region.Pre
+    and 3 check-region-kinds.ps (is 3 check-region-kinds.ps μ-check-region t) check-region.Pre
 
-abbrev check-region-below : ℕ → In 2 check-region-kinds.ps
+abbrev check-region-below : ℕ → In 3 check-region-kinds.ps
 check-region-below t =
     and
-    2
+    3
     check-region-kinds.ps
-    (falls 2 check-region-kinds.ps _<_ μ-check-region t)
+    (falls 3 check-region-kinds.ps _<_ μ-check-region t)
     check-region.Pre
 
-abbrev check-state-at : ℕ → In 2 check-state-kinds.ps
+abbrev check-state-at : ℕ → In 3 check-state-kinds.ps
 check-state-at t =
-    and 2 check-state-kinds.ps (is 2 check-state-kinds.ps μ-check-state t) check-state.Pre
+    and 3 check-state-kinds.ps (is 3 check-state-kinds.ps μ-check-state t) check-state.Pre
 
-abbrev check-state-below : ℕ → In 2 check-state-kinds.ps
+abbrev check-state-below : ℕ → In 3 check-state-kinds.ps
 check-state-below t =
-    and 2 check-state-kinds.ps (falls 2 check-state-kinds.ps _<_ μ-check-state t) check-state.Pre
+    and 3 check-state-kinds.ps (falls 3 check-state-kinds.ps _<_ μ-check-state t) check-state.Pre
 
 abbrev check-region-calls : ℕ → check-region-lts.Claims
 check-region-calls t = (entry-reads.Asked, entry-reads.Learnt, has-state-reads.Asked, has-state-reads.Learnt, word-reads.Asked, word-reads.Learnt, first-reads.Asked, first-reads.Learnt, check-state-below t, check-state.Post)
 
 abbrev check-region-Inv-loop : check-region-lts.InvT-loop
-check-region-Inv-loop s names t levels q n₀ p₀ n p = (ns : List Name) → length ns ≡ names → eachRow t (checkedState ns s t (checkedRegion ns s t (levels - 1)) q) n p ≡ eachRow t (checkedState ns s t (checkedRegion ns s t (levels - 1)) q) (getD t (q + 6) 0) (q + 9)
+check-region-Inv-loop s names ends t levels q n₀ p₀ n p = (ns : List Name) → length ns ≡ names → eachRow t (checkedState ns s t (checkedRegion ns s t (levels - 1)) q) n p ≡ eachRow t (checkedState ns s t (checkedRegion ns s t (levels - 1)) q) (getD t (q + 6) 0) (q + 9)
 
 abbrev check-region-μ-loop : check-region-lts.MeasureT-loop
-check-region-μ-loop s names t levels q n₀ p₀ n p = n
+check-region-μ-loop s names ends t levels q n₀ p₀ n p = n
 
 check-region-returns : (t : ℕ) → check-region-lts.Need-returns (check-region-calls t) (check-region-at t) check-region.Post check-region-Inv-loop check-region-μ-loop
 check-region-returns t c = λ ns e. region-none ns _ _ _ _ (c .if1 .taken)
@@ -82,7 +82,7 @@ check-region-sub-check-state : (t : ℕ) → check-region-lts.Need-sub-check-sta
 check-region-sub-check-state t c = omega (arith, c .before .before .before .before .before .before .before .if1 .left)
 
 check-region-check-state-requires : (t : ℕ) → check-region-lts.Need-check-state-requires (check-region-calls t) (check-region-at t) check-region.Post check-region-Inv-loop check-region-μ-loop
-check-region-check-state-requires t c κs = (omega (arith, c .before .before .before .before .before .before .before .if1 .left, c .before .before .before .before .before .before .before .before .before .before .pre .0), c .before .before .before .before .before .before .before .before .before .before .pre .1)
+check-region-check-state-requires t c κs = (omega (arith, c .before .before .before .before .before .before .before .if1 .left, c .before .before .before .before .before .before .before .before .before .before .before .pre .0), c .before .before .before .before .before .before .before .before .before .before .before .pre .1)
 
 check-region-enum-told : (t : ℕ) → check-region-lts.Need-enum-told (check-region-calls t) (check-region-at t) check-region.Post check-region-Inv-loop check-region-μ-loop
 check-region-enum-told t c = search needs
@@ -112,10 +112,10 @@ abbrev check-state-calls : ℕ → check-state-lts.Claims
 check-state-calls t = (check-targets-reads.Asked, check-targets-reads.Learnt, word-reads.Asked, word-reads.Learnt, inner-reads.Asked, inner-reads.Learnt, check-region-below t, check-region.Post)
 
 abbrev check-state-Inv-loop : check-state-lts.InvT-loop
-check-state-Inv-loop s names t levels q p n₀ g₀ n g = (ns : List Name) → length ns ≡ names → eachRow t (checkedRegion ns s t levels) n g ≡ eachRow t (checkedRegion ns s t levels) (getD t (p + 5) 0) (p + 6)
+check-state-Inv-loop s names ends t levels q p n₀ g₀ n g = (ns : List Name) → length ns ≡ names → eachRow t (checkedRegion ns s t levels) n g ≡ eachRow t (checkedRegion ns s t levels) (getD t (p + 5) 0) (p + 6)
 
 abbrev check-state-μ-loop : check-state-lts.MeasureT-loop
-check-state-μ-loop s names t levels q p n₀ g₀ n g = n
+check-state-μ-loop s names ends t levels q p n₀ g₀ n g = n
 
 check-state-check-targets-requires : (t : ℕ) → check-state-lts.Need-check-targets-requires (check-state-calls t) (check-state-at t) check-state.Post check-state-Inv-loop check-state-μ-loop
 check-state-check-targets-requires t c κs = search needs
@@ -136,7 +136,7 @@ check-state-loop-holds : (t : ℕ) → check-state-lts.Need-loop-holds (check-st
 check-state-loop-holds t c = λ ns e. rows-from _ _ _ _ _ _ (c .before .word .ensures) (c .inner .ensures)
 
 check-state-check-region-requires : (t : ℕ) → check-state-lts.Need-check-region-requires (check-state-calls t) (check-state-at t) check-state.Post check-state-Inv-loop check-state-μ-loop
-check-state-check-region-requires t c κs = (omega (arith, c .before .before .before .before .before .before .before .before .before .pre .0), c .before .before .before .before .before .before .before .before .before .pre .1)
+check-state-check-region-requires t c κs = (omega (arith, c .before .before .before .before .before .before .before .before .before .before .pre .0), c .before .before .before .before .before .before .before .before .before .before .pre .1)
 
 check-state-enum-told-2 : (t : ℕ) → check-state-lts.Need-enum-told-2 (check-state-calls t) (check-state-at t) check-state.Post check-state-Inv-loop check-state-μ-loop
 check-state-enum-told-2 t c = search needs

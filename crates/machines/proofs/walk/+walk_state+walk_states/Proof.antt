@@ -30,42 +30,42 @@ use Rattle.machines.proofs.walk.qualify.Reads as qualify-reads
 use Rattle.machines.proofs.walk.+walk_state+walk_states.{statement}
 use Rattle.machines.proofs.walk.+walk_state+walk_states.Tie.{close}
 
-abbrev μ-walk-state : Measures 3 walk-state-kinds.ps ℕ
-μ-walk-state κs a = a .1 .1 .1 .1 .0 + a .1 .1 .1 .1 .0 + 1
+abbrev μ-walk-state : Measures 4 walk-state-kinds.ps ℕ
+μ-walk-state κs a = a .1 .1 .1 .1 .1 .0 + a .1 .1 .1 .1 .1 .0 + 1
 
-abbrev μ-walk-states : Measures 3 walk-states-kinds.ps ℕ
-μ-walk-states κs a = a .1 .1 .1 .1 .0 + a .1 .1 .1 .1 .0
+abbrev μ-walk-states : Measures 4 walk-states-kinds.ps ℕ
+μ-walk-states κs a = a .1 .1 .1 .1 .1 .0 + a .1 .1 .1 .1 .1 .0
 
-abbrev walk-state-at : ℕ → In 3 walk-state-kinds.ps
+abbrev walk-state-at : ℕ → In 4 walk-state-kinds.ps
 walk-state-at t =
-    and 3 walk-state-kinds.ps (is 3 walk-state-kinds.ps μ-walk-state t) walk-state.Pre
+    and 4 walk-state-kinds.ps (is 4 walk-state-kinds.ps μ-walk-state t) walk-state.Pre
 
-abbrev walk-state-below : ℕ → In 3 walk-state-kinds.ps
+abbrev walk-state-below : ℕ → In 4 walk-state-kinds.ps
 walk-state-below t =
-    and 3 walk-state-kinds.ps (falls 3 walk-state-kinds.ps _<_ μ-walk-state t) walk-state.Pre
+    and 4 walk-state-kinds.ps (falls 4 walk-state-kinds.ps _<_ μ-walk-state t) walk-state.Pre
 
-abbrev walk-states-at : ℕ → In 3 walk-states-kinds.ps
+abbrev walk-states-at : ℕ → In 4 walk-states-kinds.ps
 walk-states-at t =
-    and 3 walk-states-kinds.ps (is 3 walk-states-kinds.ps μ-walk-states t) walk-states.Pre
+    and 4 walk-states-kinds.ps (is 4 walk-states-kinds.ps μ-walk-states t) walk-states.Pre
 
-abbrev walk-states-below : ℕ → In 3 walk-states-kinds.ps
+abbrev walk-states-below : ℕ → In 4 walk-states-kinds.ps
 walk-states-below t =
-    and 3 walk-states-kinds.ps (falls 3 walk-states-kinds.ps _<_ μ-walk-states t) walk-states.Pre
+    and 4 walk-states-kinds.ps (falls 4 walk-states-kinds.ps _<_ μ-walk-states t) walk-states.Pre
 
 abbrev walk-state-calls : ℕ → walk-state-lts.Claims
 walk-state-calls t = (head-reads.Asked, head-reads.Learnt, number-reads.Asked, number-reads.Learnt, region-reads.Asked, region-reads.Learnt, walk-states-below t, walk-states.Post, len-at-reads.Asked, len-at-reads.Learnt, most-reads.Asked, most-reads.Learnt, enter-reads.Asked, enter-reads.Learnt, pushed-reads.Asked, pushed-reads.Learnt, name-len-reads.Asked, name-len-reads.Learnt, qualify-reads.Asked, qualify-reads.Learnt)
 
 abbrev walk-state-Inv-loop : walk-state-lts.InvT-loop
-walk-state-Inv-loop s names spots to levels p at count n₀ o₀ c₀ a₀ n o c a = (ns : List Name) → length ns ≡ names → rounds (regionW ns s spots to (walk ns s spots to levels) p) n o c a ≡ rounds (regionW ns s spots to (walk ns s spots to levels) p) n₀ o₀ c₀ a₀
+walk-state-Inv-loop s names spots to ends levels p at count n₀ o₀ c₀ a₀ n o c a = (ns : List Name) → length ns ≡ names → rounds (regionW ns s spots to (walk ns s spots to levels) p) n o c a ≡ rounds (regionW ns s spots to (walk ns s spots to levels) p) n₀ o₀ c₀ a₀
 
 abbrev walk-state-μ-loop : walk-state-lts.MeasureT-loop
-walk-state-μ-loop s names spots to levels p at count n₀ o₀ c₀ a₀ n o c a = n
+walk-state-μ-loop s names spots to ends levels p at count n₀ o₀ c₀ a₀ n o c a = n
 
 walk-state-returns : (t : ℕ) → walk-state-lts.Need-returns (walk-state-calls t) (walk-state-at t) walk-state.Post walk-state-Inv-loop walk-state-μ-loop
 walk-state-returns t c = λ ns e. state-large ns _ _ _ _ _ _ _ (c .if1 .taken)
 
 walk-state-head-requires : (t : ℕ) → walk-state-lts.Need-head-requires (walk-state-calls t) (walk-state-at t) walk-state.Post walk-state-Inv-loop walk-state-μ-loop
-walk-state-head-requires t c κs = c .before .before .before .before .pre .1
+walk-state-head-requires t c κs = c .before .before .before .before .before .pre .1
 
 walk-state-number-requires : (t : ℕ) → walk-state-lts.Need-number-requires (walk-state-calls t) (walk-state-at t) walk-state.Post walk-state-Inv-loop walk-state-μ-loop
 walk-state-number-requires t c κs = search needs
@@ -80,7 +80,7 @@ walk-state-region-requires : (t : ℕ) → walk-state-lts.Need-region-requires (
 walk-state-region-requires t c κs = search needs
 
 walk-state-walk-states-requires : (t : ℕ) → walk-state-lts.Need-walk-states-requires (walk-state-calls t) (walk-state-at t) walk-state.Post walk-state-Inv-loop walk-state-μ-loop
-walk-state-walk-states-requires t c κs = (omega (arith, c .before .before .before .before .before .before .before .before .before .pre .0), c .before .before .before .before .before .before .before .before .before .pre .1)
+walk-state-walk-states-requires t c κs = (omega (arith, c .before .before .before .before .before .before .before .before .before .before .pre .0), c .before .before .before .before .before .before .before .before .before .before .pre .1)
 
 walk-state-enum-known-e : (t : ℕ) → walk-state-lts.Need-enum-known-e (walk-state-calls t) (walk-state-at t) walk-state.Post walk-state-Inv-loop walk-state-μ-loop
 walk-state-enum-known-e t c = search needs
@@ -134,7 +134,7 @@ walk-state-pushed-requires : (t : ℕ) → walk-state-lts.Need-pushed-requires (
 walk-state-pushed-requires t c κs = search needs
 
 walk-state-walk-states-requires-2 : (t : ℕ) → walk-state-lts.Need-walk-states-requires-2 (walk-state-calls t) (walk-state-at t) walk-state.Post walk-state-Inv-loop walk-state-μ-loop
-walk-state-walk-states-requires-2 t c κs = (omega (arith, c .before .before .before .before .before .before .before .before .before .before .before .before .before .before .before .before .before .pre .0), c .before .before .before .before .before .before .before .before .before .before .before .before .before .before .before .before .before .pre .1)
+walk-state-walk-states-requires-2 t c κs = (omega (arith, c .before .before .before .before .before .before .before .before .before .before .before .before .before .before .before .before .before .before .pre .0), c .before .before .before .before .before .before .before .before .before .before .before .before .before .before .before .before .before .before .pre .1)
 
 walk-state-enum-known-y : (t : ℕ) → walk-state-lts.Need-enum-known-y (walk-state-calls t) (walk-state-at t) walk-state.Post walk-state-Inv-loop walk-state-μ-loop
 walk-state-enum-known-y t c = search needs
@@ -165,10 +165,10 @@ abbrev walk-states-calls : ℕ → walk-states-lts.Claims
 walk-states-calls t = (walk-state-below t, walk-state.Post, most-reads.Asked, most-reads.Learnt)
 
 abbrev walk-states-Inv-loop : walk-states-lts.InvT-loop
-walk-states-Inv-loop s names spots to levels p count at done n₀ o₀ c₀ a₀ n o c a = (ns : List Name) → length ns ≡ names → rounds (stateW ns s spots to (walk ns s spots to (levels - 1)) p) n o c a ≡ rounds (stateW ns s spots to (walk ns s spots to (levels - 1)) p) count at done 0
+walk-states-Inv-loop s names spots to ends levels p count at done n₀ o₀ c₀ a₀ n o c a = (ns : List Name) → length ns ≡ names → rounds (stateW ns s spots to (walk ns s spots to (levels - 1)) p) n o c a ≡ rounds (stateW ns s spots to (walk ns s spots to (levels - 1)) p) count at done 0
 
 abbrev walk-states-μ-loop : walk-states-lts.MeasureT-loop
-walk-states-μ-loop s names spots to levels p count at done n₀ o₀ c₀ a₀ n o c a = n
+walk-states-μ-loop s names spots to ends levels p count at done n₀ o₀ c₀ a₀ n o c a = n
 
 walk-states-returns : (t : ℕ) → walk-states-lts.Need-returns (walk-states-calls t) (walk-states-at t) walk-states.Post walk-states-Inv-loop walk-states-μ-loop
 walk-states-returns t c = λ ns e. walk-none ns _ _ _ _ _ _ _ _ (c .if1 .taken)
@@ -180,7 +180,7 @@ walk-states-sub-walk-state : (t : ℕ) → walk-states-lts.Need-sub-walk-state (
 walk-states-sub-walk-state t c = omega (arith, c .before .before .if1 .left)
 
 walk-states-walk-state-requires : (t : ℕ) → walk-states-lts.Need-walk-state-requires (walk-states-calls t) (walk-states-at t) walk-states.Post walk-states-Inv-loop walk-states-μ-loop
-walk-states-walk-state-requires t c κs = (omega (arith, c .before .before .if1 .left, c .before .before .before .before .before .before .pre .0), c .before .before .before .before .before .before .pre .1)
+walk-states-walk-state-requires t c κs = (omega (arith, c .before .before .if1 .left, c .before .before .before .before .before .before .before .pre .0), c .before .before .before .before .before .before .before .pre .1)
 
 walk-states-enum-known-e : (t : ℕ) → walk-states-lts.Need-enum-known-e (walk-states-calls t) (walk-states-at t) walk-states.Post walk-states-Inv-loop walk-states-μ-loop
 walk-states-enum-known-e t c = search needs

@@ -1,22 +1,23 @@
+use mathlib.Core.List.{List}
 use Prim.Native.Nat.{ℕ}
 use mathlib.Core.Path.{_≡_, refl, _∙_}
 use lib.ListN.{length}
 use borrow.Author.Needs.{needs}
-use Rattle.machines.specs.Ends.{EndsRight}
-use Rattle.machines.proofs.ends.put_ends.Statement.{statement}
-use Rattle.machines.proofs.ends.put_ends.Tie as tie
+use Rattle.machines.specs.Ends.{KeptRight}
+use Rattle.machines.proofs.keeping.put_ends.Statement.{statement}
+use Rattle.machines.proofs.keeping.put_ends.Tie as tie
 
 abbrev Inv-loop : tie.InvT-loop
-Inv-loop s names ends₀ count from n₀ p₀ ends n p = EndsRight s names ends × (length {A = ℕ} ends ≡ length {A = ℕ} ends₀)
+Inv-loop s names ends₀ count from n₀ p₀ ends n p = ((spots : List ℕ) → KeptRight s names spots ends₀ → KeptRight s names spots ends) × (length {A = ℕ} ends ≡ length {A = ℕ} ends₀)
 
 abbrev μ-loop : tie.MeasureT-loop
 μ-loop s names ends₀ count from n₀ p₀ ends n p = n
 
 loop-holds : tie.Need-loop-holds Inv-loop μ-loop
-loop-holds c = (c .before .before .pre .1, refl)
+loop-holds c = (λ spots h. h, refl)
 
 put-end-requires : tie.Need-put-end-requires Inv-loop μ-loop
-put-end-requires c κs = (c .before .before .before .before .before .pre .0, c .before .before .loop .inv .0)
+put-end-requires c κs = c .before .before .before .before .before .pre
 
 sub-n : tie.Need-sub-n Inv-loop μ-loop
 sub-n c = search needs
@@ -25,7 +26,7 @@ loop-less : tie.Need-loop-less Inv-loop μ-loop
 loop-less c = search needs
 
 loop-again : tie.Need-loop-again Inv-loop μ-loop
-loop-again c = (c .before .before .put-end .ensures, c .before .before .put-end .kept .1 .1 .0 ∙ c .before .before .before .before .before .loop .inv .1)
+loop-again c = (λ spots h. c .before .before .put-end .ensures spots (c .before .before .before .before .before .loop .inv .0 spots h), c .before .before .put-end .kept .1 .1 .0 ∙ c .before .before .before .before .before .loop .inv .1)
 
 same-length : tie.Need-same-length Inv-loop μ-loop
 same-length c = c .before .loop .inv .1

@@ -1,0 +1,41 @@
+use mathlib.Core.Path.{_∙_}
+use Rattle.machines.proofs.EndLaws.{head-read}
+use borrow.Author.Needs.{needs}
+use Rattle.machines.proofs.keeping.put_head.Statement.{statement}
+use Rattle.machines.proofs.keeping.put_head.Tie as tie
+
+number-requires : tie.Need-number-requires
+number-requires c κs = search needs
+
+number-requires-2 : tie.Need-number-requires-2
+number-requires-2 c κs = search needs
+
+put-ends-requires : tie.Need-put-ends-requires
+put-ends-requires c κs = c .before .before .before .before .before .before .pre .0
+
+after-equations-requires : tie.Need-after-equations-requires
+after-equations-requires c κs = c .before .before .before .before .before .before .before .before .before .pre .0
+
+number-requires-3 : tie.Need-number-requires-3
+number-requires-3 c κs = search needs
+
+put-guards-requires : tie.Need-put-guards-requires
+put-guards-requires c κs = c .before .before .before .before .before .before .before .before .before .before .before .before .pre .0
+
+read-head-requires : tie.Need-read-head-requires
+read-head-requires c κs = (c .before .before .before .before .before .before .before .before .before .before .before .before .before .before .before .before .pre .0, c .before .before .before .put-guards .ensures _ (c .before .before .before .before .before .before .before .before .before .put-ends .ensures _ (c .before .before .before .before .before .before .before .before .before .before .before .before .before .before .before .before .pre .1)) .ends)
+
+after-transitions-requires : tie.Need-after-transitions-requires
+after-transitions-requires c κs = c .before .before .before .before .before .before .before .before .before .before .before .before .before .before .before .before .before .pre .0
+
+put-state-requires : tie.Need-put-state-requires
+put-state-requires c κs = search needs
+
+same-length : tie.Need-same-length
+same-length c = c .before .before .put-state .kept .0 ∙ c .before .before .before .before .before .before .before .before .before .put-guards .kept .1 .1 .0 ∙ c .before .before .before .before .before .before .before .before .before .before .before .before .before .before .before .put-ends .kept .1 .1 .0
+
+returns : tie.Need-returns
+returns c = c .before .before .put-state .ensures _ _ _ (c .before .before .before .before .before .before .before .before .before .put-guards .ensures _ (c .before .before .before .before .before .before .before .before .before .before .before .before .before .before .before .put-ends .ensures _ (c .before .before .before .before .before .before .before .before .before .before .before .before .before .before .before .before .before .before .before .before .before .before .pre .1))) (head-read _ _ _ _ _ _ _ _ (c .before .before .before .before .before .before .before .before .before .before .before .before .before .before .before .before .before .before .number .ensures) (c .before .before .before .before .before .before .before .before .before .before .before .before .after-equations .ensures) (c .before .before .before .before .before .read-head .ensures) (c .before .before .before .before .after-transitions .ensures))
+
+pub put-head-spec : {M : Type 1} → statement M
+put-head-spec = tie.close (tie.spec number-requires number-requires-2 put-ends-requires after-equations-requires number-requires-3 put-guards-requires read-head-requires after-transitions-requires put-state-requires same-length returns)
