@@ -18,6 +18,7 @@ use pack::finish::copy_pack;
 use pack::finish::finish;
 use pack::intern::lay_names;
 use pack::record::Pack;
+use pack::table::ROOM;
 ghost use mathlib.Core.Path.{_≡_};
 ghost use Prim.Native.Nat.{_-_, _<_, _≤_};
 ghost use lib.ListN.{length};
@@ -72,7 +73,7 @@ fn write_all(
     ensures fits { λ r. ⌜ (r .number ≤ 9) × (r .value < 4294967296) ⌝ }
 {
     let mut out = [0u8; 65536];
-    let mut made = [0u8; 143362];
+    let mut made = [0u8; ROOM];
     let w = put_sections(
         old,
         s,
@@ -176,7 +177,7 @@ fn lower_whole(s: &[u8], x: Pack, output: &mut [u8], report: &mut [u8]) -> Outco
     let mut reads = [0u16; 21848];
     let mut seen = [0u16; 21848];
     let mut later = [0u16; 32768];
-    let mut olds = [0u8; 143362];
+    let mut olds = [0u8; ROOM];
     let e = lay_names(between(s, 2, x.enums), &mut olds);
     lower_opened(
         s,

@@ -19,6 +19,7 @@ use pack::finish::copy_pack;
 use pack::finish::finish;
 use pack::intern::lay_names;
 use pack::record::Pack;
+use pack::table::ROOM;
 ghost use mathlib.Core.List.{List, _++_};
 ghost use mathlib.Core.Path.{_≡_};
 ghost use Prim.Native.Nat.{ℕ, _-_, _≤_};
@@ -157,8 +158,8 @@ fn write_all(
     ensures { λ r. ⌜ ((ns : List Name) → length ns ≡ k .names → (old : List ℕ) → old ≡ tabled (table (sliceOf (now (s .entry)) 2 (k .enums - 2))) → (eqs ens : ℕ → List Item) → AllWrite old (equationsAt ns (now (s .entry)) (now (spots .entry)) (now (to .entry))) (now (mats .entry)) n eqs → AllWrite old (enumsAt ns (now (s .entry)) (now (spots .entry)) (now (to .entry))) (now (mats .entry)) n ens → Gives (answered (length (now (output .entry))) (sliceOf (now (s .entry)) 2 (k .enums - 2)) (render old (sectionsT ns (now (s .entry)) (now (mats .entry)) (now (ats .entry)) (now (regs .entry)) (now (spots .entry)) n eqs ens k) unwritten)) (r .number) (r .value) (now (output .entry)) (now (output .exit))) ⌝ }
 {
     let mut out = [0u8; 65536];
-    let mut made = [0u8; 143362];
-    let mut olds = [0u8; 143362];
+    let mut made = [0u8; ROOM];
+    let mut olds = [0u8; ROOM];
     let names = between(s, 2, k.enums);
     let e = lay_names(names, &mut olds);
     let w = put_sections(
