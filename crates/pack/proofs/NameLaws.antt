@@ -3,12 +3,11 @@ use Prim.Native.Nat.{ℕ, _+_, _-_, _≤_, _<_, zero, suc}
 use native.Mathlib.Omega.{arith}
 use native.Mathlib.Numerals.{add-one}
 use mathlib.Core.List.{List, [], _∷_, _++_}
-use mathlib.Core.Bool.{Bool, true, false, not, cond, _&&_, _||_}
+use mathlib.Core.Bool.{Bool, true, false, not, cond, _||_}
 use mathlib.Core.Path.{_≡_, refl, sym, ap, _∙_}
 use lib.ListN.{length, getD, take, drop, length-take, length-drop}
 use lib.Seq.{drop-cons}
-use lib.Dec.{ltb, eqb}
-use borrow.Author.Tests.{eq-eqb, ne-eqb}
+use lib.Dec.{ltb}
 use Rattle.wire.specs.declared.answer.Read.the-variants as rd
 use Rattle.wire.specs.declared.answer.Skipped.the-variants as sk
 use Rattle.wire.specs.Answer.{Answer, bind, byte, deep, early, guard, illegal, many, u16, value}
@@ -17,28 +16,13 @@ use Rattle.wire.specs.Code.{next, nextR, nextS, readOf, rep, skip}
 use Rattle.wire.proofs.Answers.{bind-value, byte-value, guard-value}
 use Rattle.wire.proofs.Codes.{guard-read, guard-skip, skip-bindS, skip-many}
 use Rattle.pack.specs.Names.{eqName, member}
-use Rattle.pack.specs.RawNames.{Inside, agree, oneOf, rawEnd, rawName, rawNames}
+use Rattle.pack.specs.RawNames.{Inside, oneOf, rawEnd, rawName, rawNames}
 
 or-true : (b x : Bool) → b ≡ true → true ≡ b || x
 or-true b x e = rw e
 
 or-false : (b x : Bool) → b ≡ false → x ≡ b || x
 or-false b x e = rw e
-
-and-false : (b : Bool) → _&&_ b false ≡ false
-and-false true = refl
-and-false false = refl
-
-pub agree-step : (s : List ℕ) (a b n : ℕ) → 0 < n → agree s a b n ≡ _&&_ (eqb (getD s a 0) (getD s b 0)) (agree s (a + 1) (b + 1) (n - 1))
-unfolding agree
-agree-step s a b zero h = absurd (omega arith)
-agree-step s a b (suc n) h = let e : suc n - 1 ≡ n = omega arith in rw e
-
--- that is what `same` says of the two parts
-pub agree-same : (s : List ℕ) (n a b : ℕ) → a + n ≤ length s → b + n ≤ length s → agree s a b n ≡ eqName (take n (drop a s)) (take n (drop b s))
-unfolding agree eqName
-agree-same s zero a b h k = refl
-agree-same s (suc n) a b h k = rw (drop-cons s a 0 (omega arith), drop-cons s b 0 (omega arith), add-one a, add-one b) (ap (_&&_ (eqb (getD s a 0) (getD s b 0))) (agree-same s n (suc a) (suc b) (omega arith) (omega arith)))
 
 pub name-skip : (s : List ℕ) (at : ℕ) → skip (name s at) ≡ nextS (readOf (size s at)) (λ n p. rep (λ q. skip (char s q)) n p)
 unfolding name
@@ -52,17 +36,6 @@ pub size-read : (s : List ℕ) (at : ℕ) → readOf (size s at) ≡ nextR (read
 unfolding size
 size-read s at = guard-read (λ n. ltb 0 n) at (byte s at)
 
-pub agree-went : (s : List ℕ) (a b n : ℕ) (z : Bool) → 0 < n → getD s a 0 ≡ getD s b 0 → agree s a b n ≡ z → agree s (a + 1) (b + 1) (n - 1) ≡ z
-agree-went s a b n z h e f = rw (eq-eqb (getD s a 0) (getD s b 0) e) at (sym (agree-step s a b n h)) ∙ f
-
-pub agree-stopped : (s : List ℕ) (a b n : ℕ) (z : Bool) → 0 < n → (getD s a 0 ≡ getD s b 0 → ⊥) → agree s a b n ≡ z → false ≡ z
-agree-stopped s a b n z h e f = rw (ne-eqb (getD s a 0) (getD s b 0) e) at (sym (agree-step s a b n h)) ∙ f
-
-pub agree-done : (s : List ℕ) (a b n : ℕ) (z : Bool) → n ≤ 0 → agree s a b n ≡ z → true ≡ z
-unfolding agree
-agree-done s a b zero z h f = f
-agree-done s a b (suc n) z h f = absurd (omega arith)
-
 pub inside-step : (s : List ℕ) (n at : ℕ) → 0 < n → Inside s n at → (at + 1 + getD s at 0 ≤ length s) × Inside s (n - 1) (at + 1 + getD s at 0)
 unfolding Inside
 inside-step s zero at l h = absurd (omega arith)
@@ -72,19 +45,14 @@ pub raw-length : (s : List ℕ) (x : ℕ) → x + 1 + getD s x 0 ≤ length s �
 unfolding rawName
 raw-length s x h = simp (length-take, length-drop) (omega arith)
 
-same-lengths : (l m : List ℕ) → (length l ≡ length m → ⊥) → eqName l m ≡ false
-unfolding eqName
-same-lengths [] [] d = absurd (d refl)
-same-lengths [] (b ∷ m) d = refl
-same-lengths (a ∷ l) [] d = refl
-same-lengths (a ∷ l) (b ∷ m) d = rw (same-lengths l m (λ e. d (ap suc e))) (and-false (eqb a b))
-
-pub same-sizes : (s : List ℕ) (x at : ℕ) → x + 1 + getD s x 0 ≤ length s → at + 1 + getD s at 0 ≤ length s → (getD s x 0 ≡ getD s at 0 → ⊥) → false ≡ eqName (rawName s x) (rawName s at)
-same-sizes s x at h k d = sym (same-lengths (rawName s x) (rawName s at) (λ e. d (sym (raw-length s x h) ∙ e ∙ raw-length s at k)))
-
-pub same-agree : (s : List ℕ) (x at : ℕ) → x + 1 + getD s x 0 ≤ length s → at + 1 + getD s at 0 ≤ length s → getD s x 0 ≡ getD s at 0 → agree s (x + 1) (at + 1) (getD s x 0) ≡ eqName (rawName s x) (rawName s at)
+-- the bytes of the name that ends at `to`
+pub raw-part : (s : List ℕ) (p to : ℕ) → to ≡ p + 1 + getD s p 0 → take (to - (p + 1)) (drop (p + 1) s) ≡ rawName s p
 unfolding rawName
-same-agree s x at h k e = agree-same s (getD s x 0) (x + 1) (at + 1) h (omega arith) ∙ ap (λ (n : ℕ). eqName (take (getD s x 0) (drop (x + 1) s)) (take n (drop (at + 1) s))) e
+raw-part s p to e = let k : to - (p + 1) ≡ getD s p 0 = omega arith in ap (λ (y : ℕ). take y (drop (p + 1) s)) k
+
+-- two names, compared as parts of the pack
+pub same-raw : (s : List ℕ) (a b : ℕ) → eqName (take (a + 1 + getD s a 0 - (a + 1)) (drop (a + 1) s)) (take (b + 1 + getD s b 0 - (b + 1)) (drop (b + 1) s)) ≡ eqName (rawName s a) (rawName s b)
+same-raw s a b = λ j. eqName (raw-part s a (a + 1 + getD s a 0) refl j) (raw-part s b (b + 1 + getD s b 0) refl j)
 
 pub oneOf-found : (s : List ℕ) (x n at : ℕ) (z r : Bool) → 0 < n → r ≡ true → r ≡ eqName (rawName s x) (rawName s at) → oneOf s x n at ≡ z → true ≡ z
 unfolding oneOf rawNames member

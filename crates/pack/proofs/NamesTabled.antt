@@ -3,16 +3,16 @@ use Prim.Native.Nat.{ℕ, zero, suc, _+_, _-_, _≤_}
 use native.Mathlib.Numerals.{add-one}
 use native.Mathlib.Omega.{arith}
 use mathlib.Core.Bool.{Bool, true, false, cond, not, _||_, _&&_}
-use mathlib.Core.List.{List, [], _∷_, _++_, append-nil, append-assoc}
+use mathlib.Core.List.{List, [], _∷_, _++_}
 use mathlib.Core.Path.{_≡_, refl, sym, ap, subst, _∙_}
 use lib.Dec.{leb}
 use lib.ListN.{length, take, drop, getD, length-append, take-append-drop}
 use borrow.Author.Tests.{leb-true}
 use Rattle.wire.specs.declared.writer.Writer.{Writer}
-use Rattle.wire.specs.Writer.{State, full, st, stateOf}
+use Rattle.wire.specs.Writer.{full, st, stateOf}
 use Rattle.pack.specs.Names.{Name, eqName, member}
 use Rattle.pack.specs.RawNames.{Inside, oneOf, rawEnd, rawName, rawNames}
-use Rattle.pack.specs.Write.{At, Found, Missing, enc, lookup}
+use Rattle.pack.specs.Write.{At, enc, lookup}
 use Rattle.pack.specs.Table.{Roomy, TellsNew, enter, hasRow, indexed, isMissing, rowsMost, tabled, textsFrom, word}
 use Rattle.pack.specs.Intern.{putEntry, started}
 use Rattle.pack.proofs.Tables.{eqName-flip, eqName-refl, eqName-true}
@@ -52,11 +52,6 @@ entered-tells t x l h = go (hasRow t x) refl
     go : (b : Bool) → hasRow t x ≡ b → b ≡ true
     go true e = refl
     go false e = absurd (omega (arith, enter-plain t x l e))
-
--- the bytes of the name that ends at `to`
-pub raw-part : (s : List ℕ) (p to : ℕ) → to ≡ p + 1 + getD s p 0 → take (to - (p + 1)) (drop (p + 1) s) ≡ rawName s p
-unfolding rawName
-raw-part s p to e = let k : to - (p + 1) ≡ getD s p 0 = omega arith in ap (λ (y : ℕ). take y (drop (p + 1) s)) k
 
 -- what n names take
 raw-takes : (s : List ℕ) (n q : ℕ) → Inside s n q → q + length (enc (rawNames s n q)) ≡ rawEnd s n q

@@ -1,13 +1,12 @@
 -- Laws of the code of a table with an index: the turns of its loops, and its answers by their tests.
 use Prim.Native.Nat.{ℕ, zero, suc, _+_, _*_, _-_, _<_, _≤_, _/_, _%_, min}
-use native.Mathlib.Numerals.{add-one}
 use native.Mathlib.Omega.{arith}
 use mathlib.Core.Bool.{true, false, cond}
 use mathlib.Core.Logic.{⊎-elim}
 use mathlib.Core.Path.{_≡_, refl, sym, ap, _∙_}
-use mathlib.Core.List.{List, [], _∷_}
+use mathlib.Core.List.{List}
 use lib.ListN.{length, take, drop, getD, drop-of-length-le, length-drop, length-take, List·getD-eq-default}
-use lib.Seq.{drop-cons, drop-length, take-all}
+use lib.Seq.{drop-length, take-all}
 use lib.Dec.{ltb, leb}
 use borrow.Author.Tests.{lt-ltb, le-ltb, le-leb, lt-leb}
 use Rattle.wire.proofs.Writers.{lt-or-le, take-capped}

@@ -1,15 +1,9 @@
 -- Names as they stand in the bytes, each after its length byte.
 use Prim.Native.Nat.{ℕ, _+_, _≤_, zero, suc}
 use mathlib.Core.List.{List, [], _∷_}
-use mathlib.Core.Bool.{Bool, true, _&&_}
+use mathlib.Core.Bool.{Bool}
 use lib.ListN.{length, getD, take, drop}
-use lib.Dec.{eqb}
 use Rattle.pack.specs.Names.{member}
-
--- the bytes from a on and from b on agree, n of them
-unfoldable pub agree : List ℕ → ℕ → ℕ → ℕ → Bool
-agree s a b zero = true
-agree s a b (suc n) = _&&_ (eqb (getD s a 0) (getD s b 0)) (agree s (a + 1) (b + 1) n)
 
 -- the bytes of a name whose length byte stands at `at`, and of n names one after the other
 unfoldable pub rawName : List ℕ → ℕ → List ℕ

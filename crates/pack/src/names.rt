@@ -1,5 +1,6 @@
 // The name section.
 use crate::intern::put_entry;
+use crate::intern::same;
 use crate::intern::start;
 use crate::record::Pack;
 use crate::table::ROOM;
@@ -16,7 +17,7 @@ ghost use lib.ListN.{length, getD};
 ghost use Rattle.wire.specs.Code.{readOf, skip};
 ghost use Rattle.pack.specs.Names.{eqName};
 ghost use Rattle.pack.specs.Read.{nameByte, char, size, name, namesAfter, nameSection};
-ghost use Rattle.pack.specs.RawNames.{agree, rawName, Inside, oneOf};
+ghost use Rattle.pack.specs.RawNames.{rawName, Inside, oneOf};
 ghost use Rattle.pack.specs.Table.{Roomy, TellsNew};
 
 // A byte of a name: a letter, a digit or an underscore.
@@ -92,36 +93,14 @@ pub fn skip_name(s: &[u8], at: usize) -> Skipped
     Skipped::To(p)
 }
 
-// Whether the n bytes from a on are those from b on.
-pub fn same_bytes(s: &[u8], a: usize, b: usize, n: usize) -> bool
-    requires { ⌜ (a + n ≤ length (now s)) × (b + n ≤ length (now s)) ⌝ }
-    ensures { λ r. ⌜ r ≡ agree (now (s .entry)) a b n ⌝ }
-{
-    let mut i = a;
-    let mut j = b;
-    let mut left = n;
-    while 0 < left {
-        if s[i] != s[j] {
-            return false;
-        }
-        i += 1;
-        j += 1;
-        left -= 1;
-    }
-    true
-}
-
 // Whether the names whose length bytes stand at a and at b are the same.
 pub fn same_name(s: &[u8], a: usize, b: usize) -> bool
     requires { ⌜ (a + 1 + getD (now s) a 0 ≤ length (now s)) × (b + 1 + getD (now s) b 0 ≤ length (now s)) ⌝ }
     ensures { λ r. ⌜ r ≡ eqName (rawName (now (s .entry)) a) (rawName (now (s .entry)) b) ⌝ }
 {
-    let n = s[a] as usize;
-    let m = s[b] as usize;
-    if n != m {
-        return false;
-    }
-    same_bytes(s, a + 1, b + 1, n)
+    let e = a + 1 + s[a] as usize;
+    let f = b + 1 + s[b] as usize;
+    same(&s[a + 1..e], &s[b + 1..f])
 }
 
 // Whether the name at x is one of the count names from `at` on.

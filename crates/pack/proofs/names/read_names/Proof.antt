@@ -4,8 +4,8 @@ use mathlib.Core.Path.{_≡_, _∙_, sym}
 use lib.ListN.{length, length-take}
 use Rattle.wire.proofs.Steps.{stopped}
 use Rattle.pack.specs.Table.{textsFrom}
-use Rattle.pack.proofs.NameLaws.{NamesRead, name-value, names-next, reading-done, reading-more, reading-none, reading-repeated, skip-to}
-use Rattle.pack.proofs.NamesTabled.{Laying, laying-more, laying-none, laying-tells, raw-part}
+use Rattle.pack.proofs.NameLaws.{NamesRead, name-value, names-next, raw-part, reading-done, reading-more, reading-none, reading-repeated, skip-to}
+use Rattle.pack.proofs.NamesTabled.{Laying, laying-more, laying-none, laying-tells}
 use borrow.Author.Needs.{needs}
 use Rattle.pack.proofs.names.read_names.Statement.{statement}
 use Rattle.pack.proofs.names.read_names.Tie as tie
