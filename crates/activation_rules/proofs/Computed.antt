@@ -1,6 +1,5 @@
 -- Packs with what lowering their activations gives, to be held to what the definition computes.
 use mathlib.Core.List.{List, [], _∷_}
-use Prim.Native.Nat.{ℕ}
 use Rattle.wire.specs.Answer
 use Rattle.wire.specs.Bytes
 use Rattle.wire.specs.Decimal

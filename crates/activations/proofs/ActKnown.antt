@@ -27,7 +27,7 @@ use Rattle.activation_rules.specs.MadeNames.{lastVar, other}
 use Rattle.activation_rules.specs.EmptyLeft.{leftless, leftlessBranch, leftlessIn, nameless}
 use Rattle.activation_rules.specs.Defines.{asLocals}
 use Rattle.activation_rules.specs.Unlast.{conditionsOf}
-use Rattle.activation_rules.specs.Types.{firstTyped, lastTyped, portNames, readable, sampleType, valueType}
+use Rattle.activation_rules.specs.Types.{firstTyped, portNames, readable, sampleType, valueType}
 use Rattle.activation_rules.specs.Sought.{Sought, bodies, conditions, expressions, found, rightSides}
 use Rattle.activation_rules.specs.Holders.{held, hold, holderPort}
 use Rattle.activation_rules.specs.Flags.{flagEquations}
@@ -39,9 +39,8 @@ use Rattle.activations.specs.Places.{actAt}
 use Rattle.activations.specs.Walks.{LastIs}
 use Rattle.activations.specs.Asked.{Asked}
 use Rattle.activations.specs.TypesAt.{Coded, TypesAre}
-use Rattle.activations.specs.SoughtAt.{RowIs, Rows, RowsFrom, rowsOf, seekAllT, wordT}
-use Rattle.activations.specs.HoldAt.{Hold, holdFrom}
-use Rattle.activations.specs.HeldAs.{HeldAs, KnownAt}
+use Rattle.activations.specs.SoughtAt.{RowIs, RowsFrom, wordT}
+use Rattle.activations.specs.HeldAs.{KnownAt}
 use Rattle.activations.specs.HoldersAt.{rowItems}
 use Rattle.activations.specs.ScopesAt.{scopesT}
 use Rattle.activations.specs.LocalsAt.{Left, actLocalsT, branchLocalsT, clockLocalsT, flagLocalsT, holderLocalT, holderLocalsT, scopeLocalsT}
@@ -50,12 +49,10 @@ use Rattle.activations.proofs.GuardLaws.{tail-length}
 use Rattle.activations.proofs.IdsKnown.{last-made}
 use Rattle.activations.proofs.TypesKnown.{value-old}
 use Rattle.activations.proofs.ReadsKnown.{or-none}
-use Rattle.activations.proofs.SoughtFound.{all-found}
-use Rattle.activations.proofs.HoldKnown.{hold-is}
 use Rattle.activations.proofs.ScopesKnown.{Fits, FitsIn, scopes-known}
 use Rattle.activations.proofs.FoundOnce.{Has, VarsOnce, found-asked, found-once}
 use Rattle.activations.proofs.RowsKnown.{PortsIn, held-told, held-typed, none-told, old-told, old-typed, ports-known, rows-known}
-use Rattle.activations.proofs.HoldersKnown.{Holds, RowTypes, held-known, hold-holds, holder, holders-told, holders-written, known-types, noHolder, row-coded}
+use Rattle.activations.proofs.HoldersKnown.{Holds, RowTypes, hold-holds, holder, holders-told, holders-written, known-types, noHolder, row-coded}
 use Rattle.activations.proofs.LocalsLeft.{Leaves, clocks-left, flags-left, leaves-more, leaves-none, leaves-one}
 use Rattle.activations.proofs.ScopeLocalsKnown.{branches-left, else-left}
 

@@ -2,23 +2,21 @@
 use Prim.Native.Nat.{ℕ, _+_, _-_, _*_, _≤_}
 use native.Mathlib.Omega.{arith}
 use mathlib.Core.List.{List, [], _∷_, _++_}
-use mathlib.Core.Bool.{Bool, true, false, cond}
-use mathlib.Core.Path.{_≡_, refl, sym, ap, subst, _∙_}
+use mathlib.Core.Bool.{Bool}
+use mathlib.Core.Path.{_≡_, sym, ap, subst, _∙_}
 use lib.ListN.{length, length-replicate, replicate}
-use lib.Dec.{ltb}
 use Rattle.wire.specs.Answer.{counted}
 use Rattle.wire.specs.Bytes.{two}
 use Rattle.wire.specs.Lists.{Bytes}
 use Rattle.wire.specs.Writer.{State}
-use Rattle.pack.specs.Limits.{maxBytes}
 use Rattle.pack.specs.Names.{Name}
 use Rattle.pack.specs.Legal.{place}
 use Rattle.pack.specs.Read.{enumIn}
 use Rattle.pack.specs.Report.{Refusal}
 use Rattle.pack.specs.Syntax.{Activation, Enum, Node, Package}
-use Rattle.pack.specs.Write.{encode, packageItems, shorts}
+use Rattle.pack.specs.Write.{packageItems}
 use Rattle.pack.specs.Intern.{render, table, unwritten}
-use Rattle.pack.specs.Outcome.{Gives, answered, answers, reportOf, reported, sized, writes, written}
+use Rattle.pack.specs.Outcome.{Gives, answered, reported, written}
 use Rattle.pack.specs.Table.{tabled}
 use Rattle.pack.specs.Verdict.{Stands}
 use Rattle.pack.specs.declared.record.Pack.{Pack}

@@ -25,7 +25,6 @@ use Rattle.machines.proofs.SureLaws.{on}
 use Rattle.activation_rules.specs.MadeNames.{scopeAt, valueVar}
 use Rattle.activations.specs.ByNumber.{ontoItems}
 use Rattle.activations.specs.Places.{bodyIn, branchEnd, equationEnd, firstLeftIn, rightSideIn}
-use Rattle.activations.specs.Walks.{writeStep}
 use Rattle.activations.specs.UnlastAt.{unlastT}
 use Rattle.activations.specs.NumbersAt.{idItems, sampleNameT}
 use Rattle.activations.specs.ReadsAt.{joinT, readsT}

@@ -1,7 +1,7 @@
 -- A package without activations is what its lowering writes, and its pack is copied out as it is.
 use Prim.Native.Nat.{ℕ}
 use mathlib.Core.List.{List, []}
-use mathlib.Core.Path.{_≡_, refl, sym, ap, _∙_}
+use mathlib.Core.Path.{_≡_, sym, ap, _∙_}
 use lib.ListN.{length}
 use Rattle.wire.specs.Lists.{Bytes}
 use Rattle.pack.specs.declared.record.Pack.{Pack}

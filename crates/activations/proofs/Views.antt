@@ -7,7 +7,6 @@ use mathlib.Core.Option.{Option, none, some}
 use mathlib.Core.Path.{_≡_, refl, sym, ap, subst, _∙_}
 use lib.ListN.{length, getD, drop}
 use lib.Dec.{eqb}
-use Rattle.pack.specs.declared.exprs.Node.{Node}
 use Rattle.pack.specs.declared.exprs.Node.the-variants as nd
 use Rattle.activations.specs.declared.met.Met.{Met}
 use Rattle.activations.specs.declared.met.Met.the-variants as mt

@@ -1,6 +1,6 @@
 -- Types as tables have them: where a type stands in the pack, 1 for Bool where none stands, 0 for none.
 use Prim.Native.Nat.{ℕ}
-use mathlib.Core.List.{List, []}
+use mathlib.Core.List.{List}
 use mathlib.Core.Bool.{cond}
 use mathlib.Core.Option.{Option, none, some}
 use lib.ListN.{getD}

@@ -19,7 +19,7 @@ ghost use mathlib.Core.Path.{_≡_};
 ghost use Prim.Native.Nat.{_≤_, _<_, _^_};
 ghost use lib.ListN.{length};
 ghost use Rattle.pack.specs.Names.{Name};
-ghost use Rattle.activations.specs.ChecksAt.{assignBranchesT, assignScopeT, assignT, assignedT, checksT, inScopesT, leftlessScopeT, leftlessT, repeatedIn, scopeNameT, unassignedT};
+ghost use Rattle.activations.specs.ChecksAt.{assignBranchesT, assignScopeT, assignT, assignedT, checksT, inScopesT, leftlessScopeT, leftlessT, repeatedIn, scopeNameT};
 
 // The name of a branch that one before it has, the number of names where there is none.
 fn repeated(s: &[u8], names: usize, seen: &mut [u16], at: usize) -> usize

@@ -8,7 +8,7 @@ use crate::types::note_variables;
 use machines::cells::cell;
 ghost use mathlib.Core.List.{List};
 ghost use mathlib.Core.Path.{_≡_};
-ghost use Prim.Native.Nat.{ℕ, _≤_};
+ghost use Prim.Native.Nat.{_≤_};
 ghost use lib.ListN.{length};
 ghost use Rattle.pack.specs.Names.{Name};
 ghost use Rattle.pack.specs.Syntax.{Activation, Enum, Node};

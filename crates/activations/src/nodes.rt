@@ -18,7 +18,7 @@ use wire::writer::put_bytes;
 use wire::writer::put_u16;
 ghost use mathlib.Core.List.{List};
 ghost use mathlib.Core.Path.{_≡_};
-ghost use Prim.Native.Nat.{ℕ, _≤_};
+ghost use Prim.Native.Nat.{_≤_};
 ghost use lib.ListN.{length};
 ghost use Rattle.wire.specs.Writer.{stateOf};
 ghost use Rattle.pack.specs.Names.{Name};
@@ -28,7 +28,7 @@ ghost use Rattle.pack.specs.Intern.{render};
 ghost use Rattle.machines.specs.Sections.{nodeNames};
 ghost use Rattle.activations.specs.Joining.{eachAt, joined};
 ghost use Rattle.activations.specs.Basis.{Basis, Scratch};
-ghost use Rattle.activations.specs.Fates.{Drawn, NodeRead, NodesFrom};
+ghost use Rattle.activations.specs.Fates.{Drawn, NodeRead};
 ghost use Rattle.activations.specs.Bringing.{AllMade, Counted, Settled, headItems, tailItems};
 
 // The node k, which stands at `at`, up to its equations.

@@ -24,7 +24,7 @@ use machines::sure::number;
 use wire::writer::Writer;
 ghost use mathlib.Core.List.{List};
 ghost use mathlib.Core.Path.{_≡_};
-ghost use Prim.Native.Nat.{ℕ, _≤_, _<_, _^_};
+ghost use Prim.Native.Nat.{_≤_, _<_, _^_};
 ghost use lib.ListN.{length};
 ghost use Rattle.pack.specs.Names.{Name};
 ghost use Rattle.activations.specs.LocalsAt.{actLocalsT, branchLocalsT, equationLocalT, leftOf, newLocalT, newLocalsT, sampleLocalT, scopeLocalsT, valueLocalT};

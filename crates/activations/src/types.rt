@@ -21,7 +21,7 @@ ghost use Rattle.wire.specs.Writer.{stateOf, puts};
 ghost use Rattle.pack.specs.Names.{Name};
 ghost use Rattle.activations.specs.Cells.{clearT};
 ghost use Rattle.activations.specs.TypeCodes.{codeOr, outT, typedT, valueTypeT};
-ghost use Rattle.activations.specs.TypesAt.{inputsIn, portT, firstPortT, portsT, portsEnd, firstPortsT, variablesT, typeBytes, plainStart, variantOr, variantAt, firstVariantT, startAt, startT, isMissing};
+ghost use Rattle.activations.specs.TypesAt.{inputsIn, firstPortT, portsT, portsEnd, firstPortsT, variablesT, typeBytes, plainStart, variantOr, variantAt, firstVariantT, startT, isMissing};
 
 // What a holder starts from: nothing, a literal of this tag with value 0, or a name.
 pub enum Start {

@@ -1,10 +1,10 @@
 -- Reading goes on and stays inside: a length, the parts of an answer, the parts of a chart.
-use Prim.Native.Nat.{ℕ, _+_, _*_, _<_, _≤_}
+use Prim.Native.Nat.{ℕ, _<_, _≤_}
 use native.Mathlib.Omega.{arith}
 use mathlib.Core.List.{List}
 use mathlib.Core.Path.{_≡_}
 use lib.ListN.{length}
-use Rattle.wire.specs.Answer.{bind, u16, u32, value}
+use Rattle.wire.specs.Answer.{u16, u32, value}
 use Rattle.wire.proofs.Answers.{bind-value, u16-value}
 use Rattle.charts.specs.Parts.{Onward}
 

@@ -1,9 +1,8 @@
 -- The scratch that a call starts with.
 use Prim.Native.Nat.{ℕ, zero, suc}
 use native.Mathlib.Omega.{arith}
-use mathlib.Core.List.{List}
 use mathlib.Core.Path.{_≡_, refl}
-use lib.ListN.{length, getD, length-replicate, replicate}
+use lib.ListN.{getD, length-replicate, replicate}
 use Rattle.machines.specs.Ends.{Blank}
 use Rattle.machines.specs.Relaid.{Long}
 use Rattle.machines.specs.Filled.{Empty}

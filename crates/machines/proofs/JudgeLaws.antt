@@ -2,10 +2,10 @@
 use Prim.Native.Nat.{ℕ, zero, suc, _+_, _-_, _<_, _≤_}
 use native.Mathlib.Omega.{arith}
 use mathlib.Core.List.{List}
-use mathlib.Core.Bool.{Bool, true, false, cond}
+use mathlib.Core.Bool.{false, cond}
 use mathlib.Core.Path.{_≡_, refl, sym, ap, _∙_}
 use lib.ListN.{getD, take}
-use lib.Dec.{eqb, leb, ltb}
+use lib.Dec.{ltb}
 use borrow.Author.Tests.{eq-eqb, le-leb, le-ltb, lt-leb, lt-ltb, ne-eqb}
 use Rattle.pack.specs.Names.{Name}
 use Rattle.pack.specs.Read.{portIn}
@@ -17,7 +17,7 @@ use Rattle.machines.specs.declared.valid.Checked.the-variants as ck
 use Rattle.machines.specs.declared.walk.Walked.{Walked}
 use Rattle.machines.specs.declared.walk.Walked.the-variants as wk
 use Rattle.machines.specs.Stands.{endOf}
-use Rattle.machines.specs.Sure.{numberIn, with}
+use Rattle.machines.specs.Sure.{numberIn}
 use Rattle.machines.specs.Repeats.{againAt}
 use Rattle.machines.specs.Valid.{checkedRegion}
 use Rattle.machines.specs.Covers.{uncoveredT}

@@ -1,5 +1,5 @@
 -- The table of machines is right: it finds what `machineOf` finds, the last machine of a name.
-use Prim.Native.Nat.{ℕ, zero, suc, _-_, _<_, _≤_, _+_, _%_}
+use Prim.Native.Nat.{ℕ, zero, suc, _-_, _<_, _≤_, _%_}
 use native.Mathlib.Omega.{arith}
 use native.Mathlib.Nat.{mod-eq-of-lt}
 use mathlib.Core.List.{List, [], _∷_}

@@ -3,11 +3,8 @@ use mathlib.Core.List.{List, [], _∷_, _++_, append-assoc, append-nil}
 use mathlib.Core.Bool.{Bool, true, false, cond, _||_}
 use mathlib.Core.Option.{Option, none, some}
 use mathlib.Core.Path.{_≡_, refl, sym, ap, _∙_}
-use Prim.Native.Nat.{ℕ}
-use native.Mathlib.Omega.{arith}
 use Rattle.pack.specs.Names.{Name, eqName, member}
 use Rattle.pack.specs.Syntax.{Drawing, Node, Package}
-use Rattle.pack.specs.Report.{Refusal}
 use Rattle.pack.proofs.Tables.{eqName-ne, eqName-refl, eqName-true, eqName-false}
 use Rattle.machine_rules.specs.Refusals.{unknownOwner}
 use Rattle.machine_rules.specs.Machines.{Judged, Made, accept, judge, lowerEach, madeMachines, merged, nodeFrom, nodeNamed, placed, refuse, refusing, standalone, start}

@@ -4,7 +4,6 @@ use mathlib.Core.List.{List}
 use mathlib.Core.Bool.{false, cond}
 use lib.ListN.{getD, take}
 use lib.Dec.{eqb, leb, ltb}
-use Rattle.pack.specs.Limits.{absent}
 use Rattle.pack.specs.Names.{Name}
 use Rattle.pack.specs.Read.{portIn}
 use Rattle.machines.specs.declared.refusal.Called.{Called}

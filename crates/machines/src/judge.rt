@@ -23,8 +23,7 @@ ghost use Prim.Native.Nat.{_≤_};
 ghost use lib.ListN.{length};
 ghost use Rattle.pack.specs.Names.{Name};
 ghost use Rattle.machines.specs.Ends.{EndsRight, KeptRight};
-ghost use Rattle.machines.specs.Lays.{board};
-ghost use Rattle.machines.specs.Judging.{noName, named as namedOf, refusedBy, stateCalled, calledAt, againCalled, outputsJ, outputsAt, checkedJ, laidJ, judgeAt, boardAt};
+ghost use Rattle.machines.specs.Judging.{noName, named as namedOf, refusedBy, stateCalled, calledAt, againCalled, outputsJ, checkedJ, laidJ, judgeAt, boardAt};
 
 pub fn no_name() -> Called
     ensures { λ r. ⌜ r ≡ noName ⌝ }

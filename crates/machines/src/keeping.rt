@@ -15,7 +15,6 @@ use crate::sure::region;
 use crate::table::to_initial;
 use pack::record::Pack;
 ghost use mathlib.Core.List.{List};
-ghost use mathlib.Core.Path.{_≡_};
 ghost use Prim.Native.Nat.{ℕ, _≤_};
 ghost use lib.ListN.{length};
 ghost use Rattle.machines.specs.Ends.{HeadRead, KeptRight};

@@ -1,5 +1,5 @@
 -- The bounded writer reaches what the items of a package spell, or is full where that is too large.
-use Prim.Native.Nat.{ℕ, zero, suc, _+_, _<_, _≤_, zero-le}
+use Prim.Native.Nat.{ℕ, _+_, _<_, _≤_, zero-le}
 use native.Mathlib.Omega.{arith}
 use mathlib.Core.Bool.{Bool, true, false, cond, _&&_}
 use mathlib.Core.Logic.{_⊎_, inl, inr, ⊎-elim}
@@ -8,7 +8,7 @@ use mathlib.Core.List.{List, [], _∷_, _++_, append-nil, append-assoc}
 use lib.ListN.{length, length-append, replicate, length-replicate}
 use borrow.Author.Tests.{lt-ltb, le-leb, lt-leb}
 use Rattle.wire.specs.Bytes.{two}
-use Rattle.wire.specs.Writer.{State, full, st, puts, swapped}
+use Rattle.wire.specs.Writer.{State, full, st, puts}
 use Rattle.wire.proofs.Writers.{lt-or-le, puts-fit, puts-full}
 use Rattle.pack.specs.Limits.{maxBytes, maxName}
 use Rattle.pack.specs.Names.{Name}

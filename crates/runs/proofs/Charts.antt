@@ -16,7 +16,7 @@ use Rattle.runs.proofs.PremisesTested.{fed, truth}
 use Rattle.runs.proofs.RunTables.{cellAt, inStates, look, tableRun, truths}
 use Rattle.pack.specs.Limits.{maxBytes}
 use Rattle.pack.specs.Outcome.{Outcome, reports, writes}
-use Rattle.pack.specs.Syntax.{Expr, eConst, lBool}
+use Rattle.pack.specs.Syntax.{eConst, lBool}
 use Rattle.activation_rules.specs.MadeNames.{Scope, branch}
 use Rattle.activation_rules.proofs.Computed as acts
 use Rattle.runs.specs.Scopes.{choice}

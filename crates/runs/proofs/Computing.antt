@@ -2,7 +2,6 @@
 use mathlib.Core.List.{List, []}
 use mathlib.Core.Bool.{Bool}
 use mathlib.Core.Option.{Option}
-use mathlib.Core.Path.{_≡_, refl}
 use Prim.Native.Nat.{ℕ}
 use Rattle.wire.specs.Answer
 use Rattle.wire.specs.Bytes

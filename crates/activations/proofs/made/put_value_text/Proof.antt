@@ -1,6 +1,4 @@
 use Rattle.activations.proofs.MadeLaws.{value-text}
-use mathlib.Core.Path.{ap, _∙_}
-use Rattle.wire.specs.Writer.{puts, stateOf}
 use Rattle.machines.proofs.MadeLaws.{put-is}
 use borrow.Author.Needs.{needs}
 use Rattle.activations.proofs.made.put_value_text.Statement.{statement}

@@ -6,7 +6,6 @@ use lib.ListN.{length, drop, length-take}
 use Rattle.wire.specs.Writer.{stateOf}
 use Rattle.pack.specs.Intern.{table, putEntries}
 use Rattle.pack.proofs.Interns.{put-entries-turn, put-entries-done}
-use borrow.Author.Needs.{needs}
 use Rattle.pack.proofs.intern.put_entries.Statement.{statement}
 use Rattle.pack.proofs.intern.put_entries.Tie as tie
 

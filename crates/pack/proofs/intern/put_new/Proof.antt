@@ -1,6 +1,6 @@
 use native.Mathlib.Omega.{arith}
 use lib.ListN.{length-take}
-use mathlib.Core.Path.{_∙_, ap, sym, subst}
+use mathlib.Core.Path.{_∙_, ap, sym}
 use Rattle.wire.specs.Bytes.{two}
 use Rattle.wire.specs.Writer.{puts}
 use Rattle.pack.specs.Write.{At, Missing}

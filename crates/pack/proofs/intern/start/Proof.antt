@@ -1,4 +1,3 @@
-use lib.ListN.{length, take}
 use mathlib.Core.Path.{refl}
 use Rattle.wire.specs.Writer.{stateOf}
 use Rattle.pack.specs.Table.{textsFrom}

@@ -1,5 +1,4 @@
 use native.Mathlib.Omega.{arith}
-use mathlib.Core.Path.{refl}
 use Rattle.pack.specs.Table.{Roomy, textsFrom}
 use borrow.Author.Needs.{needs}
 use Rattle.pack.proofs.names.few_names.Statement.{statement}

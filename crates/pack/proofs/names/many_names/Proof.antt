@@ -1,4 +1,3 @@
-use native.Mathlib.Omega.{arith}
 use mathlib.Core.Path.{refl}
 use Rattle.pack.specs.Table.{Roomy, textsFrom}
 use borrow.Author.Needs.{needs}

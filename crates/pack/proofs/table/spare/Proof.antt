@@ -1,4 +1,3 @@
-use native.Mathlib.Omega.{arith}
 use Rattle.pack.proofs.TableLaws.{spare-many, spare-short, spare-by}
 use borrow.Author.Needs.{needs}
 use Rattle.pack.proofs.table.spare.Statement.{statement}
