@@ -4,7 +4,7 @@ use native.Mathlib.Omega.{arith}
 use mathlib.Core.Bool.{true, false, cond}
 use mathlib.Core.Logic.{⊎-elim}
 use mathlib.Core.Path.{_≡_, refl, sym, ap, _∙_}
-use mathlib.Core.List.{List}
+use mathlib.Core.List.{List, [], _∷_}
 use lib.ListN.{length, take, drop, getD, drop-of-length-le, length-drop, length-take, List·getD-eq-default}
 use lib.Seq.{drop-length, take-all}
 use lib.Dec.{ltb, leb}
@@ -28,6 +28,15 @@ pub hash-turn : (n : Name) (a b c i x : ℕ) → i < length n → x ≡ quadAt n
 hash-turn n a b c i x l e f =
     let z : suc ((length n + 3 - (i + 4)) / 4) ≡ (length n + 3 - i) / 4 = omega arith in
     hash-step n a b c i x ((length n + 3 - (i + 4)) / 4) e f ∙ ap (λ k. hashFrom k a b n i) z
+
+-- what is computed of two names, as the harness has it to make names that share a head
+strongroom-hash : hash (83 ∷ 116 ∷ 114 ∷ 111 ∷ 110 ∷ 103 ∷ 114 ∷ 111 ∷ 111 ∷ 109 ∷ []) ≡ 7809699440884572074
+unfolding hash hashFrom mixed fold quadAt
+strongroom-hash = refl
+
+vault-hash : hash (86 ∷ 97 ∷ 117 ∷ 108 ∷ 116 ∷ []) ≡ 10239672534652100836
+unfolding hash hashFrom mixed fold quadAt
+vault-hash = refl
 
 pub hash-begun : (n : Name) → hashFrom ((length n + 3 - 0) / 4) 0 0 n 0 ≡ hash n
 unfolding hash
