@@ -17,9 +17,10 @@ pub fn node(name: Name) -> Node {
     Node { name, kind: 1, inputs: vec![], outputs: vec![], locals: vec![], equations: vec![] }
 }
 
+const ALPHABET: &[u8; 63] = b"ABCDEFGHIJKLMNOPQRSTUVWXYZabcdefghijklmnopqrstuvwxyz0123456789_";
+
 /// The `i`-th name over digits, letters and underscore, shortest first: no two are equal.
 pub fn short_name(mut i: usize) -> String {
-    const ALPHABET: &[u8; 63] = b"ABCDEFGHIJKLMNOPQRSTUVWXYZabcdefghijklmnopqrstuvwxyz0123456789_";
     let mut text = Vec::new();
     loop {
         text.push(ALPHABET[i % 63]);
@@ -275,6 +276,27 @@ pub fn names_only(size: usize) -> Package {
     names_of(size, (0..).map(short_name))
 }
 
+/// The number under which the library's index keeps a name (crates/pack/specs/Table): twelve bits choose a tree, the
+/// others the way down.
+pub fn index_number(name: &[u8]) -> u64 {
+    let fold = |x: u64| (x + (x >> 32)) & 0xFFFF_FFFF;
+    let (a, b) = name.chunks(4).fold((0, 0), |(a, b), four| {
+        let x = four.iter().rev().fold(0, |x, byte| x << 8 | u64::from(*byte));
+        let c = fold((b + x + 1) * 1_540_483_477);
+        (c, (a + c) & 0xFFFF_FFFF)
+    });
+    a | b << 32
+}
+
+/// Names of five letters, all with the same lowest `bits` of their numbers in the index.
+pub fn crowded(bits: u32) -> impl Iterator<Item = String> {
+    let letters = || ALPHABET.iter().copied();
+    let stems = letters().flat_map(move |a| letters().flat_map(move |b| letters().map(move |c| [a, b, c])));
+    let names = stems.flat_map(move |[a, b, c]| letters().flat_map(move |d| letters().map(move |e| [a, b, c, d, e])));
+    let crowded = names.filter(move |n| index_number(n).trailing_zeros() >= bits);
+    crowded.map(|n| String::from_utf8(n.to_vec()).unwrap())
+}
+
 /// Names of 255 bytes that differ in their last bytes only.
 pub fn alike_names(size: usize) -> Package {
     stem_names(size, 1)
@@ -388,6 +410,19 @@ mod tests {
         };
         let count: usize = (0..200).map(|_| legal(&mut rng)).sum();
         assert!(count > 140, "{count}");
+    }
+
+    /// The numbers that crates/pack/proofs/TableLaws computes of the definition.
+    #[test]
+    fn names_have_the_library_s_numbers() {
+        assert_eq!(index_number(b"Strongroom"), 7_809_699_440_884_572_074);
+        assert_eq!(index_number(b"Vault"), 10_239_672_534_652_100_836);
+    }
+
+    #[test]
+    fn crowded_names_share_a_head() {
+        let all: Vec<String> = crowded(12).take(3).collect();
+        assert!(all.iter().all(|n| index_number(n.as_bytes()) % 4096 == 0), "{all:?}");
     }
 
     #[test]
