@@ -412,6 +412,19 @@ mod tests {
         assert!(count > 140, "{count}");
     }
 
+    /// The numbers that crates/pack/proofs/TableLaws computes of the definition.
+    #[test]
+    fn names_have_the_library_s_numbers() {
+        assert_eq!(index_number(b"Strongroom"), 7_809_699_440_884_572_074);
+        assert_eq!(index_number(b"Vault"), 10_239_672_534_652_100_836);
+    }
+
+    #[test]
+    fn crowded_names_share_a_head() {
+        let all: Vec<String> = crowded(12).take(3).collect();
+        assert!(all.iter().all(|n| index_number(n.as_bytes()) % 4096 == 0), "{all:?}");
+    }
+
     #[test]
     fn short_names_differ() {
         let all: std::collections::HashSet<String> = (0..20_000).map(short_name).collect();

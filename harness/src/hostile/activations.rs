@@ -1,9 +1,9 @@
 //! Packs that cost lowering activations the most for their size, or stand at its limits.
 
-use super::{equation, full, idle_names, long_expr, packs, port, Hostile};
+use super::{equation, full, long_expr, packs, port, Hostile};
 use crate::gen::Builder;
 use crate::package::*;
-use crate::special::{self, node, short_name};
+use crate::special::{self, crowded, node, short_name};
 
 /// Node N with the output o and the input c, and an activation of it that is drawn on.
 struct Sketch {
@@ -126,10 +126,12 @@ pub fn repeated_outputs(count: usize) -> Package {
     k.done(1)
 }
 
-/// A scope that reads so many variables in one equation, after so many idle names.
-pub fn samples(idle: usize, count: usize) -> Package {
+/// A scope that reads so many variables in one equation, after names that nothing uses.
+pub fn samples(idle: impl Iterator<Item = String>, count: usize) -> Package {
     let mut k = Sketch::new();
-    idle_names(&mut k.b, idle);
+    idle.for_each(|n| {
+        k.b.name(&n);
+    });
     let names: Vec<Name> = (0..count).map(|i| k.b.name(&format!("v{i:03}"))).collect();
     k.owner.inputs.extend(names.iter().map(|v| port(*v)));
     let all = k.b.p.expr([Tok::Tuple(count as u16)].into_iter().chain(names.into_iter().map(Tok::Var)));
@@ -235,9 +237,10 @@ pub fn costly() -> Vec<Hostile> {
         ("2,500 branches, the last repeated", branches(2_500, true)),
         ("1,500 branches that read a variable", special::branches(1_500, false)),
         ("60 branches that read a variable", special::branches(60, false)),
-        ("4,500 samples", samples(0, 4_500)),
-        ("800 samples", samples(0, 800)),
-        ("9,000 names, 700 samples", samples(9_000, 700)),
+        ("4,500 samples", samples(std::iter::empty(), 4_500)),
+        ("800 samples", samples(std::iter::empty(), 800)),
+        ("9,000 names, 700 samples", samples((0..9_000).map(short_name), 700)),
+        ("6,000 names of one tree, 700 samples", samples(crowded(12).take(6_000), 700)),
         ("2,500 names of the made kind, 700 samples", made_names(2_500, 700)),
         ("3,500 equations in a chain", chain(3_500)),
         ("700 equations in a chain", chain(700)),
@@ -257,7 +260,7 @@ pub fn quick() -> Vec<Hostile> {
         ("activations by the hundred", copies(300)),
         ("outputs by the thousand", outputs(3_000)),
         ("branches by the thousand", branches(3_500, false)),
-        ("samples by the hundred", samples(9_000, 700)),
+        ("samples by the hundred", samples((0..9_000).map(short_name), 700)),
         ("calls of last by the hundred", lasts(600, false)),
         ("condition of 20 KB", condition(20_000)),
     ])

@@ -3,7 +3,7 @@
 use super::{equation, full, idle_names, long_expr, packs, port, Hostile};
 use crate::gen::Builder;
 use crate::package::*;
-use crate::special::{self, machine, node, short_name, state};
+use crate::special::{self, crowded, machine, node, short_name, state};
 
 /// A state of this name that refines `to`.
 fn refining(name: Name, to: Name) -> State {
@@ -97,6 +97,34 @@ pub fn guards(copies: usize, bytes: usize) -> Package {
     b.done()
 }
 
+/// So many machines that each refine one whose 250 states all refine the machine of this one state.
+fn revisited(mut b: Builder, low: State, count: usize) -> Package {
+    let [top, mid, sub, x] = ["Top", "Mid", "Sub", "x"].map(|n| b.name(n));
+    b.p.machines.push(machine(sub, low.name, vec![low]));
+    let states: Vec<State> = (0..250).map(|k| refining(b.name(&short_name(k + 100)), sub)).collect();
+    b.p.machines.push(machine(mid, states[0].name, states));
+    b.p.machines.extend(vec![machine(top, x, vec![refining(x, mid)]); count]);
+    b.done()
+}
+
+/// The state has so many equations and transitions, each with an expression of so many bytes.
+pub fn revisited_state(equations: usize, transitions: usize, bytes: usize, count: usize) -> Package {
+    let mut b = Builder::new();
+    let [s, o] = ["S", "o"].map(|n| b.name(n));
+    let long = long_expr(&mut b, bytes);
+    let equations = vec![equation(o, long); equations];
+    let transitions = vec![Transition { guard: long, target: s }; transitions];
+    revisited(b, State { equations, transitions, ..state(s) }, count)
+}
+
+/// The state has so many regions, each of one state.
+pub fn revisited_regions(regions: usize, count: usize) -> Package {
+    let mut b = Builder::new();
+    let s = b.name("S");
+    let inner = Region { initial: s, history: false, states: vec![] };
+    revisited(b, State { regions: vec![inner; regions], ..state(s) }, count)
+}
+
 /// Many names, and a machine of many states whose names come last.
 pub fn many_names(names: usize, states: usize) -> Package {
     let mut b = Builder::new();
@@ -107,10 +135,12 @@ pub fn many_names(names: usize, states: usize) -> Package {
     b.done()
 }
 
-/// Many names, and machines of one state that come after them.
-pub fn names_and_machines(names: usize, machines: usize) -> Package {
+/// Names that nothing uses, and machines of one state that come after them.
+pub fn names_and_machines(names: impl Iterator<Item = String>, machines: usize) -> Package {
     let mut b = Builder::new();
-    idle_names(&mut b, names);
+    names.for_each(|n| {
+        b.name(&n);
+    });
     let s = b.name("S000");
     for k in 0..machines {
         let m = b.name(&format!("M{k:03}"));
@@ -243,7 +273,8 @@ pub fn costly() -> Vec<Hostile> {
         ("guard of 50 KB, 255 times", guards(255, 50_000)),
         ("14,000 names, 512 states", many_names(14_000, 512)),
         ("10,000 names, 450 states", many_names(10_000, 450)),
-        ("9,000 names, 450 machines", names_and_machines(9_000, 450)),
+        ("9,000 names, 450 machines", names_and_machines((0..9_000).map(short_name), 450)),
+        ("6,000 names of one tree, 450 machines", names_and_machines(crowded(12).take(6_000), 450)),
         ("9,000 names, 4,000 transitions", names_and_transitions(9_000, 4_000)),
         ("507 long names alike", alike(0, false)),
         ("507 long names alike, 20 machines refused", alike(20, true)),
@@ -251,6 +282,11 @@ pub fn costly() -> Vec<Hostile> {
         ("511 states, 100 machines refused", large_copies(100, true)),
         ("511 states, 2,000 machines", large_copies(2_000, false)),
         ("12,000 regions without states", empty_regions(12_000)),
+        ("right side of 16 KB, visited 75,000 times", revisited_state(1, 0, 16_000, 300)),
+        ("guard of 16 KB, visited 75,000 times", revisited_state(0, 1, 16_000, 300)),
+        ("2,000 equations, visited 75,000 times", revisited_state(2_000, 0, 4, 300)),
+        ("4,000 transitions, visited 75,000 times", revisited_state(0, 4_000, 4, 300)),
+        ("3,000 regions, visited 75,000 times", revisited_regions(3_000, 300)),
         ("500 states, 10,000 transitions to the last", transitions(500, 10_000, false)),
         ("500 states, 10,000 transitions, refused", transitions(500, 10_000, true)),
     ])
