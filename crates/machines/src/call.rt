@@ -42,8 +42,8 @@ ghost use Rattle.machines.specs.Reporting.{EntersAll, bytesT, ofRefused}
 ghost use Rattle.machines.specs.Filled.{Answers, Empty, Filled, OpenedAs, Reports, machineCount};
 ghost use Rattle.machine_rules.specs.Call.{lowerMachines, machinesOf};
 
-// Fills the tables: names, what is kept of states, machines by name, and for each machine where it is drawn, its regions and its node. How many
-// machines are refused.
+// Fills the tables: names, what is kept of states, machines by name, and for each machine where it is drawn, its regions and
+// its node. How many machines are refused.
 fn fill_tables(
     s: &[u8],
     k: Pack,

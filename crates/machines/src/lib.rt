@@ -4,7 +4,7 @@ pub mod sure; // total readers on a checked pack
 pub mod table; // names and machines by name index
 pub mod path; // the machines on the way from the top
 pub mod kept; // what is kept of equations, guards and states
-pub mod ends; // where equations, guards and heads end
+pub mod ends; // looked up where it is kept, read where it is not
 pub mod heads; // what resolving needs of a state
 pub mod walk; // resolving, which counts states and makes no tree
 pub mod keeping; // what is kept, filled
