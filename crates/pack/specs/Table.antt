@@ -54,8 +54,8 @@ word t i = getD t i 0 + 256 * getD t (i + 1) 0
 unfoldable pub putWord : List ℕ → ℕ → ℕ → List ℕ
 putWord t i v = set (set t i (v % 256)) (i + 1) (v / 256 % 256)
 
--- The bits by which a name goes down its tree: any function of its bytes would be right. They are two halves of 32 bits, and each goes
--- into the next of the other, so that names with all bits alike are hard to make.
+-- The bits by which a name goes down its tree: any function of its bytes would be right, and the better names are spread by it the
+-- shorter are the paths. They are two halves of 32 bits, each of which goes into the next of the other.
 
 -- the high half of a product added to its low one
 unfoldable pub fold : ℕ → ℕ
