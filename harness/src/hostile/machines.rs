@@ -284,9 +284,9 @@ pub fn costly() -> Vec<Hostile> {
         ("12,000 regions without states", empty_regions(12_000)),
         ("right side of 16 KB, visited 75,000 times", revisited_state(1, 0, 16_000, 300)),
         ("guard of 16 KB, visited 75,000 times", revisited_state(0, 1, 16_000, 300)),
-        ("2,000 equations, visited 75,000 times", revisited_state(2_000, 0, 4, 300)),
-        ("4,000 transitions, visited 75,000 times", revisited_state(0, 4_000, 4, 300)),
-        ("3,000 regions, visited 5,000 times", revisited_regions(3_000, 20)),
+        ("2,000 equations, visited 2,500 times", revisited_state(2_000, 0, 4, 10)),
+        ("4,000 transitions, visited 2,500 times", revisited_state(0, 4_000, 4, 10)),
+        ("3,000 regions, visited 2,500 times", revisited_regions(3_000, 10)),
         ("500 states, 10,000 transitions to the last", transitions(500, 10_000, false)),
         ("500 states, 10,000 transitions, refused", transitions(500, 10_000, true)),
     ])
