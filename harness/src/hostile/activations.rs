@@ -1,6 +1,6 @@
 //! Packs that cost lowering activations the most for their size, or stand at its limits.
 
-use super::{equation, full, long_expr, packs, port, Hostile};
+use super::{equation, full, idle_names, long_expr, packs, port, short_names, Hostile};
 use crate::gen::Builder;
 use crate::package::*;
 use crate::special::{self, crowded, node, short_name};
@@ -129,9 +129,7 @@ pub fn repeated_outputs(count: usize) -> Package {
 /// A scope that reads so many variables in one equation, after names that nothing uses.
 pub fn samples(idle: impl Iterator<Item = String>, count: usize) -> Package {
     let mut k = Sketch::new();
-    idle.for_each(|n| {
-        k.b.name(&n);
-    });
+    idle_names(&mut k.b, idle);
     let names: Vec<Name> = (0..count).map(|i| k.b.name(&format!("v{i:03}"))).collect();
     k.owner.inputs.extend(names.iter().map(|v| port(*v)));
     let all = k.b.p.expr([Tok::Tuple(count as u16)].into_iter().chain(names.into_iter().map(Tok::Var)));
@@ -237,9 +235,9 @@ pub fn costly() -> Vec<Hostile> {
         ("2,500 branches, the last repeated", branches(2_500, true)),
         ("1,500 branches that read a variable", special::branches(1_500, false)),
         ("60 branches that read a variable", special::branches(60, false)),
-        ("4,500 samples", samples(std::iter::empty(), 4_500)),
-        ("800 samples", samples(std::iter::empty(), 800)),
-        ("9,000 names, 700 samples", samples((0..9_000).map(short_name), 700)),
+        ("4,500 samples", samples(short_names(0), 4_500)),
+        ("800 samples", samples(short_names(0), 800)),
+        ("9,000 names, 700 samples", samples(short_names(9_000), 700)),
         ("6,000 names of one tree, 700 samples", samples(crowded(12).take(6_000), 700)),
         ("2,500 names of the made kind, 700 samples", made_names(2_500, 700)),
         ("3,500 equations in a chain", chain(3_500)),
@@ -260,7 +258,7 @@ pub fn quick() -> Vec<Hostile> {
         ("activations by the hundred", copies(300)),
         ("outputs by the thousand", outputs(3_000)),
         ("branches by the thousand", branches(3_500, false)),
-        ("samples by the hundred", samples((0..9_000).map(short_name), 700)),
+        ("samples by the hundred", samples(short_names(9_000), 700)),
         ("calls of last by the hundred", lasts(600, false)),
         ("condition of 20 KB", condition(20_000)),
     ])

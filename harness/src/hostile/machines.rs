@@ -1,6 +1,6 @@
 //! Packs that cost lowering machines the most for their size, or stand at its limits.
 
-use super::{equation, full, idle_names, long_expr, packs, port, Hostile};
+use super::{equation, full, idle_names, long_expr, packs, port, short_names, Hostile};
 use crate::gen::Builder;
 use crate::package::*;
 use crate::special::{self, crowded, machine, node, short_name, state};
@@ -8,6 +8,12 @@ use crate::special::{self, crowded, machine, node, short_name, state};
 /// A state of this name that refines `to`.
 fn refining(name: Name, to: Name) -> State {
     State { refines: Some(to), ..state(name) }
+}
+
+/// A state of this name with so many regions, all without states.
+fn hollow(name: Name, regions: usize) -> State {
+    let empty = Region { initial: name, history: false, states: vec![] };
+    State { regions: vec![empty; regions], ..state(name) }
 }
 
 /// Machines of one state each, with names of their own.
@@ -121,14 +127,13 @@ pub fn revisited_state(equations: usize, transitions: usize, bytes: usize, count
 pub fn revisited_regions(regions: usize, count: usize) -> Package {
     let mut b = Builder::new();
     let s = b.name("S");
-    let empty = Region { initial: s, history: false, states: vec![] };
-    revisited(b, State { regions: vec![empty; regions], ..state(s) }, count)
+    revisited(b, hollow(s, regions), count)
 }
 
 /// Many names, and a machine of many states whose names come last.
 pub fn many_names(names: usize, states: usize) -> Package {
     let mut b = Builder::new();
-    idle_names(&mut b, names);
+    idle_names(&mut b, short_names(names));
     let m = b.name("M000");
     let states: Vec<State> = (0..states).map(|k| state(b.name(&format!("S{k:03}")))).collect();
     b.p.machines.push(machine(m, states[0].name, states));
@@ -138,9 +143,7 @@ pub fn many_names(names: usize, states: usize) -> Package {
 /// Names that nothing uses, and machines of one state that come after them.
 pub fn names_and_machines(names: impl Iterator<Item = String>, machines: usize) -> Package {
     let mut b = Builder::new();
-    names.for_each(|n| {
-        b.name(&n);
-    });
+    idle_names(&mut b, names);
     let s = b.name("S000");
     for k in 0..machines {
         let m = b.name(&format!("M{k:03}"));
@@ -152,7 +155,7 @@ pub fn names_and_machines(names: impl Iterator<Item = String>, machines: usize) 
 /// Many names, and two states, the first of which has many transitions to the second.
 pub fn names_and_transitions(names: usize, count: usize) -> Package {
     let mut b = Builder::new();
-    idle_names(&mut b, names);
+    idle_names(&mut b, short_names(names));
     let [m, s, t] = ["M000", "S000", "T000"].map(|n| b.name(n));
     let guard = b.p.expr([Tok::Tuple(0)]);
     let first = State { transitions: vec![Transition { guard, target: t }; count], ..state(s) };
@@ -201,8 +204,7 @@ pub fn large_copies(count: usize, refused: bool) -> Package {
 pub fn empty_regions(count: usize) -> Package {
     let mut b = Builder::new();
     let [m, s] = ["M", "S"].map(|n| b.name(n));
-    let empty = Region { initial: s, history: false, states: vec![] };
-    b.p.machines.push(machine(m, s, vec![State { regions: vec![empty; count], ..state(s) }]));
+    b.p.machines.push(machine(m, s, vec![hollow(s, count)]));
     b.done()
 }
 
@@ -273,7 +275,7 @@ pub fn costly() -> Vec<Hostile> {
         ("guard of 50 KB, 255 times", guards(255, 50_000)),
         ("14,000 names, 512 states", many_names(14_000, 512)),
         ("10,000 names, 450 states", many_names(10_000, 450)),
-        ("9,000 names, 450 machines", names_and_machines((0..9_000).map(short_name), 450)),
+        ("9,000 names, 450 machines", names_and_machines(short_names(9_000), 450)),
         ("6,000 names of one tree, 450 machines", names_and_machines(crowded(12).take(6_000), 450)),
         ("9,000 names, 4,000 transitions", names_and_transitions(9_000, 4_000)),
         ("507 long names alike", alike(0, false)),

@@ -33,11 +33,16 @@ fn long_expr(b: &mut Builder, bytes: usize) -> Expr {
     b.p.expr(std::iter::repeat_n(Tok::Pre, bytes - 3).chain([Tok::Tuple(0)]))
 }
 
-/// Names that nothing uses: 1 to 3 bytes each, none of which the builders here take.
-fn idle_names(b: &mut Builder, count: usize) {
-    for k in 0..count {
-        b.name(&short_name(k));
+/// Names that nothing uses.
+fn idle_names(b: &mut Builder, names: impl Iterator<Item = String>) {
+    for name in names {
+        b.name(&name);
     }
+}
+
+/// So many of them, of 1 to 3 bytes, none of which the builders here take.
+fn short_names(count: usize) -> impl Iterator<Item = String> {
+    (0..count).map(short_name)
 }
 
 /// The package with idle names up to a pack of exactly 65,536 bytes.
