@@ -12,7 +12,7 @@ use Rattle.pack.specs.Write.{Item, activationItems, arrays, branchItems,
 use Rattle.wire.specs.Bytes.{two}
 use Rattle.wire.specs.Lists.{All}
 use Rattle.pack.specs.Legal.{Deeper, Formed, FormedActivation, FormedAll, FormedBranch, FormedEquation, FormedMachine, FormedNode, FormedOrigin, FormedPackage, FormedRegions, FormedStates, FormedTransition, ShapedPort}
-use Rattle.pack.proofs.Tables.{all-map, code}
+use Rattle.pack.proofs.Tables.{all-map, all-unit, code}
 use Rattle.pack.proofs.ExprFormats.{Shaped, ShapedAll}
 use Rattle.pack.proofs.PartFormats.{Listed, ShapedActivation, ShapedBranch, ShapedEnum, ShapedEquation, ShapedMachine, ShapedNode, ShapedOrigin, ShapedPackage, ShapedRegions, ShapedStates, ShapedTransition}
 
@@ -260,11 +260,6 @@ fit-activation a o h =
 fit-origin : (o : Origin) → FormedOrigin o → sizeOf (originItems o) ≤ 65536 → ShapedOrigin o
 unfolding originItems sizeOf two
 fit-origin x o h = (o .0, o .1, fit-names (x .branches) (omega arith))
-
-all-unit : {A : Type 0} (xs : List A) → All (λ x. Unit {0}) xs
-unfolding All
-all-unit [] = tt
-all-unit (x ∷ xs) = (tt, all-unit xs)
 
 pub fit-package : (p : Package) → FormedPackage p → sizeOf (packageItems p) ≤ 65536 → ShapedPackage p
 unfolding packageItems

@@ -3,18 +3,21 @@ use Prim.Native.Nat.{ℕ, _+_, _-_, _≤_, _<_, zero, suc}
 use native.Mathlib.Omega.{arith}
 use native.Mathlib.Numerals.{add-one}
 use mathlib.Core.List.{List, [], _∷_, _++_}
-use mathlib.Core.Bool.{Bool, true, false, not, cond, _||_}
+use mathlib.Core.Bool.{Bool, true, false, not, cond, _||_, _&&_, and-assoc, and-eq-true-iff, and-true, or-assoc}
+use mathlib.Core.Logic.{⊎-elim}
 use mathlib.Core.Path.{_≡_, refl, sym, ap, _∙_}
-use lib.ListN.{length, getD, take, drop, length-take, length-drop}
+use lib.ListN.{length, getD, take, drop, drop-of-length-le, length-take, length-drop}
 use lib.Seq.{drop-cons}
-use lib.Dec.{ltb}
+use lib.Dec.{eqb, leb, ltb}
+use borrow.Author.Tests.{le-leb, le-ltb, leb-true, lt-leb, lt-ltb, ne-eqb}
 use Rattle.wire.specs.declared.answer.Read.the-variants as rd
 use Rattle.wire.specs.declared.answer.Skipped.the-variants as sk
 use Rattle.wire.specs.Answer.{Answer, bind, byte, deep, early, guard, illegal, many, u16, value}
-use Rattle.pack.specs.Read.{char, name, nameByte, nameSection, namesAfter, size}
-use Rattle.wire.specs.Code.{next, nextR, nextS, readOf, rep, skip}
+use Rattle.pack.specs.Read.{char, name, nameByte, nameBytes, nameSection, namesAfter, size}
+use Rattle.wire.specs.Code.{next, nextR, nextS, readOf, skip}
 use Rattle.wire.proofs.Answers.{bind-value, byte-value, guard-value}
-use Rattle.wire.proofs.Codes.{guard-read, guard-skip, skip-bindS, skip-many}
+use Rattle.wire.proofs.Codes.{guard-read, guard-skip, skip-bindS}
+use Rattle.wire.proofs.Writers.{lt-or-le}
 use Rattle.pack.specs.Names.{eqName, member}
 use Rattle.pack.specs.RawNames.{Inside, oneOf, rawEnd, rawName, rawNames}
 
@@ -24,13 +27,80 @@ or-true b x e = rw e
 or-false : (b x : Bool) → b ≡ false → x ≡ b || x
 or-false b x e = rw e
 
-pub name-skip : (s : List ℕ) (at : ℕ) → skip (name s at) ≡ nextS (readOf (size s at)) (λ n p. rep (λ q. skip (char s q)) n p)
+-- the bytes of a name as ranges
+abbrev ranges : ℕ → Bool
+ranges b = leb 48 b && ltb b 58 || (leb 65 b && ltb b 91 || (eqb b 95 || leb 97 b && ltb b 123))
+
+name-ranges : (b : ℕ) → nameByte b ≡ ranges b
+unfolding nameByte
+name-ranges b = ⊎-elim below-48 (λ a. ⊎-elim (below-58 a) (λ c. ⊎-elim (below-65 c) (λ d. ⊎-elim (below-91 d) (λ e. ⊎-elim (below-97 e) above (lt-or-le b 97)) (lt-or-le b 91)) (lt-or-le b 65)) (lt-or-le b 58)) (lt-or-le b 48)
+  where
+    below-48 : b < 48 → nameByte b ≡ ranges b
+    below-48 h = simp (lt-ltb b 48 h, lt-leb 48 b h, lt-leb 65 b (omega arith), lt-leb 97 b (omega arith), ne-eqb b 95 (λ e. omega arith))
+
+    below-58 : 48 ≤ b → b < 58 → nameByte b ≡ ranges b
+    below-58 l h = simp (le-ltb b 48 l, le-leb 48 b l, lt-ltb b 58 h)
+
+    below-65 : 58 ≤ b → b < 65 → nameByte b ≡ ranges b
+    below-65 l h = simp (le-ltb b 48 (omega arith), le-leb 48 b (omega arith), le-ltb b 58 l, lt-ltb b 65 h, lt-leb 65 b h, lt-leb 97 b (omega arith), ne-eqb b 95 (λ e. omega arith))
+
+    below-91 : 65 ≤ b → b < 91 → nameByte b ≡ ranges b
+    below-91 l h = simp (le-ltb b 48 (omega arith), le-leb 48 b (omega arith), le-ltb b 58 (omega arith), le-ltb b 65 l, le-leb 65 b l, lt-ltb b 91 h)
+
+    line : (t : Bool) → cond t true false ≡ t || false
+    line true = refl
+    line false = refl
+
+    below-97 : 91 ≤ b → b < 97 → nameByte b ≡ ranges b
+    below-97 l h = simp (le-ltb b 48 (omega arith), le-leb 48 b (omega arith), le-ltb b 58 (omega arith), le-ltb b 65 (omega arith), le-leb 65 b (omega arith), le-ltb b 91 l, lt-ltb b 97 h, lt-leb 97 b h) (line (eqb b 95))
+
+    above : 97 ≤ b → nameByte b ≡ ranges b
+    above l = simp (le-ltb b 48 (omega arith), le-leb 48 b (omega arith), le-ltb b 58 (omega arith), le-ltb b 65 (omega arith), le-leb 65 b (omega arith), le-ltb b 91 (omega arith), le-ltb b 97 l, le-leb 97 b l, ne-eqb b 95 (λ e. omega arith))
+
+pub name-told : (b : ℕ) (digit upper lower : Bool) → digit ≡ leb 48 b && ltb b 58 → upper ≡ leb 65 b && ltb b 91 → lower ≡ leb 97 b && ltb b 123 → ((digit || upper) || eqb b 95) || lower ≡ nameByte b
+name-told b digit upper lower x y z = (λ i. ((x i || y i) || eqb b 95) || z i) ∙ or-assoc (leb 48 b && ltb b 58 || leb 65 b && ltb b 91) (eqb b 95) (leb 97 b && ltb b 123) ∙ or-assoc (leb 48 b && ltb b 58) (leb 65 b && ltb b 91) (eqb b 95 || leb 97 b && ltb b 123) ∙ sym (name-ranges b)
+
+-- the bytes of a name, one more and all
+pub bytes-more : (n : List ℕ) (i : ℕ) (a r : Bool) → i < length n → r ≡ nameByte (getD n i 0) → a && nameBytes (drop i n) ≡ nameBytes n → a && r && nameBytes (drop (i + 1) n) ≡ nameBytes n
+unfolding nameBytes
+bytes-more n i a r l e h =
+    and-assoc a r _
+    ∙ ap (λ (b : Bool). a && (b && nameBytes (drop (i + 1) n))) e
+    ∙ ap (λ (k : ℕ). a && (nameByte (getD n i 0) && nameBytes (drop k n))) (add-one i)
+    ∙ sym (ap (λ (x : List ℕ). a && nameBytes x) (drop-cons n i 0 l)) ∙ h
+
+pub bytes-done : (n : List ℕ) (i : ℕ) (a : Bool) → length n ≤ i → a && nameBytes (drop i n) ≡ nameBytes n → a ≡ nameBytes n
+unfolding nameBytes
+bytes-done n i a l h = sym (and-true a) ∙ sym (ap (λ (x : List ℕ). a && nameBytes x) (drop-of-length-le n l)) ∙ h
+
+pub name-skip : (s : List ℕ) (at : ℕ) → skip (name s at) ≡ nextS (readOf (size s at)) (λ n p. skip (many (char s) n p))
 unfolding name
-name-skip s at = skip-bindS (size s at) _ _ (λ n p. skip-many (char s) n p)
+name-skip s at = skip-bindS (size s at) _ _ (λ n p. refl)
 
 pub char-skip : (s : List ℕ) (at : ℕ) → skip (char s at) ≡ nextS (readOf (byte s at)) (λ v q. cond (nameByte v) (sk.To q) (sk.Illegal at))
 unfolding char
 char-skip s at = guard-skip nameByte at (byte s at)
+
+char-there : (s : List ℕ) (at : ℕ) → at < length s → nameByte (getD s at 0) ≡ true → char s at ≡ value (getD s at 0) (at + 1)
+unfolding char byte guard
+char-there s at l e = rw (lt-ltb at (length s) l, e)
+
+chars-there : (s : List ℕ) (n at : ℕ) → at + n ≤ length s → nameBytes (take n (drop at s)) ≡ true → many (char s) n at ≡ value (take n (drop at s)) (at + n)
+unfolding many bind nameBytes
+chars-there s zero at l e = ap (value []) (omega arith)
+chars-there s (suc n) at l e =
+    let d : drop at s ≡ getD s at 0 ∷ drop (at + 1) s = rw add-one (drop-cons s at 0 (omega arith)) in
+    let b : (nameByte (getD s at 0) ≡ true) × (nameBytes (take n (drop (at + 1) s)) ≡ true) = and-eq-true-iff _ _ .0 (sym (ap (λ (x : List ℕ). nameBytes (take (suc n) x)) d) ∙ e) in
+    let k : at + 1 + n ≡ at + suc n = omega arith in
+    rw (char-there s at (omega arith) (b .0), chars-there s n (at + 1) (omega arith) (b .1), d, k)
+
+-- characters that are all there and all a name's
+pub spelled-skip : (s : List ℕ) (n at : ℕ) → leb (at + n) (length s) && nameBytes (take n (drop at s)) ≡ true → skip (many (char s) n at) ≡ sk.To (at + n)
+unfolding skip
+spelled-skip s n at h = let b = and-eq-true-iff (leb (at + n) (length s)) _ .0 h in ap skip (chars-there s n at (leb-true _ _ (b .0)) (b .1))
+
+pub spelled-inside : (s : List ℕ) (n at : ℕ) → leb (at + n) (length s) && nameBytes (take n (drop at s)) ≡ true → at + n ≤ length s
+spelled-inside s n at h = leb-true _ _ (and-eq-true-iff _ _ .0 h .0)
 
 pub size-read : (s : List ℕ) (at : ℕ) → readOf (size s at) ≡ nextR (readOf (byte s at)) (λ v q. cond (ltb 0 v) (rd.Is v q) (rd.Illegal at))
 unfolding size

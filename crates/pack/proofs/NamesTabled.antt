@@ -1,8 +1,8 @@
 -- Names that are read into a table: a name that the table does not have is none of those before it.
-use Prim.Native.Nat.{ℕ, zero, suc, _+_, _-_, _≤_}
+use Prim.Native.Nat.{ℕ, zero, suc, _+_, _≤_}
 use native.Mathlib.Numerals.{add-one}
 use native.Mathlib.Omega.{arith}
-use mathlib.Core.Bool.{Bool, true, false, cond, not, _||_, _&&_}
+use mathlib.Core.Bool.{Bool, true, false, cond, not, _||_, and-eq-true-iff}
 use mathlib.Core.List.{List, [], _∷_, _++_}
 use mathlib.Core.Path.{_≡_, refl, sym, ap, subst, _∙_}
 use lib.Dec.{leb}
@@ -16,7 +16,7 @@ use Rattle.pack.specs.Write.{At, enc, lookup}
 use Rattle.pack.specs.Table.{Roomy, TellsNew, enter, hasRow, indexed, isMissing, rowsMost, tabled, textsFrom, word}
 use Rattle.pack.specs.Intern.{putEntry, started}
 use Rattle.pack.proofs.Tables.{eqName-flip, eqName-refl, eqName-true}
-use Rattle.pack.proofs.TableIndex.{enter-length, enter-plain, length-tabled, rowed, seek-tabled, tabled-more, tabled-none, word-append}
+use Rattle.pack.proofs.TableIndex.{enter-length, enter-plain, length-tabled, rowed, seek-tabled, tabled-more, tabled-none, texts-is, word-append}
 use Rattle.pack.proofs.Interns.{entry-enters, started-blank}
 use Rattle.pack.proofs.NameLaws.{raw-length, rawNames-more}
 
@@ -86,14 +86,6 @@ laying-table s t q n w h = state-table t (tabled (rawNames s n q)) w 0 (textsFro
 raw-more : (s x : List ℕ) (n p q : ℕ) → rawEnd s n q ≡ p → x ≡ rawName s p → rawNames s n q ++ (x ∷ []) ≡ rawNames s (n + 1) q
 raw-more s x n p q e f = ap (λ (z : Name). rawNames s n q ++ (z ∷ [])) (f ∙ ap (rawName s) (sym e)) ∙ sym (rawNames-more s n q) ∙ ap (λ (k : ℕ). rawNames s k q) (sym (add-one n))
 
-texts-many : textsFrom ≡ 112642
-unfolding textsFrom
-texts-many = refl
-
-and-both : (a b : Bool) → (a && b) ≡ true → (a ≡ true) × (b ≡ true)
-and-both true b e = (refl, e)
-and-both false b e = let z : _≡_ {A = ℕ} 0 1 = cc in absurd (omega arith)
-
 pub laying-more : (s t t′ x : List ℕ) (q n p to : ℕ) (w w′ : Writer) → Inside s n q → rawEnd s n q ≡ p → x ≡ rawName s p → to ≡ p + 1 + getD s p 0 → to ≤ length s
     → ((o : List ℕ) → stateOf o t′ w′ ≡ putEntry x (stateOf o t w)) → Laying s q n t w → Laying s q (n + 1) t′ w′
 laying-more s t t′ x q n p to w w′ i e f g l r h =
@@ -112,12 +104,12 @@ pub laying-tells : (s t t′ x : List ℕ) (q n p to : ℕ) (w w′ : Writer) �
     → ((o : List ℕ) → stateOf o t′ w′ ≡ putEntry x (stateOf o t w)) → length t′ ≡ length t → (textsFrom + 65536 ≤ length t → Laying s q n t w) → TellsNew s p n q t′
 unfolding TellsNew indexed oneOf
 laying-tells s t t′ x q n p to w w′ i e f g l r k h d =
-    let a = and-both (leb (textsFrom + 65536) (length t′)) (leb (word t′ 0) rowsMost) d in
+    let a = and-eq-true-iff (leb (textsFrom + 65536) (length t′)) (leb (word t′ 0) rowsMost) .0 d in
     let b = h (omega (arith, leb-true (textsFrom + 65536) (length t′) (a .0))) in
     let m = laying-more s t t′ x q n p to w w′ i e f g l r b in
     let T = tabled (rawNames s n q) in
     let y : rawNames s n q ++ (x ∷ []) ≡ rawNames s (n + 1) q = raw-more s x n p q e f in
     let z : take (w′ .made) t′ ≡ enter x T = laying-table s t′ q (n + 1) w′ m ∙ ap tabled (sym y) ∙ tabled-more (rawNames s n q) x in
-    let u : word t′ 0 ≡ word (enter x T) 0 = sym (ap (λ (v : List ℕ). word v 0) (take-append-drop (w′ .made) t′)) ∙ ap (λ (v : List ℕ). word (v ++ drop (w′ .made) t′) 0) z ∙ word-append (enter x T) (drop (w′ .made) t′) 0 (omega (arith, enter-length x T, length-tabled (rawNames s n q), texts-many)) in
+    let u : word t′ 0 ≡ word (enter x T) 0 = sym (ap (λ (v : List ℕ). word v 0) (take-append-drop (w′ .made) t′)) ∙ ap (λ (v : List ℕ). word (v ++ drop (w′ .made) t′) 0) z ∙ word-append (enter x T) (drop (w′ .made) t′) 0 (omega (arith, enter-length x T, length-tabled (rawNames s n q), texts-is)) in
     ap (λ (v : Name). member v (rawNames s n q)) (sym f)
     ∙ row-tells (rawNames s n q) x (entered-tells T x (omega (arith, length-tabled (rawNames s n q))) (omega (arith, leb-true (word t′ 0) rowsMost (a .1))))

@@ -13,7 +13,7 @@ use Rattle.pack.specs.Write.{Item, activationItems, arrays, branchItems,
 use Rattle.wire.specs.Bytes.{bytes, two}
 use Rattle.wire.specs.Lists.{All, Bytes}
 use Rattle.wire.proofs.Formats.{Below}
-use Rattle.pack.proofs.Tables.{all-append, all-map, code, nameByte-small}
+use Rattle.pack.proofs.Tables.{all-append, all-map, all-unit, code, nameByte-small}
 use Rattle.pack.specs.Legal.{Deeper, Formed, FormedActivation, FormedAll, FormedBranch, FormedEquation, FormedMachine, FormedNode, FormedOrigin, FormedPackage, FormedRegions, FormedStates, FormedTransition, Legal, LegalLit, LegalName, Ready, ShapedPort, completed}
 use Rattle.pack.proofs.HeadFormats.{flag-small}
 use Rattle.pack.proofs.ExprFormats.{bin-down, iter-down, un-down}
@@ -182,11 +182,6 @@ octets-activation a o = octets-append (list portItems (a .outputs)) _ (octets-po
 octets-origin : (x : Origin) → FormedOrigin x → Octets (originItems x)
 unfolding originItems Octets
 octets-origin x o = let h = origin-down (x .kind) .0 in (small-one _ (omega arith), (all-append (Below 256) (two (x .first)) (two (x .after)) (small-two (x .first)) (small-two (x .after)), octets-names (x .branches)))
-
-all-unit : {A : Type 0} (xs : List A) → All (λ x. Unit {0}) xs
-unfolding All
-all-unit [] = tt
-all-unit (x ∷ xs) = (tt, all-unit xs)
 
 octets-enum : (e : Enum) → Unit {0} → Octets (enumItems e)
 unfolding enumItems Octets

@@ -1,7 +1,7 @@
 -- The index of a table is right: what is found in its trees is what is found by looking at all names.
 use Prim.Native.Nat.{ℕ, zero, suc, _+_, _*_, _-_, _<_, _≤_, _/_, _%_}
 use native.Mathlib.Omega.{arith}
-use mathlib.Core.Bool.{Bool, true, false, cond, _&&_}
+use mathlib.Core.Bool.{Bool, true, false, cond, and-eq-true-iff}
 use mathlib.Core.Logic.{_⊎_, inl, inr, ⊎-elim}
 use mathlib.Core.Path.{_≡_, refl, sym, ap, subst, _∙_}
 use mathlib.Core.List.{List, [], _∷_, _++_, append-nil, append-assoc}
@@ -154,7 +154,7 @@ pub record Right (t : List ℕ) (ns : List Name) : Type 0 where
   pub texts : drop textsFrom t ≡ enc ns
   pub index : (rowsMost < word t 0) ⊎ Indexed t ns
 
-texts-is : textsFrom ≡ 112642
+pub texts-is : textsFrom ≡ 112642
 unfolding textsFrom
 texts-is = refl
 
@@ -244,10 +244,6 @@ seek-right t ns r n = ⊎-elim
 
 -- ONE NAME MORE
 
-and-both : (a b : Bool) → a && b ≡ true → (a ≡ true) × (b ≡ true)
-and-both true b e = (refl, e)
-and-both false b e = absurd (let z : _≡_ {A = ℕ} 0 1 = cc in omega arith)
-
 pub record Rowed (t : List ℕ) (n : Name) : Type 0 where
   pub few : word t 0 < rowsMost
   pub long : textsFrom ≤ length t
@@ -271,8 +267,8 @@ free-is pl.Lost e R g = absurd (let z : _≡_ {A = ℕ} 0 1 = cc in omega arith)
 spare-row : (t : List ℕ) (n : Name) → spare t ≡ true → (i : ℕ) → placeOf t n ≡ pl.Free i → Rowed t n
 unfolding spare
 spare-row t n e i z =
-    let a = and-both _ _ e in
-    let b = and-both _ _ (a .1) in
+    let a = and-eq-true-iff _ _ .0 e in
+    let b = and-eq-true-iff _ _ .0 (a .1) in
     let l = ltb-true _ _ (a .0) in
     record { few = l; long = leb-true _ _ (b .0); short = ltb-true _ _ (b .1); cell = i; free = z; new = free-missing t n i l z }
 

@@ -23,11 +23,16 @@ hash-step : (n : Name) (a b c i x k : ℕ) → x ≡ quadAt n i → c ≡ fold (
 unfolding hashFrom mixed
 hash-step n a b c i x k e f = rw (f, e)
 
-pub hash-turn : (n : Name) (a b c i x : ℕ) → i < length n → x ≡ quadAt n i → c ≡ fold ((b + x + 1) * 1540483477)
-    → hashFrom ((length n + 3 - (i + 4)) / 4) c ((a + c) % 4294967296) n (i + 4) ≡ hashFrom ((length n + 3 - i) / 4) a b n i
-hash-turn n a b c i x l e f =
+-- the same where of the second half one more is kept
+pub hash-turn : (n : Name) (a b c i x : ℕ) → i < length n → 0 < b → x ≡ quadAt n i → c ≡ fold ((b + x) * 1540483477)
+    → hashFrom ((length n + 3 - (i + 4)) / 4) c ((a + c) % 4294967296 + 1 - 1) n (i + 4) ≡ hashFrom ((length n + 3 - i) / 4) a (b - 1) n i
+hash-turn n a b c i x l g e f =
     let z : suc ((length n + 3 - (i + 4)) / 4) ≡ (length n + 3 - i) / 4 = omega arith in
-    hash-step n a b c i x ((length n + 3 - (i + 4)) / 4) e f ∙ ap (λ k. hashFrom k a b n i) z
+    let u : (a + c) % 4294967296 + 1 - 1 ≡ (a + c) % 4294967296 = omega arith in
+    let v : b + x ≡ b - 1 + x + 1 = omega arith in
+    ap (λ y. hashFrom ((length n + 3 - (i + 4)) / 4) c y n (i + 4)) u
+    ∙ hash-step n a (b - 1) c i x ((length n + 3 - (i + 4)) / 4) e (f ∙ ap (λ y. fold (y * 1540483477)) v)
+    ∙ ap (λ k. hashFrom k a (b - 1) n i) z
 
 -- what is computed of two names, as the harness has it to make names that share a head
 strongroom-hash : hash (83 ∷ 116 ∷ 114 ∷ 111 ∷ 110 ∷ 103 ∷ 114 ∷ 111 ∷ 111 ∷ 109 ∷ []) ≡ 7809699440884572074

@@ -1,5 +1,5 @@
 -- The table of names: places, items under a table, and how spelling completes it.
-use Prim.Native.Nat.{ℕ, _+_, _≤_, _<_, _-_, zero, suc}
+use Prim.Native.Nat.{ℕ, _+_, _≤_, _<_, zero, suc}
 use native.Mathlib.Omega.{arith}
 use mathlib.Core.List.{List, [], _∷_, _++_, append-assoc, append-nil}
 use mathlib.Core.Bool.{Bool, true, false, cond, not, _||_, _&&_}
@@ -219,6 +219,11 @@ pub all-map : {A : Type 0} (P Q : A → Type 0) (xs : List A) → ((x : A) → P
 unfolding All
 all-map P Q [] f a = tt
 all-map P Q (y ∷ xs) f a = (f y (a .0), all-map P Q xs f (a .1))
+
+pub all-unit : {A : Type 0} (xs : List A) → All (λ x. Unit {0}) xs
+unfolding All
+all-unit [] = tt
+all-unit (x ∷ xs) = (tt, all-unit xs)
 
 pub member-append : (x : Name) (t u : List Name) → member x t ≡ false → member x u ≡ false → member x (t ++ u) ≡ false
 unfolding member

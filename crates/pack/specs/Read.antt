@@ -1,7 +1,7 @@
 -- A pack's six sections, read in order.
 use Prim.Native.Nat.{ℕ, _+_, _-_, zero, suc}
 use mathlib.Core.List.{List, [], _∷_, _++_}
-use mathlib.Core.Bool.{Bool, true, false, cond, not, _||_}
+use mathlib.Core.Bool.{Bool, true, false, cond, not, _||_, _&&_}
 use mathlib.Core.Option.{Option, none, some}
 use lib.ListN.{length, getD}
 use lib.Dec.{ltb, eqb}
@@ -14,6 +14,11 @@ use Rattle.pack.specs.Forms.{exprAt, exprsOf, firstType, flagOf, nameAt,
 -- a letter, a digit or an underscore
 unfoldable pub nameByte : ℕ → Bool
 nameByte b = cond (ltb b 48) false (cond (ltb b 58) true (cond (ltb b 65) false (cond (ltb b 91) true (cond (eqb b 95) true (cond (ltb b 97) false (ltb b 123))))))
+
+-- whether all bytes are such
+unfoldable pub nameBytes : List ℕ → Bool
+nameBytes [] = true
+nameBytes (b ∷ bs) = nameByte b && nameBytes bs
 
 -- a bad character is illegal at it
 unfoldable pub char : List ℕ → ℕ → Answer ℕ

@@ -1,4 +1,5 @@
 // Names by number: the old names of a pack, then new ones in order of first use. A table is names, each after its length byte.
+use crate::finish::append;
 use crate::record::Pack;
 use crate::table::TEXTS;
 use crate::table::note;
@@ -14,7 +15,7 @@ ghost use mathlib.Core.Path.{_≡_};
 ghost use mathlib.Core.List.{List, []};
 ghost use Prim.Native.Nat.{ℕ, _+_, _≤_, _<_, _^_, min};
 ghost use lib.ListN.{length, getD, take, replicate};
-ghost use Rattle.wire.specs.Writer.{stateOf};
+ghost use Rattle.wire.specs.Writer.{stateOf, puts};
 ghost use Rattle.pack.specs.Names.{eqName};
 ghost use Rattle.pack.specs.Write.{lookup};
 ghost use Rattle.pack.specs.Table.{tabled};
@@ -94,6 +95,29 @@ pub fn start() -> Writer
     }
 }
 
+// The bytes of src, copied at once where there is room for all of them.
+fn put_text(src: &[u8], out: &mut [u8], w: Writer) -> Writer
+    ensures { λ r. ⌜ ((m : List ℕ) → stateOf (now (out .exit)) m r ≡ puts (now (src .entry)) (stateOf (now (out .entry)) m w)) ⌝ }
+{
+    let at = w.at;
+    let full = w.full;
+    if full {
+        return w;
+    }
+    if out.len() < at {
+        return put_bytes(src, out, w);
+    }
+    if out.len() - at < src.len() {
+        return put_bytes(src, out, w);
+    }
+    let end = append(src, out, at);
+    Writer {
+        at: end,
+        made: w.made,
+        full: false,
+    }
+}
+
 // A name more in the table of new names, after its length byte.
 pub fn put_entry(n: &[u8], made: &mut [u8], w: Writer) -> Writer
     requires { ⌜ length (now n) ≤ 255 ⌝ }
@@ -102,7 +126,7 @@ pub fn put_entry(n: &[u8], made: &mut [u8], w: Writer) -> Writer
     let end = capped(made.len(), 0, w.made);
     note(&mut made[..end], n);
     let a = put_byte(made, turned(w), n.len() as u8);
-    turned(put_bytes(n, made, a))
+    turned(put_text(n, made, a))
 }
 
 // The names of src entered in order.

@@ -11,38 +11,46 @@ use wire::answer::past;
 use wire::number::read_byte;
 use wire::number::read_u16;
 ghost use mathlib.Core.Path.{_≡_};
+ghost use mathlib.Core.Bool.{_&&_};
 ghost use mathlib.Core.List.{[]};
 ghost use Prim.Native.Nat.{_+_, _≤_};
-ghost use lib.ListN.{length, getD};
+ghost use lib.Dec.{leb, ltb};
+ghost use lib.ListN.{length, getD, take, drop};
+ghost use Rattle.wire.specs.Answer.{many};
 ghost use Rattle.wire.specs.Code.{readOf, skip};
 ghost use Rattle.pack.specs.Names.{eqName};
-ghost use Rattle.pack.specs.Read.{nameByte, char, size, name, namesAfter, nameSection};
+ghost use Rattle.pack.specs.Read.{nameByte, nameBytes, char, size, name, namesAfter, nameSection};
 ghost use Rattle.pack.specs.RawNames.{rawName, Inside, oneOf};
 ghost use Rattle.pack.specs.Table.{Roomy, TellsNew};
 
-// A byte of a name: a letter, a digit or an underscore.
+// Whether b is one of the numbers from low on and below high.
+fn within(b: usize, low: usize, high: usize) -> bool
+    ensures { λ r. ⌜ r ≡ leb low b && ltb b high ⌝ }
+{
+    (low <= b) & (b < high)
+}
+
+// A byte of a name: a letter, a digit or an underscore. No test is left out where one holds: what is compiled then has no branches.
 pub fn name_byte(b: usize) -> bool
     ensures { λ r. ⌜ r ≡ nameByte b ⌝ }
 {
-    if b < 48 {
-        return false;
+    let digit = within(b, 48, 58);
+    let upper = within(b, 65, 91);
+    let lower = within(b, 97, 123);
+    digit | upper | (b == 95) | lower
+}
+
+// Whether all bytes of n are bytes of a name. The loop has no way out but its end, so that many bytes are looked at in one step.
+fn name_bytes(n: &[u8]) -> bool
+    ensures { λ r. ⌜ r ≡ nameBytes (now (n .entry)) ⌝ }
+{
+    let mut all = true;
+    let mut i = 0;
+    while i < n.len() {
+        all = all & name_byte(n[i] as usize);
+        i += 1;
     }
-    if b < 58 {
-        return true;
-    }
-    if b < 65 {
-        return false;
-    }
-    if b < 91 {
-        return true;
-    }
-    if b == 95 {
-        return true;
-    }
-    if b < 97 {
-        return false;
-    }
-    b < 123
+    all
 }
 
 pub fn skip_char(s: &[u8], at: usize) -> Skipped
@@ -69,17 +77,24 @@ pub fn read_size(s: &[u8], at: usize) -> Read
     if 0 < n { r } else { Read::Illegal(at) }
 }
 
-pub fn skip_name(s: &[u8], at: usize) -> Skipped
-    ensures { λ r. ⌜ r ≡ skip (name (now (s .entry)) at) ⌝ }
+// Whether the count bytes from q on are there and are bytes of a name.
+fn spelled(s: &[u8], count: usize, q: usize) -> bool
+    ensures { λ r. ⌜ r ≡ leb (q + count) (length (now (s .entry))) && nameBytes (take count (drop q (now (s .entry)))) ⌝ }
 {
-    let t = read_size(s, at);
-    let Read::Is {
-        value: count,
-        next: q,
-    } = t
-    else {
-        return past(t);
-    };
+    if s.len() < q {
+        return false;
+    }
+    if s.len() - q < count {
+        return false;
+    }
+    let e = q + count;
+    name_bytes(&s[q..e])
+}
+
+// The count characters from q on, one by one.
+fn skip_chars(s: &[u8], count: usize, q: usize) -> Skipped
+    ensures { λ r. ⌜ r ≡ skip (many (char (now (s .entry))) count q) ⌝ }
+{
     let mut n = count;
     let mut p = q;
     while 0 < n {
@@ -91,6 +106,24 @@ pub fn skip_name(s: &[u8], at: usize) -> Skipped
         p = next;
     }
     Skipped::To(p)
+}
+
+// A name. Its characters are gone through one by one only to find which of them is wrong.
+pub fn skip_name(s: &[u8], at: usize) -> Skipped
+    ensures { λ r. ⌜ r ≡ skip (name (now (s .entry)) at) ⌝ }
+{
+    let t = read_size(s, at);
+    let Read::Is {
+        value: count,
+        next: q,
+    } = t
+    else {
+        return past(t);
+    };
+    if spelled(s, count, q) {
+        return Skipped::To(q + count);
+    }
+    skip_chars(s, count, q)
 }
 
 // Whether the names whose length bytes stand at a and at b are the same.

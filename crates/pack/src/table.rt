@@ -85,20 +85,21 @@ fn quad(n: &[u8], i: usize) -> usize
     byte_at(n, i) + 256 * byte_at(n, i + 1) + 65536 * byte_at(n, i + 2)
 }
 
-// The bits by which a name goes down its tree.
-fn hash(n: &[u8]) -> usize
+// The bits by which a name goes down its tree. b is the second half and 1: added to the bytes, the 1 would be compiled into two sums
+// after the product, for which the next step waits.
+pub fn hash(n: &[u8]) -> usize
     ensures { λ r. ⌜ r ≡ hashOf (now (n .entry)) ⌝ }
 {
     let mut a = 0;
-    let mut b = 0;
+    let mut b = 1;
     let mut i = 0;
     while i < n.len() {
-        let c = fold((b + quad(n, i) + 1) * 1540483477);
-        b = (a + c) % 4294967296;
+        let c = fold((b + quad(n, i)) * 1540483477);
+        b = (a + c) % 4294967296 + 1;
         a = c;
         i += 4;
     }
-    a + 4294967296 * b
+    a + 4294967296 * (b - 1)
 }
 
 // Whether the name whose length byte stands at p is n.

@@ -1,69 +1,48 @@
-use mathlib.Core.Path.{_≡_, refl}
-use Rattle.wire.specs.Code.{rep, skip}
-use Rattle.pack.specs.Read.{char}
-use Rattle.pack.proofs.NameLaws.{name-skip}
-use Rattle.wire.proofs.Steps.{goesS, list-done, list-stopped, list-went, stoppedS}
+use native.Mathlib.Omega.{arith}
+use mathlib.Core.Path.{_∙_, sym}
+use borrow.Author.Needs.{needs}
+use Rattle.wire.proofs.Steps.{goesS, stoppedS}
+use Rattle.pack.proofs.NameLaws.{name-skip, spelled-inside, spelled-skip}
 use Rattle.pack.proofs.names.skip_name.Statement.{statement}
 use Rattle.pack.proofs.names.skip_name.Tie as tie
-use borrow.Author.Needs.{needs}
 
-abbrev Inv-loop : tie.InvT-loop
-Inv-loop s at count q n₀ p₀ n p = rep (λ o. skip (char s o)) n p ≡ rep (λ o. skip (char s o)) count q
-
-abbrev μ-loop : tie.MeasureT-loop
-μ-loop s at count q n₀ p₀ n p = n
-
-read-size-requires : tie.Need-read-size-requires Inv-loop μ-loop
+read-size-requires : tie.Need-read-size-requires
 read-size-requires c κs = search needs
 
-enum-known-t : tie.Need-enum-known-t Inv-loop μ-loop
+enum-known-t : tie.Need-enum-known-t
 enum-known-t c = search needs
 
-past-requires : tie.Need-past-requires Inv-loop μ-loop
+past-requires : tie.Need-past-requires
 past-requires c κs = search needs
 
-returns : tie.Need-returns Inv-loop μ-loop
+returns : tie.Need-returns
 returns c = stoppedS _ _ _ _ _ (c .before .match .keys2) (c .before .before .read-size .ensures) (c .past .ensures) (name-skip _ _)
 
-loop-holds : tie.Need-loop-holds Inv-loop μ-loop
-loop-holds c = refl
+spelled-requires : tie.Need-spelled-requires
+spelled-requires c κs = search needs
 
-skip-char-requires : tie.Need-skip-char-requires Inv-loop μ-loop
-skip-char-requires c κs = search needs
+add-t7 : tie.Need-add-t7
+add-t7 c = omega (arith, spelled-inside (c .before .before .before .before .before .before .before .args .s .now) (c .before .before .before .t .given .0 .0) (c .before .before .before .t .given .0 .1 .0) (sym (c .before .spelled .ensures) ∙ c .if1 .taken))
 
-enum-known-e : tie.Need-enum-known-e Inv-loop μ-loop
-enum-known-e c = search needs
+returns-2 : tie.Need-returns-2
+returns-2 c = goesS _ _ _ _ _ _ _ (c .before .before .before .t .given .1) (c .before .before .before .before .before .read-size .ensures) (name-skip _ _) (sym (spelled-skip _ _ _ (sym (c .before .spelled .ensures) ∙ c .if1 .taken)))
 
-returns-2 : tie.Need-returns-2 Inv-loop μ-loop
-returns-2 c = goesS _ _ _ _ _ _ _ (c .before .before .before .before .before .t .given .1) (c .before .before .before .before .before .before .before .read-size .ensures) (name-skip _ _) (list-stopped _ _ _ _ _ (c .before .before .loop-test .taken) (c .match2 .keys2) (c .before .skip-char .ensures) (c .before .before .before .loop .inv))
+skip-chars-requires : tie.Need-skip-chars-requires
+skip-chars-requires c κs = search needs
 
-sub-n : tie.Need-sub-n Inv-loop μ-loop
-sub-n c = search needs
-
-loop-less : tie.Need-loop-less Inv-loop μ-loop
-loop-less c = search needs
-
-loop-again : tie.Need-loop-again Inv-loop μ-loop
-loop-again c = list-went _ _ _ _ _ _ (c .before .before .before .before .loop-test .taken) (c .before .e .given .1) (c .before .before .before .skip-char .ensures) (c .before .before .before .before .before .loop .inv)
-
-returns-3 : tie.Need-returns-3 Inv-loop μ-loop
-returns-3 c = goesS _ _ _ _ _ _ _ (c .before .before .before .t .given .1) (c .before .before .before .before .before .read-size .ensures) (name-skip _ _) (list-done _ _ _ _ (c .loop-test .left) (c .before .loop .inv))
+returns-3 : tie.Need-returns-3
+returns-3 c = goesS _ _ _ _ _ _ _ (c .before .before .before .before .t .given .1) (c .before .before .before .before .before .before .read-size .ensures) (name-skip _ _) (c .skip-chars .ensures)
 
 pub skip-name-spec : {M : Type 1} → statement M
 skip-name-spec =
     tie.close
     (tie.spec
-    Inv-loop
-    μ-loop
     read-size-requires
     enum-known-t
     past-requires
     returns
-    loop-holds
-    skip-char-requires
-    enum-known-e
+    spelled-requires
+    add-t7
     returns-2
-    sub-n
-    loop-less
-    loop-again
+    skip-chars-requires
     returns-3)
