@@ -12,7 +12,7 @@ use Rattle.activations.specs.Cells.{putT}
 use Rattle.activations.specs.ChecksAt.{refusedT}
 use Rattle.activations.specs.Places.{actAt, actOf}
 use Rattle.activations.specs.ActTable.{goalT, judgedT, madeT, refusalT, spotT}
-use Rattle.activations.proofs.StepLaws.{number-small}
+use Rattle.machines.proofs.SureLaws.{number-small}
 use Rattle.activations.proofs.RowsNoted.{put-length, put-other, put-same}
 
 -- what the code finds in a row, and puts there

@@ -93,7 +93,7 @@ unfolding nodeOf
 node-at f [] n post = refl
 node-at f (x ∷ pre) n post = node-at f pre n post
 
-was-node : (z x y : Node) → some x ≡ some y → x ≡ y
+pub was-node : (z x y : Node) → some x ≡ some y → x ≡ y
 was-node z x y e = ap inside e
   where
     inside : Option Node → Node

@@ -40,7 +40,7 @@ use Rattle.activations.specs.Joining.{fateIn, joined, nodeOf, originIn, 
 use Rattle.activation_rules.specs.Lower.{Lowered}
 use Rattle.activations.specs.OriginsAt.{branchesT, firstT, numbersT, originT, scopeNamesT}
 use Rattle.activations.proofs.ActRead.{act-to, activation-value, branch-end-to, branch-number-to, branch-value}
-use Rattle.activations.proofs.BroughtKnown.{AcceptedIn, accepted-each, row-equations, some-bring, two-more}
+use Rattle.activations.proofs.BroughtKnown.{AcceptedIn, accepted-each, row-equations, some-bring, two-more, was-node}
 use Rattle.activations.proofs.HolderWritten.{numbered}
 use Rattle.activations.proofs.Joined.{joined-name}
 use Rattle.activations.proofs.OriginLaws.{numbers-put}
@@ -61,13 +61,6 @@ no-node o e = let z : _≡_ {A = ℕ} 0 1 = ap count e in omega arith
     count : Option Node → ℕ
     count none = 0
     count (some y) = 1
-
-was-node : (z x y : Node) → some x ≡ some y → x ≡ y
-was-node z x y e = ap inside e
-  where
-    inside : Option Node → Node
-    inside none = z
-    inside (some u) = u
 
 node-of : (N : List Node) (x : Name) (f : Node → Node) (o : Node) → nodeOf f N (place (nodeNames N) x) ≡ some o → NodeOf N x f o
 unfolding nodeOf nodeNames place

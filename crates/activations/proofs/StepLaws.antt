@@ -4,13 +4,7 @@ use Prim.Native.Nat.{ℕ, zero, suc, _+_, _-_, _<_, _≤_}
 use native.Mathlib.Omega.{arith}
 use mathlib.Core.List.{List}
 use mathlib.Core.Bool.{Bool, true, false, cond}
-use mathlib.Core.Path.{_≡_, refl, sym, ap, subst, _∙_}
-use lib.ListN.{getD}
-use Rattle.wire.specs.Answer.{Answer, deep, early, illegal, u16, value}
-use Rattle.wire.specs.Code.{readOf}
-use Rattle.wire.proofs.Steps.{u16-small}
-use Rattle.machines.specs.declared.sure.Num.{Num}
-use Rattle.machines.specs.Sure.{numberIn, sureOf}
+use mathlib.Core.Path.{_≡_, refl, sym, ap, _∙_}
 use Rattle.wire.specs.declared.writer.Writer.{Writer}
 use Rattle.wire.specs.Writer.{State, full, stateOf}
 use Rattle.activations.specs.Passes.{passT}
@@ -47,17 +41,6 @@ pub pass-done : (f : ℕ → ℕ → ℕ → State → State) (next : ℕ → �
 unfolding passT
 pass-done f next zero k p y z l h = h
 pass-done f next (suc n) k p y z l h = absurd (omega arith)
-
--- no count is past 16 bits
-pub number-small : (s : List ℕ) (at : ℕ) (c : Num) → ((i : ℕ) → getD s i 0 < 256) → c ≡ numberIn s at → c .value < 65536
-unfolding numberIn sureOf readOf
-number-small s at c by e = subst (λ (x : Num). x .value < 65536) (sym e) (go (u16 s at) refl)
-  where
-    go : (a : Answer ℕ) → u16 s at ≡ a → sureOf (readOf a) .value < 65536
-    go (value v q) g = u16-small s at v q by g
-    go early g = omega arith
-    go (illegal o) g = omega arith
-    go (deep o) g = omega arith
 
 -- a pass that goes to the end: one more, and the end
 module _ {S : Type 0} (f : ℕ → ℕ → ℕ → S → S) (next : ℕ → ℕ) where

@@ -33,6 +33,7 @@ pub mod judging; // all activations judged, node by node
 pub mod report; // the report of what is refused
 pub mod counts; // how many locals and equations activations bring to nodes
 pub mod bringing; // what they bring, written
+pub mod busy; // the nodes to which activations go
 pub mod nodes; // the nodes of the lowered package
 pub mod origins; // the origins of activations
 pub mod sections; // the lowered package, section by section

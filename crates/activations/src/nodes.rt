@@ -2,6 +2,7 @@
 use crate::base::Base;
 use crate::bringing::put_brought_equations;
 use crate::bringing::put_brought_locals;
+use crate::busy::next_busy;
 use crate::counts::brought_equations;
 use crate::counts::brought_locals;
 use crate::types::note_variables;
@@ -18,14 +19,16 @@ use wire::writer::put_bytes;
 use wire::writer::put_u16;
 ghost use mathlib.Core.List.{List};
 ghost use mathlib.Core.Path.{_≡_};
-ghost use Prim.Native.Nat.{_≤_};
+ghost use Prim.Native.Nat.{ℕ, _≤_};
 ghost use lib.ListN.{length};
 ghost use Rattle.wire.specs.Writer.{stateOf};
 ghost use Rattle.pack.specs.Names.{Name};
 ghost use Rattle.pack.specs.Syntax.{Activation, Enum, Node};
 ghost use Rattle.pack.specs.Write.{each, nodeItems};
 ghost use Rattle.pack.specs.Intern.{render};
+ghost use Rattle.machines.specs.Busy.{Idle};
 ghost use Rattle.machines.specs.Sections.{nodeNames};
+ghost use Rattle.activations.specs.ActTable.{goalT};
 ghost use Rattle.activations.specs.Joining.{eachAt, joined};
 ghost use Rattle.activations.specs.Basis.{Basis, Scratch};
 ghost use Rattle.activations.specs.Fates.{Drawn, NodeRead};
@@ -195,6 +198,64 @@ fn put_node(
     )
 }
 
+// A node to which no activation goes, as it stands at `at`.
+fn copy_node(s: &[u8], b: Base, at: usize, out: &mut [u8], w: Writer) -> Writer
+    requires { ⌜ length (now s) ≤ 65536 ⌝ }
+    ensures { λ r. ⌜ ((ns : List Name) (es : List Enum) (old spots made : List ℕ) (m : Node) → Basis ns es old (now (s .entry)) spots b → NodeRead ns (now (s .entry)) at m → stateOf (now (out .exit)) made r ≡ render old (nodeItems m) (stateOf (now (out .entry)) made w)) ⌝ }
+{
+    let e = to_node_equations(s, b.names, at);
+    let z = after_equations(s, b.names, e);
+    put_bytes(between(s, at, z), out, w)
+}
+
+// The node k, where up to `next` no node is one to which an activation goes.
+fn put_next(
+    old: &[u8],
+    s: &[u8],
+    b: Base,
+    spots: &[u16],
+    acts: &[u16],
+    n: usize,
+    k: usize,
+    next: usize,
+    at: usize,
+    env: &mut [u16],
+    outs: &mut [u16],
+    held: &mut [u16],
+    reads: &mut [u16],
+    seen: &mut [u16],
+    later: &mut [u16],
+    out: &mut [u8],
+    made: &mut [u8],
+    w: Writer,
+) -> Writer
+    requires { ⌜ (length (now s) ≤ 65536) × (b .names ≤ 65536) × (n ≤ 6656) × Scratch (now later) (now env) (now outs) (now held) (now reads) (now seen) ⌝ }
+    ensures { λ r. ⌜ ((ns : List Name) (es : List Enum) (N : List Node) (As : List Activation) (m : Node) → Basis ns es (now (old .entry)) (now (s .entry)) (now (spots .entry)) b → NodeRead ns (now (s .entry)) at m → Drawn ns (now (s .entry)) es N As (now (acts .entry)) → length As ≡ n → AllMade es N As k m → Counted (now (s .entry)) es N As k m (now (acts .entry)) n → Idle (goalT (now (acts .entry))) n k next → stateOf (now (out .exit)) (now (made .exit)) r ≡ render (now (old .entry)) (nodeItems (joined es (nodeNames N) k As m)) (stateOf (now (out .entry)) (now (made .entry)) w)) ⌝ }
+{
+    if k < next {
+        return copy_node(s, b, at, out, w);
+    }
+    put_node(
+        old,
+        s,
+        b,
+        spots,
+        acts,
+        n,
+        k,
+        at,
+        env,
+        outs,
+        held,
+        reads,
+        seen,
+        later,
+        out,
+        made,
+        w,
+    )
+}
+
 // The m nodes.
 pub fn put_nodes(
     old: &[u8],
@@ -221,9 +282,11 @@ pub fn put_nodes(
     let mut v = w;
     let mut k = 0;
     let mut c = count;
+    let mut next = 0;
     while 0 < c {
         let at = cell(nodes, k);
-        v = put_node(
+        next = next_busy(acts, n, k, next);
+        v = put_next(
             old,
             s,
             b,
@@ -231,6 +294,7 @@ pub fn put_nodes(
             acts,
             n,
             k,
+            next,
             at,
             env,
             outs,

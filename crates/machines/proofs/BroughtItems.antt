@@ -24,7 +24,7 @@ use Rattle.machines.specs.Laid.{sliceOf}
 use Rattle.machine_rules.specs.Lower.{regionLocals}
 use Rattle.machines.specs.Locals.{innerLocals}
 use Rattle.machines.specs.Emits.{packName}
-use Rattle.machines.specs.Brought.{bringsEquationsT, broughtLocalsT, equationCountT, firstT, localsIn, localsT, nodeEquationsIn, nodeLocalsIn, oldT, originT, ownOriginT, smallOf, totalT}
+use Rattle.machines.specs.Brought.{broughtLocalsT, equationCountT, givenOriginT, localsIn, localsT, nodeEquationsIn, nodeLocalsIn, oldT, originT, smallOf}
 use Rattle.machines.proofs.SureLaws.{on}
 
 render-none : (old : List ℕ) (z : State) → z ≡ render old [] z
@@ -97,20 +97,19 @@ module _ (ns : List Name) (s : List ℕ) where
       unfolding broughtLocalsT render
       brings-nothing z h = rw (← ea, ne-eqb a k h) refl
 
-    -- the origin of a machine
-    module _ (count from at : ℕ) (m o : Num) (ea : at ≡ getD mats i 0) (em : m ≡ numberIn s at) (eo : o ≡ numberIn s (m .next)) where
-      origin-none : o .value ≡ 65535 → [] ≡ ownOriginT ns s mats ats regs count from i
-      unfolding ownOriginT absent
-      origin-none h = on m _ _ [] (em ∙ ap (numberIn s) ea) (on o _ _ [] eo (rw (eq-eqb (o .value) 65535 h)))
+  -- the origin of a machine
+  module _ (mats regs : List ℕ) (i f at : ℕ) (m o : Num) (ea : at ≡ getD mats i 0) (em : m ≡ numberIn s at) (eo : o ≡ numberIn s (m .next)) where
+    origin-none : o .value ≡ 65535 → [] ≡ givenOriginT ns s mats regs f i
+    unfolding givenOriginT absent
+    origin-none h = on m _ _ [] (em ∙ ap (numberIn s) ea) (on o _ _ [] eo (rw (eq-eqb (o .value) 65535 h)))
 
-      pub no-origin : (old : List ℕ) (z : State) → o .value ≡ 65535 → z ≡ render old (ownOriginT ns s mats ats regs count from i) z
-      no-origin old z h = render-none old z ∙ ap (λ (is : List Item). render old is z) (origin-none h)
+    pub no-origin : (old : List ℕ) (z : State) → o .value ≡ 65535 → z ≡ render old (givenOriginT ns s mats regs f i) z
+    no-origin old z h = render-none old z ∙ ap (λ (is : List Item). render old is z) (origin-none h)
 
-      pub its-origin : (k g b c e : ℕ) (old : List ℕ) (z w : State) → (o .value ≡ 65535 → ⊥) → k ≡ getD ats i 0 → g ≡ getD regs i 0 → b ≡ oldT ns s count from k → c ≡ totalT (bringsEquationsT ns s mats ats regs k) i 0 → e ≡ equationCountT ns s at g
-          → w ≡ render old (originT (o .value) (m .value) (b + c) e) z → w ≡ render old (ownOriginT ns s mats ats regs count from i) z
-      unfolding ownOriginT absent firstT
-      its-origin k g b c e old z w h ek eg eb ec ee hw =
-          let f : b + c ≡ firstT ns s mats ats regs count from i = (λ j. eb j + ec j) ∙ ap (λ y. oldT ns s count from y + totalT (bringsEquationsT ns s mats ats regs y) i 0) ek in
-          let d : e ≡ equationCountT ns s (getD mats i 0) (getD regs i 0) = ee ∙ (λ j. equationCountT ns s (ea j) (eg j)) in
-          hw ∙ ap (λ (is : List Item). render old is z)
-          (on m _ _ _ (em ∙ ap (numberIn s) ea) (on o _ _ _ eo (rw (ne-eqb (o .value) 65535 h) (λ j. originT (o .value) (m .value) (f j) (d j)))))
+    pub its-origin : (g e : ℕ) (old : List ℕ) (z w : State) → (o .value ≡ 65535 → ⊥) → g ≡ getD regs i 0 → e ≡ equationCountT ns s at g
+        → w ≡ render old (originT (o .value) (m .value) f e) z → w ≡ render old (givenOriginT ns s mats regs f i) z
+    unfolding givenOriginT absent
+    its-origin g e old z w h eg ee hw =
+        let d : e ≡ equationCountT ns s (getD mats i 0) (getD regs i 0) = ee ∙ (λ j. equationCountT ns s (ea j) (eg j)) in
+        hw ∙ ap (λ (is : List Item). render old is z)
+        (on m _ _ _ (em ∙ ap (numberIn s) ea) (on o _ _ _ eo (rw (ne-eqb (o .value) 65535 h) (λ j. originT (o .value) (m .value) f (d j)))))

@@ -46,6 +46,14 @@ total-done f n i c z l h = let k : n - i ≡ 0 = omega arith in let a : totalT f
 pub total-start : (f : ℕ → ℕ) (n : ℕ) → 0 + totalT f (n - 0) 0 ≡ totalT f n 0
 total-start f n = let k : n - 0 ≡ n = omega arith in let a : totalT f (n - 0) 0 ≡ totalT f n 0 = ap (λ y. totalT f y 0) k in omega arith
 
+-- a sum with one more at the end
+pub total-end : (f : ℕ → ℕ) (n i : ℕ) → totalT f (suc n) i ≡ totalT f n i + f (i + n)
+unfolding totalT
+total-end f zero i = let z : i + 0 ≡ i = omega arith in let a = ap f z in omega arith
+total-end f (suc n) i =
+    let z : suc i + n ≡ i + suc n = omega arith in
+    ap (λ y. f i + y) (total-end f n (suc i)) ∙ ap (λ y. f i + (totalT f n (suc i) + f y)) z ∙ omega arith
+
 -- a loop that writes items until the writer is full: one more, and the end
 each-step : (old : List ℕ) (f : ℕ → List Item) (n i : ℕ) (s : State) → render old (eachT f (suc n) i) s ≡ render old (eachT f n (suc i)) (render old (f i) s)
 unfolding eachT

@@ -8,7 +8,7 @@ use Rattle.machines.specs.Relaid.{Long}
 use Rattle.machines.specs.Filled.{Empty}
 
 -- the tables that a call starts with are long enough, and where machines are sought nothing stands
-zeros : (n k : ℕ) → _≡_ {A = ℕ} (getD (replicate n 0) k 0) 0
+pub zeros : (n k : ℕ) → _≡_ {A = ℕ} (getD (replicate n 0) k 0) 0
 zeros zero k = refl
 zeros (suc n) zero = refl
 zeros (suc n) (suc k) = zeros n k
@@ -24,5 +24,5 @@ scratch-empty =
     record { forNames = omega arith; forMachines = omega arith; noMachine = zeros 32768; forNodes = omega arith; forPlaces = omega arith; forGoals = omega arith; forRegions = omega arith }
 
 -- a table of zeros keeps nothing
-pub scratch-ends : Blank (replicate 52432 0)
-scratch-ends = zeros 52432
+pub scratch-ends : Blank (replicate 58986 0)
+scratch-ends = zeros 58986

@@ -16,15 +16,30 @@ use Rattle.machines.specs.Sure.{numberIn}
 use Rattle.machines.specs.Covers.{allMiss, asked, firstMiss, givesT, missT, orNext, ownT, tells, told, uncoveredT}
 use Rattle.machines.proofs.SureLaws.{on}
 
-pub tells-went : (k : ℕ → Told) (f : Bool → Bool → Bool) (n at : ℕ) (a b : Bool) (e z : Told) → 0 < n → e ≡ k at → b ≡ f a (e .yes) → tells k f n at a ≡ z → tells k f (n - 1) (e .next) b ≡ z
-unfolding tells asked
-tells-went k f zero at a b e z l g h d = absurd (omega arith)
-tells-went k f (suc n) at a b e z l g h d = let i : suc n - 1 ≡ n = omega arith in rw (i, h) (ap (λ (y : Told). tells k f n (y .next) (f a (y .yes))) g ∙ d)
+-- the loop over a state's equations: one that does not give the output, one that does, and the end
+module _ (k : ℕ → Told) where
+  pub tells-went : (n at : ℕ) (e : Told) (z : Bool) → 0 < n → e ≡ k at → e .yes ≡ false → tells k _||_ n at false .yes ≡ z → tells k _||_ (n - 1) (e .next) false .yes ≡ z
+  unfolding tells asked
+  tells-went zero at e z l g h d = absurd (omega arith)
+  tells-went (suc n) at e z l g h d =
+      let i : suc n - 1 ≡ n = omega arith in
+      rw i (ap (λ (y : Bool). tells k _||_ n (e .next) y .yes) (sym h) ∙ ap (λ (y : Told). tells k _||_ n (y .next) (y .yes) .yes) g ∙ d)
 
-pub tells-done : (k : ℕ → Told) (f : Bool → Bool → Bool) (n at : ℕ) (a : Bool) (z : Told) → n ≤ 0 → tells k f n at a ≡ z → told a at ≡ z
-unfolding tells
-tells-done k f zero at a z l d = d
-tells-done k f (suc n) at a z l d = absurd (omega arith)
+  tells-yes : (n at : ℕ) → tells k _||_ n at true .yes ≡ true
+  unfolding tells asked
+  tells-yes zero at = refl
+  tells-yes (suc n) at = tells-yes n (k at .next)
+
+  pub tells-found : (n at : ℕ) (e : Told) (z : Bool) → 0 < n → e ≡ k at → e .yes ≡ true → tells k _||_ n at false .yes ≡ z → true ≡ z
+  unfolding tells asked
+  tells-found zero at e z l g h d = absurd (omega arith)
+  tells-found (suc n) at e z l g h d =
+      sym (tells-yes n (e .next)) ∙ ap (λ (y : Bool). tells k _||_ n (e .next) y .yes) (sym h) ∙ ap (λ (y : Told). tells k _||_ n (y .next) (y .yes) .yes) g ∙ d
+
+  pub tells-done : (n at : ℕ) (z : Bool) → n ≤ 0 → tells k _||_ n at false .yes ≡ z → false ≡ z
+  unfolding tells
+  tells-done zero at z l d = d
+  tells-done (suc n) at z l d = absurd (omega arith)
 
 module _ (ns : List Name) (s : List ℕ) where
   pub gives-is : (out at q : ℕ) (k i : Num) (x y r : Bool) → k ≡ numberIn s at → i ≡ numberIn s (k .next) → q ≡ endOf (equationIn ns s at) → x ≡ eqb (k .value) 1 → y ≡ eqb (i .value) out → r ≡ (x && y) → told r q ≡ givesT ns s out at
@@ -32,9 +47,9 @@ module _ (ns : List Name) (s : List ℕ) where
   gives-is out at q k i x y r a b c d e f =
       on k _ _ _ a (on i _ _ _ b (ap (λ z. told z q) (f ∙ ap (λ z. z && y) d ∙ ap (λ z. eqb (k .value) 1 && z) e) ∙ ap (told (eqb (k .value) 1 && eqb (i .value) out)) c))
 
-  pub own-is : (out at q : ℕ) (i t : Num) (a : Bool) → i ≡ numberIn s at → t ≡ numberIn s (i .next) → told a q ≡ tells (givesT ns s out) _||_ (t .value) (t .next) false → a ≡ ownT ns s out at
+  pub own-is : (out at : ℕ) (i t : Num) (a : Bool) → i ≡ numberIn s at → t ≡ numberIn s (i .next) → a ≡ tells (givesT ns s out) _||_ (t .value) (t .next) false .yes → a ≡ ownT ns s out at
   unfolding ownT
-  own-is out at q i t a x y z = on i _ _ _ x (on t _ _ _ y (ap (λ (h : Told). h .yes) z))
+  own-is out at i t a x y z = on i _ _ _ x (on t _ _ _ y z)
 
 -- the loop over states: one that gives the output, one that does not, and the end
 module _ (t : List ℕ) (f : ℕ → ℕ) where

@@ -1,5 +1,5 @@
--- Laws for the code that keeps equations, guards and states, and looks them up.
-use Prim.Native.Nat.{ℕ, _<_}
+-- Laws for the code that keeps equations, guards, regions and states, and looks them up.
+use Prim.Native.Nat.{ℕ, _+_, _-_, _/_, _%_, _<_, _≤_}
 use native.Mathlib.Omega.{arith}
 use mathlib.Core.List.{List}
 use mathlib.Core.Bool.{Bool, false, true}
@@ -11,32 +11,52 @@ use Rattle.wire.specs.Answer.{counted}
 use Rattle.pack.specs.Names.{Name}
 use Rattle.pack.specs.Read.{equationIn, equationsIn, exprIn, transitionIn}
 use Rattle.machines.specs.declared.sure.Num.{Num}
-use Rattle.machines.specs.Stands.{endOf}
+use Rattle.machines.specs.Stands.{endOf, overIn}
 use Rattle.machines.specs.Sure.{num, numberIn}
 use Rattle.machines.specs.Walks.{headT, maxOf}
 use Rattle.machines.specs.Lays.{movesAt, regionsAt}
-use Rattle.machines.specs.Kept.{keptIn, keptPut, longestIn, movesIn, regionsIn, statePut}
-use Rattle.machines.specs.Ends.{Blank, EndsRight, HeadRead, KeptRight}
-use Rattle.machines.proofs.KeptLaws.{kept-none, kept-put, kept-state, regions-none, states-more, states-put}
+use Rattle.machines.specs.Drawn.{closedD}
+use Rattle.machines.specs.Empties.{longestD}
+use Rattle.machines.specs.Kept.{keptIn, longestIn, markIn, movesIn, ofClosed, ofEmpty, ofEquation, ofGuard, pastIn, regionsIn, rowPut, statePut, valueIn}
+use Rattle.machines.specs.Ends.{Blank, EndsRight, HeadRead, KeptRight, RowRight, StateRight}
+use Rattle.machines.proofs.KeptLaws.{kept-cases, regions-none, rows-none, rows-put, rows-state, states-more, states-put}
 
--- what stands in the table is the end
-pub end-kept : (s : List ℕ) (names : ℕ) (t : List ℕ) (at e : ℕ) → EndsRight s names t → e ≡ keptIn t at 1 → 0 < e
+-- what is kept of a thing of the kind k is what its row says
+pub row-kept : (P : ℕ → Type 0) (t : List ℕ) (p k e : ℕ) → e ≡ keptIn t p k → 0 < e → (p < 65536 → 0 < valueIn t p → markIn t p ≡ p % 5 + k → P (valueIn t p)) → P e
+row-kept P t p k e q l f =
+    subst P (sym q) (kept-cases (λ (x : ℕ). 0 < x → P x) t p k (λ z. absurd (omega (arith, z))) (λ i m z. f i z m) (subst (λ (x : ℕ). 0 < x) q l))
+
+pub end-kept : (s : List ℕ) (names : ℕ) (t : List ℕ) (at e : ℕ) → EndsRight s names t → e ≡ keptIn t at ofEquation → 0 < e
     → (ns : List Name) → length ns ≡ names → e ≡ endOf (equationIn ns s at)
-end-kept s names t at e h q l ns n = q ∙ h .equations ns n at (subst (λ (x : ℕ). 0 < x) q l)
+end-kept s names t at e h q l ns n = row-kept (λ (x : ℕ). x ≡ endOf (equationIn ns s at)) t at ofEquation e q l (λ i z m. h .rows ns n at i z .equation m)
 
-pub guard-kept : (s : List ℕ) (names : ℕ) (t : List ℕ) (at e : ℕ) → EndsRight s names t → e ≡ keptIn t at 6 → 0 < e
+pub guard-kept : (s : List ℕ) (names : ℕ) (t : List ℕ) (at e : ℕ) → EndsRight s names t → e ≡ keptIn t at ofGuard → 0 < e
     → (ns : List Name) → length ns ≡ names → e ≡ endOf (exprIn ns s at)
-guard-kept s names t at e h q l ns n = q ∙ h .guards ns n at (subst (λ (x : ℕ). 0 < x) q l)
+guard-kept s names t at e h q l ns n = row-kept (λ (x : ℕ). x ≡ endOf (exprIn ns s at)) t at ofGuard e q l (λ i z m. h .rows ns n at i z .guard m)
+
+pub closed-kept : (s : List ℕ) (names : ℕ) (t : List ℕ) (f n : ℕ) → EndsRight s names t → 5 ≤ f → n ≡ keptIn t (f - 5) ofClosed → 0 < n
+    → (ns : List Name) → length ns ≡ names → closedD ns s n f ≡ true
+closed-kept s names t f n h b q l ns e =
+    let m : f - 5 + 5 ≡ f = omega (arith, b) in
+    ap (closedD ns s n) (sym m) ∙ row-kept (λ (x : ℕ). closedD ns s x (f - 5 + 5) ≡ true) t (f - 5) ofClosed n q l (λ i z k. h .rows ns e (f - 5) i z .closed k)
 
 -- what stands there of a state
+state-kept : (s : List ℕ) (names : ℕ) (t : List ℕ) (at r : ℕ) → EndsRight s names t → r ≡ regionsIn t at → 0 < r
+    → (ns : List Name) → length ns ≡ names → StateRight ns s at (movesIn t at) (pastIn t at) (regionsIn t at)
+state-kept s names t at r h q l ns n = h .states ns n at (subst (λ (x : ℕ). 0 < x) q l)
+
 pub moves-kept : (s : List ℕ) (names : ℕ) (t : List ℕ) (at r m : ℕ) → EndsRight s names t → r ≡ regionsIn t at → 0 < r → m ≡ movesIn t at
     → (ns : List Name) → length ns ≡ names → m ≡ movesAt ns s at
-moves-kept s names t at r m h q l w ns n = w ∙ h .moves ns n at (subst (λ (x : ℕ). 0 < x) q l)
+moves-kept s names t at r m h q l w ns n = w ∙ state-kept s names t at r h q l ns n .moves
+
+pub past-kept : (s : List ℕ) (names : ℕ) (t : List ℕ) (at r o : ℕ) → EndsRight s names t → r ≡ regionsIn t at → 0 < r → o ≡ pastIn t at
+    → (ns : List Name) → length ns ≡ names → o ≡ overIn ns s at
+past-kept s names t at r o h q l w ns n = w ∙ state-kept s names t at r h q l ns n .past
 
 pub regions-kept : (s : List ℕ) (names : ℕ) (t : List ℕ) (at r : ℕ) (c : Num) → EndsRight s names t → r ≡ regionsIn t at → 0 < r → c ≡ numberIn s r
     → (ns : List Name) → length ns ≡ names → c ≡ regionsAt ns s at
 unfolding regionsAt
-regions-kept s names t at r c h q l w ns n = w ∙ ap (numberIn s) (q ∙ h .regions ns n at (subst (λ (x : ℕ). 0 < x) q l))
+regions-kept s names t at r c h q l w ns n = w ∙ ap (numberIn s) (q ∙ state-kept s names t at r h q l ns n .regions)
 
 pub head-kept : (s : List ℕ) (names : ℕ) (spots t : List ℕ) (at r l : ℕ) → KeptRight s names spots t → r ≡ regionsIn t at → 0 < r → l ≡ longestIn t at
     → (ns : List Name) → length ns ≡ names → num l r ≡ headT ns s spots at
@@ -55,56 +75,74 @@ pub regions-read : (ns : List Name) (s : List ℕ) (at m r : ℕ) (c : Num) → 
 unfolding regionsAt
 regions-read ns s at m r c e q w = w ∙ ap (numberIn s) (q ∙ ap (λ (x : ℕ). endOf (counted (transitionIn ns s) s x)) e)
 
-pub head-read : (s : List ℕ) (names : ℕ) (spots : List ℕ) (at : ℕ) (i h : Num) (m r : ℕ) → i ≡ numberIn s at
+pub head-read : (s : List ℕ) (names : ℕ) (spots : List ℕ) (at : ℕ) (i h : Num) (m o r : ℕ) → i ≡ numberIn s at
     → ((ns : List Name) → length ns ≡ names → m ≡ endOf (equationsIn ns s (i .next)))
     → ((ns : List Name) → length ns ≡ names → m ≡ movesAt ns s at → h ≡ headT ns s spots at)
+    → ((ns : List Name) → length ns ≡ names → o ≡ overIn ns s at)
     → ((ns : List Name) → length ns ≡ names → r ≡ endOf (counted (transitionIn ns s) s m))
-    → HeadRead s names spots at h m r
-head-read s names spots at i h m r e q k w = record {
+    → HeadRead s names spots at h m o r
+head-read s names spots at i h m o r e q k v w = record {
   head = λ ns n. k ns n (moves-read ns s at m i e (q ns n));
-  moves = λ ns n. moves-read ns s at m i e (q ns n);
-  regions = λ ns n. w ns n ∙ ap (λ (x : ℕ). endOf (counted (transitionIn ns s) s x)) (moves-read ns s at m i e (q ns n));
+  state = λ ns n. record {
+    moves = moves-read ns s at m i e (q ns n);
+    past = v ns n;
+    regions = w ns n ∙ ap (λ (x : ℕ). endOf (counted (transitionIn ns s) s x)) (moves-read ns s at m i e (q ns n));
+  };
 }
 
--- one end more
-pub end-put : (s : List ℕ) (names : ℕ) (t u : List ℕ) (at e : ℕ) → ((ns : List Name) → length ns ≡ names → e ≡ endOf (equationIn ns s at)) → u ≡ keptPut t at 1 e
-    → (spots : List ℕ) → KeptRight s names spots t → KeptRight s names spots u
-end-put s names t u at e r q spots h =
+-- the kinds of two things of one row are told apart by five: a mark that is right for one of them means that one
+mine : (p q k j : ℕ) → q / 5 ≡ p / 5 → k % 5 ≡ 1 → j % 5 ≡ 1 → p % 5 + k ≡ q % 5 + j → p ≡ q
+mine p q k j a b c d = omega arith
+
+-- one row more, of the kind k
+pub row-put : (s : List ℕ) (names : ℕ) (t : List ℕ) (at k v : ℕ) → k % 5 ≡ 1 → k ≤ 11 → ((ns : List Name) → length ns ≡ names → RowRight ns s at (at % 5 + k) v)
+    → (u : List ℕ) → u ≡ rowPut t at (at % 5 + k) v → (spots : List ℕ) → KeptRight s names spots t → KeptRight s names spots u
+row-put s names t at k v c b r u q spots h =
     subst (KeptRight s names spots) (sym q) (record {
       ends = record {
-        equations = λ ns n. kept-put (λ p. endOf (equationIn ns s p)) t 1 1 at e (λ a b x y z. (omega (arith, z), r ns n)) (h .ends .equations ns n);
-        guards = λ ns n. kept-put (λ p. endOf (exprIn ns s p)) t 6 1 at e (λ a b x y z. absurd (omega (arith, x, y, z))) (h .ends .guards ns n);
-        moves = λ ns n. states-put (λ p l m r. m ≡ movesAt ns s p) t at 1 e (h .ends .moves ns n);
-        regions = λ ns n. states-put (λ p l m r. r ≡ endOf (counted (transitionIn ns s) s (movesAt ns s p))) t at 1 e (h .ends .regions ns n);
+        rows = λ ns n. rows-put (RowRight ns s) t at (at % 5 + k) v (h .ends .rows ns n) (λ p g. record {
+          equation = λ x. subst (λ (y : ℕ). RowRight ns s y (at % 5 + k) v) (mine at p k 1 g c refl x) (r ns n) .equation x;
+          guard = λ x. subst (λ (y : ℕ). RowRight ns s y (at % 5 + k) v) (mine at p k 6 g c refl x) (r ns n) .guard x;
+          closed = λ x. subst (λ (y : ℕ). RowRight ns s y (at % 5 + k) v) (mine at p k 11 g c refl x) (r ns n) .closed x;
+          empty = λ x. absurd (omega arith);
+        });
+        states = λ ns n. states-put (λ p l m o r. StateRight ns s p m o r) t at (at % 5 + k) v (h .ends .states ns n);
       };
-      heads = λ ns n. states-put (λ p l m r. num l r ≡ headT ns s spots p) t at 1 e (h .heads ns n);
+      heads = λ ns n. states-put (λ p l m o r. num l r ≡ headT ns s spots p) t at (at % 5 + k) v (h .heads ns n);
+      empties = rows-put (λ p m v. m % 32 ≡ p % 5 + ofEmpty → m / 32 ≡ longestD s spots v p 0) t at (at % 5 + k) v (h .empties) (λ p g x. absurd (omega arith));
     })
 
-pub guard-put : (s : List ℕ) (names : ℕ) (t u : List ℕ) (at e : ℕ) → ((ns : List Name) → length ns ≡ names → e ≡ endOf (exprIn ns s at)) → u ≡ keptPut t at 6 e
+pub end-put : (s : List ℕ) (names : ℕ) (t u : List ℕ) (at e : ℕ) → ((ns : List Name) → length ns ≡ names → e ≡ endOf (equationIn ns s at)) → u ≡ rowPut t at (at % 5 + ofEquation) e
     → (spots : List ℕ) → KeptRight s names spots t → KeptRight s names spots u
-guard-put s names t u at e r q spots h =
-    subst (KeptRight s names spots) (sym q) (record {
-      ends = record {
-        equations = λ ns n. kept-put (λ p. endOf (equationIn ns s p)) t 1 6 at e (λ a b x y z. absurd (omega (arith, x, y, z))) (h .ends .equations ns n);
-        guards = λ ns n. kept-put (λ p. endOf (exprIn ns s p)) t 6 6 at e (λ a b x y z. (omega (arith, z), r ns n)) (h .ends .guards ns n);
-        moves = λ ns n. states-put (λ p l m r. m ≡ movesAt ns s p) t at 6 e (h .ends .moves ns n);
-        regions = λ ns n. states-put (λ p l m r. r ≡ endOf (counted (transitionIn ns s) s (movesAt ns s p))) t at 6 e (h .ends .regions ns n);
-      };
-      heads = λ ns n. states-put (λ p l m r. num l r ≡ headT ns s spots p) t at 6 e (h .heads ns n);
-    })
+end-put s names t u at e r q =
+    row-put s names t at ofEquation e refl (omega arith) (λ ns n. record { equation = λ x. r ns n; guard = λ x. absurd (omega arith); closed = λ x. absurd (omega arith); empty = λ x. absurd (omega arith) }) u q
+
+pub guard-put : (s : List ℕ) (names : ℕ) (t u : List ℕ) (at e : ℕ) → ((ns : List Name) → length ns ≡ names → e ≡ endOf (exprIn ns s at)) → u ≡ rowPut t at (at % 5 + ofGuard) e
+    → (spots : List ℕ) → KeptRight s names spots t → KeptRight s names spots u
+guard-put s names t u at e r q =
+    row-put s names t at ofGuard e refl (omega arith) (λ ns n. record { equation = λ x. absurd (omega arith); guard = λ x. r ns n; closed = λ x. absurd (omega arith); empty = λ x. absurd (omega arith) }) u q
+
+pub closed-put : (s : List ℕ) (names : ℕ) (t u : List ℕ) (f n : ℕ) → 5 ≤ f → ((ns : List Name) → length ns ≡ names → true ≡ closedD ns s n f) → u ≡ rowPut t (f - 5) ((f - 5) % 5 + ofClosed) n
+    → (spots : List ℕ) → KeptRight s names spots t → KeptRight s names spots u
+closed-put s names t u f n b r q =
+    let m : f - 5 + 5 ≡ f = omega (arith, b) in
+    row-put s names t (f - 5) ofClosed n refl (omega arith) (λ ns e. record { equation = λ x. absurd (omega arith); guard = λ x. absurd (omega arith); closed = λ x. ap (closedD ns s n) m ∙ sym (r ns e); empty = λ x. absurd (omega arith) }) u q
+
+-- past a guard's transition
+pub guard-past : (ns : List Name) (s : List ℕ) (at e : ℕ) (x : Num) → e ≡ endOf (exprIn ns s at) → x ≡ numberIn s e → x .next ≡ numberIn s (endOf (exprIn ns s at)) .next
+guard-past ns s at e x a b = ap (λ (y : Num). y .next) (b ∙ ap (numberIn s) a)
 
 -- one state more
-pub state-put : (t u : List ℕ) (at : ℕ) (h : Num) (m r : ℕ) → h .next ≡ r → u ≡ statePut t at (h .value) m r
-    → (s : List ℕ) (names : ℕ) (spots : List ℕ) → KeptRight s names spots t → HeadRead s names spots at h m r → KeptRight s names spots u
-state-put t u at h m r e q s names spots k d =
+pub state-put : (t u : List ℕ) (at : ℕ) (h : Num) (m o r : ℕ) → h .next ≡ r → u ≡ statePut t at (h .value) m o r
+    → (s : List ℕ) (names : ℕ) (spots : List ℕ) → KeptRight s names spots t → HeadRead s names spots at h m o r → KeptRight s names spots u
+state-put t u at h m o r e q s names spots k d =
     subst (KeptRight s names spots) (sym q) (record {
       ends = record {
-        equations = λ ns n. kept-state (λ p. endOf (equationIn ns s p)) t 1 at (h .value) m r (k .ends .equations ns n);
-        guards = λ ns n. kept-state (λ p. endOf (exprIn ns s p)) t 6 at (h .value) m r (k .ends .guards ns n);
-        moves = λ ns n. states-more (λ p l m r. m ≡ movesAt ns s p) t at (h .value) m r (k .ends .moves ns n) (d .moves ns n);
-        regions = λ ns n. states-more (λ p l m r. r ≡ endOf (counted (transitionIn ns s) s (movesAt ns s p))) t at (h .value) m r (k .ends .regions ns n) (d .regions ns n);
+        rows = λ ns n. rows-state (RowRight ns s) t at (h .value) m o r (k .ends .rows ns n);
+        states = λ ns n. states-more (λ p l m o r. StateRight ns s p m o r) t at (h .value) m o r (k .ends .states ns n) (d .state ns n);
       };
-      heads = λ ns n. states-more (λ p l m r. num l r ≡ headT ns s spots p) t at (h .value) m r (k .heads ns n) (ap (λ (x : ℕ). num (h .value) x) (sym e) ∙ d .head ns n);
+      heads = λ ns n. states-more (λ p l m o r. num l r ≡ headT ns s spots p) t at (h .value) m o r (k .heads ns n) (ap (λ (x : ℕ). num (h .value) x) (sym e) ∙ d .head ns n);
+      empties = rows-state (λ p m v. m % 32 ≡ p % 5 + ofEmpty → m / 32 ≡ longestD s spots v p 0) t at (h .value) m o r (k .empties);
     })
 
 -- both are as small as the larger one
@@ -120,10 +158,9 @@ most-both a b c n e l = go (ltb a b) refl
 pub blank-right : (s : List ℕ) (names : ℕ) (spots t : List ℕ) → Blank t → KeptRight s names spots t
 blank-right s names spots t h = record {
   ends = record {
-    equations = λ ns n p l. absurd (omega (arith, kept-none t p 1 h, l));
-    guards = λ ns n p l. absurd (omega (arith, kept-none t p 6 h, l));
-    moves = λ ns n p l. absurd (omega (arith, regions-none t p h, l));
-    regions = λ ns n p l. absurd (omega (arith, regions-none t p h, l));
+    rows = λ ns n p l z. absurd (omega (arith, rows-none t p h, z));
+    states = λ ns n p l. absurd (omega (arith, regions-none t p h, l));
   };
   heads = λ ns n p l. absurd (omega (arith, regions-none t p h, l));
+  empties = λ p l z. absurd (omega (arith, rows-none t p h, z));
 }

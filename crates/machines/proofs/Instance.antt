@@ -1,5 +1,5 @@
 -- The theorems on a pack of two machines: the state a of M is refined by N, whose state b gives o.
-use Prim.Native.Nat.{ℕ, zero, suc, _≤_}
+use Prim.Native.Nat.{ℕ, _≤_}
 use native.Mathlib.Omega.{arith}
 use mathlib.Core.List.{List, [], _∷_}
 use mathlib.Core.Bool.{true, false}
@@ -36,6 +36,7 @@ use Rattle.machines.specs.Walks.{enterW, goOn, headT, lenAt, machineW, m
 use Rattle.machines.proofs.Reading.{MachineRead}
 use Rattle.machines.proofs.NamesPlaced.{names-placed, section-read}
 use Rattle.machines.proofs.MachinesPlaced.{machines-placed}
+use Rattle.machines.proofs.CallScratch.{zeros as none-at}
 use Rattle.machines.proofs.Walked.{Ready, walked-stands}
 use Rattle.machines.proofs.LaidMachine.{LaidMachine}
 use Rattle.machines.proofs.WalkedLaid.{walked-laid, walked-tree}
@@ -64,18 +65,10 @@ machines-here : counted (machineIn ns s) s 16 ≡ value (M ∷ N ∷ []) 81
 unfolding machineIn counted many nameIn optionalIn optional portsIn portIn typeIn firstType typeOf typeOver plainTypes typeAt typeHead typeFields typeArity stateAt stateWith regionAt drawnOf regionsOf equationsIn equationIn namesIn exprIn exprAt exprHead exprFields exprRows exprArity exprOf exprsOf exprOver binOps nth literal literalOf flagOf transitionIn nameAt trees index below guard bind mapA byte u16 maxLevel absent
 machines-here = refl
 
-zero-all : (i : ℕ) → getD zeros i 0 ≡ 0
-zero-all zero = refl
-zero-all (suc zero) = refl
-zero-all (suc (suc zero)) = refl
-zero-all (suc (suc (suc zero))) = refl
-zero-all (suc (suc (suc (suc zero)))) = refl
-zero-all (suc (suc (suc (suc (suc i))))) = refl
-
 tables : Ready s ns (M ∷ N ∷ []) (namesPlaced s 5 2 0 zeros) (machinesPlaced ns s 16 zeros)
 tables =
     let a = section-read s ns 12 names-here in
-    record { names = a; spot = names-placed s (omega arith) ns zeros a (omega arith); places = machines-placed ns s 16 (M ∷ N ∷ []) 81 zeros (omega arith) a (omega arith) zero-all machines-here }
+    record { names = a; spot = names-placed s (omega arith) ns zeros a (omega arith); places = machines-placed ns s 16 (M ∷ N ∷ []) 81 zeros (omega arith) a (omega arith) (none-at 5) machines-here }
 
 -- the walk on these bytes, computed
 walks : machineW ns s (namesPlaced s 5 2 0 zeros) (machinesPlaced ns s 16 zeros) 0 31 ≡ wk.Went 45 2 3

@@ -4,10 +4,13 @@ pub mod SureLaws
 pub mod TableLaws
 pub mod KeptLaws
 pub mod EndLaws
+pub mod ClosedLaws
 pub mod WalkLaws
 pub mod CoverLaws
+pub mod ToldLaws
 pub mod SpellLaws
 pub mod LayLaws
+pub mod EmptyLaws
 pub mod NamesPlaced
 pub mod MachinesPlaced
 pub mod Lengths
@@ -26,6 +29,7 @@ pub mod Refused
 pub mod SectionExample
 pub mod RowLaws
 pub mod ValidLaws
+pub mod ClosedRows
 pub mod RepeatLaws
 pub mod MarkLaws
 pub mod JudgeLaws
@@ -55,6 +59,7 @@ pub mod LaidMachine
 pub mod Counted
 pub mod Longest
 pub mod WalkedLaid
+pub mod CallScratch
 pub mod Instance
 pub mod Overwriting
 pub mod EntryLaws
@@ -65,6 +70,7 @@ pub mod LaidJudged
 pub mod MachineJudged
 pub mod BroughtLaws
 pub mod BroughtItems
+pub mod OriginsCounted
 pub mod ShownCounts
 pub mod ShownItems
 pub mod ShownOrigins
@@ -79,6 +85,7 @@ pub mod ShownExample
 pub mod SettleLaws
 pub mod ReportingLaws
 pub mod RelaidLaws
+pub mod BusyLaws
 pub mod PartsLaws
 pub mod VerdictLaws
 pub mod Settled
@@ -93,6 +100,5 @@ pub mod Opened
 pub mod Answered
 pub mod ByVerdict
 pub mod Unlowered
-pub mod CallScratch
 pub mod LettersKept
 pub mod OutcomeSmall

@@ -1,5 +1,5 @@
--- Marks of names: the steps that make and look for them, and that a name with another mark is another name.
-use Prim.Native.Nat.{ℕ, zero, suc, _+_, _-_, _*_, _%_, _≤_, _<_, min}
+-- Marks of names: the steps that look for them, and that a name with another mark is another name.
+use Prim.Native.Nat.{ℕ, zero, suc, _+_, _-_, _%_, _≤_, _<_, min}
 use native.Mathlib.Numerals.{add-one}
 use native.Mathlib.Omega.{arith}
 use mathlib.Core.List.{List, [], _∷_, _++_}
@@ -12,25 +12,17 @@ use lib.Dec.{eqb}
 use borrow.Author.Tests.{eq-eqb, le-ltb, lt-ltb, ne-eqb}
 use Rattle.wire.proofs.Writers.{lt-or-le}
 use Rattle.pack.specs.Names.{Name, eqName, member}
+use Rattle.pack.specs.Table.{hash}
 use Rattle.pack.specs.Write.{enc}
 use Rattle.pack.specs.Intern.{table, tableF}
-use Rattle.machines.specs.Marks.{Marks, among, markFrom, markOf, marksOf, maybe}
+use Rattle.machines.specs.Marks.{Marks, among, markOf, marksOf, maybe}
 use Rattle.pack.proofs.Tables.{eqName-true}
 use Rattle.pack.proofs.TableIndex.{table-enc}
 use Rattle.machines.proofs.RepeatLaws.{enc-snoc}
 
--- the making of a mark: a byte more, the end
-pub mark-start : (n : Name) → markFrom 1 (drop 0 n) ≡ markOf n
+pub mark-is : (n : Name) (h : ℕ) → h ≡ hash n → h % 4294967296 ≡ markOf n
 unfolding markOf
-mark-start n = refl
-
-pub mark-more : (n : Name) (i h z : ℕ) → i < length n → markFrom h (drop i n) ≡ z → markFrom ((h * 16777619 + getD n i 0) % 4294967296) (drop (i + 1) n) ≡ z
-unfolding markFrom
-mark-more n i h z l e = ap (λ j. markFrom ((h * 16777619 + getD n i 0) % 4294967296) (drop j n)) (add-one i) ∙ ap (markFrom h) (sym (drop-cons n i 0 l)) ∙ e
-
-pub mark-end : (n : Name) (i h z : ℕ) → length n ≤ i → markFrom h (drop i n) ≡ z → h ≡ z
-unfolding markFrom
-mark-end n i h z l e = ap (markFrom h) (sym (drop-of-length-le n l)) ∙ e
+mark-is n h e = ap (λ (x : ℕ). x % 4294967296) e
 
 -- the search among marks: here, not here, not at all
 module _ (ms : List ℕ) (m i : ℕ) (z : Bool) where

@@ -71,7 +71,7 @@ module _ (ns : List Name) (s spots to t reg lets mats ats : List ℕ) (k i a m :
   goes-elsewhere z h = rw (← ea, ne-eqb a k h) refl
 
 -- nor does it bring equations
-no-equations : (ats : List ℕ) (eqs : ℕ → List Item) (k i : ℕ) → (getD ats i 0 ≡ k → ⊥) → broughtEquationsT ats eqs k i ≡ []
+pub no-equations : (ats : List ℕ) (eqs : ℕ → List Item) (k i : ℕ) → (getD ats i 0 ≡ k → ⊥) → broughtEquationsT ats eqs k i ≡ []
 unfolding broughtEquationsT
 no-equations ats eqs k i h = rw (ne-eqb (getD ats i 0) k h)
 

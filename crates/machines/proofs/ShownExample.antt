@@ -4,7 +4,7 @@ use native.Mathlib.Omega.{arith}
 use mathlib.Core.List.{List, [], _∷_}
 use mathlib.Core.Option.{none}
 use mathlib.Core.Path.{_≡_, refl, subst}
-use lib.ListN.{length, getD}
+use lib.ListN.{length}
 use Rattle.wire.specs.Answer.{bind, byte, counted, guard, index, many, mapA, u16, value}
 use Rattle.wire.specs.Lists.{All, Bytes}
 use Rattle.pack.specs.Limits.{absent, maxLevel, maxStates}
@@ -26,6 +26,7 @@ use Rattle.machines.specs.Emits.{packName}
 use Rattle.machines.specs.Sections.{Share, alone, fateOf}
 use Rattle.machines.specs.Shown.{Lowered, PackOf, Shown}
 use Rattle.machines.specs.Tables.{machinesPlaced, namesPlaced, nextName}
+use Rattle.machines.proofs.CallScratch.{zeros as none-at}
 use Rattle.machines.proofs.Walked.{Ready, ready}
 use Rattle.machines.proofs.SectionsShown.{SectionsWritten, sections-written}
 
@@ -96,11 +97,6 @@ lowered-here = (
 abbrev zeros : List ℕ
 zeros = 0 ∷ 0 ∷ []
 
-zero-all : (i : ℕ) → getD zeros i 0 ≡ 0
-zero-all zero = refl
-zero-all (suc zero) = refl
-zero-all (suc (suc i)) = refl
-
 spots-here : namesPlaced s 2 2 0 zeros ≡ 2 ∷ 4 ∷ []
 unfolding namesPlaced nextName
 spots-here = refl
@@ -108,6 +104,6 @@ spots-here = refl
 -- what is written of it is the lowered package
 sections-here : SectionsWritten whole s (tabled ns) (2 ∷ 4 ∷ []) (machinesPlaced ns s 10 zeros) (12 ∷ []) (0 ∷ []) (1 ∷ []) 1 (share ∷ []) sections
 sections-here =
-    let r = ready s sections whole zeros zeros stands-here (omega arith) (omega arith) (omega arith) zero-all in
+    let r = ready s sections whole zeros zeros stands-here (omega arith) (omega arith) (omega arith) (none-at 2) in
     sections-written whole s (tabled ns) (2 ∷ 4 ∷ []) (machinesPlaced ns s 10 zeros) (12 ∷ []) (0 ∷ []) (1 ∷ []) sections stands-here pack-here
     (subst (λ (y : List ℕ). Ready s ns (M ∷ []) y (machinesPlaced ns s 10 zeros)) spots-here r) (share ∷ []) lowered-here 1 refl

@@ -1,5 +1,5 @@
 -- The origins that the code writes by the tables are those of the shares.
-use Prim.Native.Nat.{ℕ, zero, suc, _+_, _<_}
+use Prim.Native.Nat.{ℕ, suc, _+_, _<_}
 use native.Mathlib.Nat.{zero-add}
 use native.Mathlib.Omega.{arith}
 use mathlib.Core.List.{List, [], _∷_, _++_}
@@ -30,23 +30,17 @@ use Rattle.machine_rules.specs.Resolve.{asMachine}
 use Rattle.machines.specs.Sections.{Share, bringsCount, broughtCount, equationCount, equationsBefore, fateOf, originFor, originsItems, total}
 use Rattle.machines.specs.Sure.{numberIn, with}
 use Rattle.machines.specs.Shown.{PackOf, Shown, ShownAt}
-use Rattle.machines.specs.Brought.{bringsEquationsT, eachT, equationCountT, firstT, oldT, originT, ownOriginT, totalT}
+use Rattle.machines.specs.Brought.{beforeT, bringsEquationsT, eachT, equationCountT, firstT, givenOriginT, oldT, originT, ownOriginT, totalT}
 use Rattle.machines.proofs.Reading.{optional-none, optional-some}
 use Rattle.machines.proofs.SureLaws.{number-to}
+use Rattle.machines.proofs.BroughtLaws.{total-end}
 use Rattle.machines.proofs.ShownCounts.{brings-equations-shown, equations-shown, its-machine, its-read, named, old-shown}
 
 -- the origin of the machine m that goes to o, whose equations are e from f on
 abbrev origin : Name → Name → ℕ → ℕ → Origin
 origin o m f e = record { node = o; kind = ofMachine; name = m; first = f; after = f + e; branches = [] }
 
--- sums with one more at the end
-total-end : (f : ℕ → ℕ) (n i : ℕ) → totalT f (suc n) i ≡ totalT f n i + f (i + n)
-unfolding totalT
-total-end f zero i = let z : i + 0 ≡ i = omega arith in let a = ap f z in omega arith
-total-end f (suc n) i =
-    let z : suc i + n ≡ i + suc n = omega arith in
-    ap (λ y. f i + y) (total-end f n (suc i)) ∙ ap (λ y. f i + (totalT f n (suc i) + f y)) z ∙ omega arith
-
+-- what is brought, with one more at the end
 brought-end : (g : Machine → ℕ) (k : ℕ) (done : List Share) (x : Share) → broughtCount g k (done ++ (x ∷ [])) ≡ broughtCount g k done + bringsCount g k x
 unfolding broughtCount total
 brought-end g k [] x = omega arith
@@ -104,13 +98,13 @@ module _ (ns : List Name) (s old spots : List ℕ) (P : PackOf ns s old spots) (
 
   module _ (i : ℕ) (x : Share) (h : ShownAt ns s mats ats regs i x) (done : List Share) (d : Done i done) where
     first-shown : firstT ns s mats ats regs count from i ≡ equationsBefore olds done x
-    unfolding firstT equationsBefore
+    unfolding firstT beforeT equationsBefore
     first-shown =
         ap (λ k. oldT ns s count from k + totalT (bringsEquationsT ns s mats ats regs k) i 0) (sym (h .at))
         ∙ λ j. old-shown ns s old spots P count from olds q (x .at) nodes j + d (x .at) j
 
     origin-one : (z : State) → render old (ownOriginT ns s mats ats regs count from i) z ≡ render old (each originItems (originFor (x .fate) (equationsBefore olds done x))) z
-    unfolding ownOriginT asMachine
+    unfolding ownOriginT givenOriginT asMachine
     origin-one z =
         let r = its-read ns s old spots P mats ats regs i x h in
         let n = named ns s old spots P (getD mats i 0) (h .drawing) (h .end) r in

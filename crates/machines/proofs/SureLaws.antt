@@ -3,9 +3,10 @@ use Prim.Native.Nat.{ℕ, zero, suc, _+_, _*_, _/_, _%_, _-_, _<_, _≤_}
 use native.Mathlib.Nat.{div-eq-of-lt, mod-eq-of-lt, mul-add-div-right, mul-add-mod-self-right}
 use native.Mathlib.Omega.{arith}
 use mathlib.Core.List.{List, [], _∷_}
-use mathlib.Core.Bool.{Bool, cond}
+use mathlib.Core.Bool.{Bool, true, false, cond, _&&_}
 use mathlib.Core.Logic.{⊎-elim}
-use mathlib.Core.Path.{_≡_, refl, ap, _∙_}
+use mathlib.Core.Path.{_≡_, refl, sym, ap, subst, _∙_}
+use lib.ListN.{getD, set}
 use lib.Dec.{eqb}
 use types.Run.{OneOf}
 use denote.Enum.Declared.{tagOf}
@@ -17,6 +18,7 @@ use Rattle.wire.specs.declared.answer.Skipped.{Skipped}
 use Rattle.wire.specs.declared.answer.Skipped.the-variants as sk
 use Rattle.wire.specs.Answer.{Answer, below, byte, deep, early, illegal, u16, value}
 use Rattle.wire.proofs.Answers.{guard-value}
+use Rattle.wire.proofs.Steps.{u16-small}
 use Rattle.pack.specs.Names.{Name}
 use Rattle.wire.specs.Code.{next, onward, readOf, skip, skips}
 use Rattle.pack.specs.Verdict.{offsetOf}
@@ -123,3 +125,26 @@ low-part m q v h = mul-add-mod-self-right q m v ∙ mod-eq-of-lt h
 
 pub high-part : (m q v : ℕ) → v < m → (q * m + v) / m ≡ q
 high-part m q v h = let z : v / m ≡ 0 = div-eq-of-lt h in mul-add-div-right (omega arith) q v ∙ omega arith
+
+-- yes is not no, and where both are to hold each holds
+pub never : false ≡ true → ⊥
+never e = let z : _≡_ {A = ℕ} 0 1 = cc in omega arith
+
+pub both-true : (a b : Bool) → (a && b) ≡ true → (a ≡ true) × (b ≡ true)
+both-true true b e = (refl, e)
+both-true false b e = absurd (never e)
+
+-- no count and no index is past 16 bits
+pub number-small : (s : List ℕ) (at : ℕ) (c : Num) → ((i : ℕ) → getD s i 0 < 256) → c ≡ numberIn s at → c .value < 65536
+unfolding numberIn sureOf readOf
+number-small s at c by e = subst (λ (x : Num). x .value < 65536) (sym e) (go (u16 s at) refl)
+  where
+    go : (a : Answer ℕ) → u16 s at ≡ a → sureOf (readOf a) .value < 65536
+    go (value v q) g = u16-small s at v q by g
+    go early g = omega arith
+    go (illegal o) g = omega arith
+    go (deep o) g = omega arith
+
+-- so a table of 16-bit words holds it as it is
+pub number-put : (s : List ℕ) (at : ℕ) (c : Num) (t u : List ℕ) (i : ℕ) → ((j : ℕ) → getD s j 0 < 256) → c ≡ numberIn s at → u ≡ set t i (c .value % 65536) → u ≡ set t i (c .value)
+number-put s at c t u i by e h = h ∙ ap (set t i) (mod-eq-of-lt (number-small s at c by e))

@@ -28,23 +28,16 @@ use Rattle.machines.specs.Covers.{uncoveredT}
 use Rattle.machines.specs.Emits.{lastOr, packName, testT}
 use Rattle.machines.specs.Values.{Peopled, WholeR, WholeS, enteredT, givingFrom, inStateT, sideBytes, sideFrom, sideT, valueT, valuesT}
 use Rattle.machines.proofs.Reading.{many-cut, many-end, many-more, many-over, name-number}
-use Rattle.machines.proofs.SureLaws.{end-to, number-num, number-to}
+use Rattle.machines.proofs.SureLaws.{both-true, end-to, never, number-num, number-to}
 use Rattle.machines.proofs.EnumsEmitted.{idR, idS}
 use Rattle.machines.proofs.ChainsEmitted.{Alike, alike-by, last-alike, test-alike}
 use Rattle.machines.proofs.Covered.{covers-held, endR, endS, lhs-link}
-
-never : false ≡ true → ⊥
-never e = let z : _≡_ {A = ℕ} 0 1 = cc in omega arith
 
 same-some : (a b : Expr) → some a ≡ some b → a ≡ b
 same-some a b e = cc
 
 none-some : (e : Expr) → none ≡ some e → ⊥
 none-some e h = let z : _≡_ {A = ℕ} 0 1 = cc in omega arith
-
-both-true : (a b : Bool) → (a && b) ≡ true → (a ≡ true) × (b ≡ true)
-both-true true b e = (refl, e)
-both-true false b e = absurd (never e)
 
 -- what is given by neither of two is given by the third
 past-false : (a b c : Bool) → (a || (b || c)) ≡ true → b ≡ false → (a || c) ≡ true

@@ -159,6 +159,3 @@ moved rec p q n at c y e f = e ∙ ap (λ z. rec z n at c) f
 
 pub qualified : (l i x w a e d : ℕ) (r : Walked) → r ≡ qualifyOf l x a e d → l ≡ i → x ≡ w → r ≡ qualifyOf i w a e d
 qualified l i x w a e d r f g h = cc
-
-pub most-of : (a x f l w b : ℕ) → b ≡ maxOf a x → x ≡ maxOf f w → f ≡ l → b ≡ maxOf a (maxOf l w)
-most-of a x f l w b d e g = cc

@@ -12,6 +12,7 @@ use Rattle.pack.specs.Names.{Name}
 use Rattle.pack.specs.Read.{equationsIn, portsIn}
 use Rattle.pack.specs.Verdict.{offsetOf}
 use Rattle.pack.specs.Write.{Item, each, portItems, raw}
+use Rattle.machines.specs.declared.origins.Counted.{Counted}
 use Rattle.machines.specs.Stands.{endOf}
 use Rattle.machines.specs.Sure.{byteIn, numberIn, with}
 use Rattle.machines.specs.Tables.{outputsIn}
@@ -44,6 +45,10 @@ regionsT regs i = smallOf (getD regs i 0)
 -- whether the machine drawn there has an owner, as a number
 unfoldable pub ownedT : List ℕ → List ℕ → ℕ → ℕ
 ownedT s mats i = with (numberIn s (getD mats i 0)) λ m p. with (numberIn s p) λ o q. cond (eqb o absent) 0 1
+
+-- how many equations a node has before some machine
+abbrev pub counted : ℕ → ℕ → Counted
+counted k f = record { node = k; first = f }
 
 -- the origin of a machine: by the numbers of its owner's and its own name, of its first equation, and of its equations
 unfoldable pub originT : ℕ → ℕ → ℕ → ℕ → List Item
@@ -82,6 +87,13 @@ module _ (ns : List Name) (s : List ℕ) where
   oldT (suc n) at zero = with (numberIn s (nodeEquationsIn at)) λ v q. smallOf v
   oldT (suc n) at (suc k) = oldT n (endOf (equationsIn ns s (nodeEquationsIn at))) k
 
+  -- the origin of the machine i, where it has an owner and f equations come before it
+  unfoldable pub givenOriginT : List ℕ → List ℕ → ℕ → ℕ → List Item
+  givenOriginT mats regs f i =
+      with (numberIn s (getD mats i 0)) λ m p.
+      with (numberIn s p) λ o q.
+      cond (eqb o absent) [] (originT o m f (equationCountT (getD mats i 0) (getD regs i 0)))
+
   module _ (mats ats regs : List ℕ) where
     -- how many of them the machine of index i brings to the node k
     unfoldable pub bringsEquationsT : ℕ → ℕ → ℕ
@@ -94,13 +106,25 @@ module _ (ns : List Name) (s : List ℕ) where
     unfoldable pub broughtLocalsT : List ℕ → ℕ → ℕ → List Item
     broughtLocalsT spots k i = cond (eqb (getD ats i 0) k) (localsT spots (getD mats i 0) (getD regs i 0)) []
 
-    -- how many equations its node has before it, where `count` old nodes stand from `from` on
+    -- how many equations the node k has before the machine i, where `count` old nodes stand from `from` on
+    unfoldable pub beforeT : ℕ → ℕ → ℕ → ℕ → ℕ
+    beforeT count from k i = oldT count from k + totalT (bringsEquationsT k) i 0
+
+    -- how many its own node has before it
     unfoldable pub firstT : ℕ → ℕ → ℕ → ℕ
-    firstT count from i = oldT count from (getD ats i 0) + totalT (bringsEquationsT (getD ats i 0)) i 0
+    firstT count from i = beforeT count from (getD ats i 0) i
 
     -- its origin, where it has an owner
     unfoldable pub ownOriginT : ℕ → ℕ → ℕ → List Item
-    ownOriginT count from i =
-        with (numberIn s (getD mats i 0)) λ m p.
-        with (numberIn s p) λ o q.
-        cond (eqb o absent) [] (originT o m (firstT count from i) (equationCountT (getD mats i 0) (getD regs i 0)))
+    ownOriginT count from i = givenOriginT mats regs (firstT count from i) i
+
+    -- what is counted for the machine i, where d was counted before: anew only where its owner is another node
+    unfoldable pub turnedT : ℕ → ℕ → Counted → ℕ → ℕ → Counted
+    turnedT count from d k i = cond (eqb (d .node) k) d (counted k (beforeT count from k i))
+
+    unfoldable pub countedT : ℕ → ℕ → Counted → ℕ → Counted
+    countedT count from d i = cond (eqb (ownedT s mats i) 0) d (turnedT count from d (getD ats i 0) i)
+
+    -- the same past the machine i
+    unfoldable pub passedT : Counted → ℕ → Counted
+    passedT d i = counted (d .node) (d .first + bringsEquationsT (d .node) i)

@@ -2,13 +2,14 @@
 use Prim.Native.Nat.{ℕ, _<_, _≤_}
 use mathlib.Core.List.{List}
 use mathlib.Core.Path.{_≡_}
-use lib.ListN.{length, getD}
+use lib.ListN.{length}
 use Rattle.pack.specs.Names.{Name}
 use Rattle.pack.specs.Syntax.{Package}
 use Rattle.pack.specs.Read.{read, whole}
 use Rattle.pack.specs.Outcome.{Gives, Outcome, reportOf}
 use Rattle.pack.specs.Verdict.{Stands}
 use Rattle.pack.specs.declared.record.Pack.{Pack}
+use Rattle.machines.specs.Ends.{Blank}
 use Rattle.machines.specs.Sure.{numberIn}
 use Rattle.machines.specs.Tables.{machinesPlaced, namesPlaced}
 use Rattle.machines.specs.Brought.{smallOf}
@@ -26,7 +27,7 @@ machineCount s k = smallOf (numberIn s (k .machines) .value)
 pub record Empty (spots to nodes mats ats regs : List ℕ) : Type 0 where
   pub forNames : 32768 ≤ length spots
   pub forMachines : 32768 ≤ length to
-  pub noMachine : (i : ℕ) → getD to i 0 ≡ 0
+  pub noMachine : Blank to
   pub forNodes : 5958 ≤ length nodes
   pub forPlaces : 4682 ≤ length mats
   pub forGoals : 4682 ≤ length ats

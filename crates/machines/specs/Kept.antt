@@ -1,24 +1,55 @@
--- What is kept of a pack's equations, guards and states, by where they begin: rows of 16-bit cells in one table.
--- An equation and a transition take at least 5 bytes and a state at least 10, so that in a legal pack no two share a row.
+-- What is kept of a pack's equations, guards, regions and states, by where they begin: rows of 16-bit cells in one table.
+-- An equation, a transition and a region's head take at least 5 bytes and a state at least 10, so that in a legal pack no two share
+-- a row.
 use Prim.Native.Nat.{ℕ, _+_, _*_, _/_, _%_}
 use mathlib.Core.List.{List}
 use mathlib.Core.Bool.{cond, _&&_}
 use lib.ListN.{getD, set}
 use lib.Dec.{eqb, ltb}
 
--- where the equation (the kind 1) or the guard (the kind 6) at p ends; 0 where that is not kept. Its row is a mark, which tells
--- offset and kind apart, and the end.
+-- a row of two cells: a mark, which tells whose it is, and a value
+unfoldable pub markIn : List ℕ → ℕ → ℕ
+markIn t p = getD t (2 * (p / 5)) 0
+
+unfoldable pub valueIn : List ℕ → ℕ → ℕ
+valueIn t p = getD t (2 * (p / 5) + 1) 0
+
+-- a row more, where all fits a cell
+unfoldable pub rowPut : List ℕ → ℕ → ℕ → ℕ → List ℕ
+rowPut t p m v = cond (ltb p 65536 && (ltb m 65536 && ltb v 65536)) (set (set t (2 * (p / 5)) m) (2 * (p / 5) + 1) v) t
+
+-- the kinds of rows: an equation, by where it ends; a guard, by where it ends; a region whose transitions all lead to its own
+-- states, by how many those are; regions without states that follow one another, by how many
+abbrev pub ofEquation : ℕ
+ofEquation = 1
+
+abbrev pub ofGuard : ℕ
+ofGuard = 6
+
+abbrev pub ofClosed : ℕ
+ofClosed = 11
+
+abbrev pub ofEmpty : ℕ
+ofEmpty = 16
+
+-- the value that is kept of the thing of the kind k at p; 0 where none is
 unfoldable pub keptIn : List ℕ → ℕ → ℕ → ℕ
-keptIn t p k = cond (ltb p 65536) (cond (eqb (getD t (2 * (p / 5)) 0) (p % 5 + k)) (getD t (2 * (p / 5) + 1) 0) 0) 0
+keptIn t p k = cond (ltb p 65536) (cond (eqb (markIn t p) (p % 5 + k)) (valueIn t p) 0) 0
 
--- an end more, where it fits a cell
-unfoldable pub keptPut : List ℕ → ℕ → ℕ → ℕ → List ℕ
-keptPut t p k e = cond (ltb p 65536 && ltb e 65536) (set (set t (2 * (p / 5)) (p % 5 + k)) (2 * (p / 5) + 1) e) t
+-- of regions without states the mark also has the longest name of their initial states
+unfoldable pub emptiesIn : List ℕ → ℕ → ℕ
+emptiesIn t p = cond (ltb p 65536) (cond (eqb (markIn t p % 32) (p % 5 + ofEmpty)) (valueIn t p) 0) 0
 
--- a state's row: its offset, its head's longest name, where its transitions begin, where its regions' count stands.
--- The rows stand after those of equations and guards.
+unfoldable pub emptyLongest : List ℕ → ℕ → ℕ
+emptyLongest t p = markIn t p / 32
+
+unfoldable pub emptyMark : ℕ → ℕ → ℕ
+emptyMark p l = p % 5 + ofEmpty + 32 * l
+
+-- a state's row: its offset, its head's longest name, where its transitions begin, where it ends, where its regions' count stands.
+-- The rows stand after the others.
 unfoldable pub stateRow : ℕ → ℕ
-stateRow p = 26216 + 4 * (p / 10)
+stateRow p = 26216 + 5 * (p / 10)
 
 unfoldable pub longestIn : List ℕ → ℕ → ℕ
 longestIn t p = getD t (stateRow p + 1) 0
@@ -26,9 +57,12 @@ longestIn t p = getD t (stateRow p + 1) 0
 unfoldable pub movesIn : List ℕ → ℕ → ℕ
 movesIn t p = getD t (stateRow p + 2) 0
 
+unfoldable pub pastIn : List ℕ → ℕ → ℕ
+pastIn t p = getD t (stateRow p + 3) 0
+
 -- 0 where the state at p is not kept
 unfoldable pub regionsIn : List ℕ → ℕ → ℕ
-regionsIn t p = cond (eqb (getD t (stateRow p) 0) p) (getD t (stateRow p + 3) 0) 0
+regionsIn t p = cond (eqb (getD t (stateRow p) 0) p) (getD t (stateRow p + 4) 0) 0
 
-unfoldable pub statePut : List ℕ → ℕ → ℕ → ℕ → ℕ → List ℕ
-statePut t p l m r = set (set (set (set t (stateRow p) p) (stateRow p + 1) l) (stateRow p + 2) m) (stateRow p + 3) r
+unfoldable pub statePut : List ℕ → ℕ → ℕ → ℕ → ℕ → ℕ → List ℕ
+statePut t p l m o r = set (set (set (set (set t (stateRow p) p) (stateRow p + 1) l) (stateRow p + 2) m) (stateRow p + 3) o) (stateRow p + 4) r

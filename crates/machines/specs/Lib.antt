@@ -9,7 +9,10 @@ pub mod Covers
 pub mod Laid
 pub mod Lays
 pub mod Kept
+pub mod Drawn
+pub mod Empties
 pub mod Ends
+pub mod Told
 pub mod Valid
 pub mod Repeats
 pub mod Marks
@@ -25,6 +28,7 @@ pub mod Verdicts
 pub mod JudgedAs
 pub mod Shown
 pub mod Brought
+pub mod Busy
 pub mod NodeHeads
 pub mod Relaid
 pub mod Settling

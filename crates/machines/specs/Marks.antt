@@ -1,21 +1,17 @@
 -- Marks of names: a number made of a name's bytes, so that names whose marks differ differ.
-use Prim.Native.Nat.{ℕ, _+_, _*_, _%_, _≤_}
+use Prim.Native.Nat.{ℕ, _%_, _≤_}
 use mathlib.Core.List.{List, [], _∷_}
 use mathlib.Core.Bool.{Bool, true, false, cond, _||_}
 use mathlib.Core.Path.{_≡_}
 use lib.ListN.{length, take}
 use lib.Dec.{eqb, ltb}
 use Rattle.pack.specs.Names.{Name}
+use Rattle.pack.specs.Table.{hash}
 use Rattle.pack.specs.Intern.{table}
 
--- from the mark of the bytes before
-unfoldable pub markFrom : ℕ → Name → ℕ
-markFrom h [] = h
-markFrom h (b ∷ bs) = markFrom ((h * 16777619 + b) % 4294967296) bs
-
--- a name's mark: as it starts at 1, the length counts too
+-- a name's mark: half of the number by which pack's tables find it
 unfoldable pub markOf : Name → ℕ
-markOf n = markFrom 1 n
+markOf n = hash n % 4294967296
 
 unfoldable pub marksOf : List Name → List ℕ
 marksOf [] = []

@@ -1,15 +1,17 @@
 -- The checks of initial states and targets on the layout: what the code does, structural on the levels left.
 use Prim.Native.Nat.{ℕ, zero, suc, _+_}
 use mathlib.Core.List.{List}
-use mathlib.Core.Bool.{Bool, false, cond, _||_}
-use lib.ListN.{getD}
+use mathlib.Core.Bool.{Bool, true, false, cond, _&&_, _||_}
+use mathlib.Core.Path.{_≡_}
+use lib.ListN.{length, getD}
 use lib.Dec.{eqb}
 use Rattle.pack.specs.Names.{Name}
 use Rattle.pack.specs.Read.{exprIn}
 use Rattle.machines.specs.declared.valid.Checked.{Checked}
 use Rattle.machines.specs.declared.valid.Checked.the-variants as ck
-use Rattle.machines.specs.Stands.{endOf}
+use Rattle.machines.specs.Stands.{endOf, overIn}
 use Rattle.machines.specs.Sure.{numberIn, with}
+use Rattle.machines.specs.Lays.{movesAt}
 
 -- what goes on where nothing is wrong
 unfoldable pub orThen : Checked → Checked → Checked
@@ -51,3 +53,24 @@ module _ (ns : List Name) (s t : List ℕ) where
   checkedRegion zero q = ck.Fine
   checkedRegion (suc l) q =
       cond (hasT s t q (getD t q 0)) (eachRow t (checkedState (checkedRegion l) q) (getD t (q + 6) 0) (q + 9)) (ck.Initial q)
+
+  -- the row at the word p is that of the state drawn at `at`
+  unfoldable pub rowDrawn : ℕ → ℕ → Bool
+  rowDrawn p at = eqb (getD t p 0) at && eqb (getD t (p + 1) 0) (movesAt ns s at)
+
+  -- n rows from the word p on are those of the states drawn one after the other from `at` on
+  unfoldable pub rowsDrawn : ℕ → ℕ → ℕ → Bool
+  rowsDrawn zero p at = true
+  rowsDrawn (suc n) p at = rowDrawn p at && rowsDrawn n (getD t (p + 4) 0) (overIn ns s at)
+
+  -- nothing is wrong with the targets of n states from the word p on, in the region at the word q
+  unfoldable pub AllFine : ℕ → ℕ → ℕ → Type 0
+  AllFine q zero p = Unit {0}
+  AllFine q (suc n) p = (targetsT q p ≡ ck.Fine) × AllFine q n (getD t (p + 4) 0)
+
+-- what is known of one state's targets, and of n states' targets, where `closed` is true
+abbrev pub FineWhere : List ℕ → ℕ → List ℕ → Bool → ℕ → ℕ → Type 0
+FineWhere s names t closed q p = (ns : List Name) → length ns ≡ names → closed ≡ true → targetsT ns s t q p ≡ ck.Fine
+
+abbrev pub AllFineWhere : List ℕ → ℕ → List ℕ → Bool → ℕ → ℕ → ℕ → Type 0
+AllFineWhere s names t closed q n p = (ns : List Name) → length ns ≡ names → closed ≡ true → AllFine ns s t q n p

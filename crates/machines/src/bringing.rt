@@ -91,7 +91,7 @@ pub fn next_to(ats: &[usize], n: usize, k: usize, i: usize) -> usize
 }
 
 // How many equations the machine i brings to the node k.
-fn brings_equations(
+pub fn brings_equations(
     s: &[u8],
     names: usize,
     mats: &[usize],

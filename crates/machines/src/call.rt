@@ -53,7 +53,7 @@ fn fill_tables(
     t: &mut [usize],
     reg: &mut [usize],
     lets: &mut [u8],
-    nodes: &mut [usize],
+    nodes: &mut [u16],
     mats: &mut [usize],
     ats: &mut [usize],
     regs: &mut [usize],
@@ -192,7 +192,7 @@ fn lower_opened(
     t: &mut [usize],
     reg: &mut [usize],
     lets: &mut [u8],
-    nodes: &mut [usize],
+    nodes: &mut [u16],
     mats: &mut [usize],
     ats: &mut [usize],
     regs: &mut [usize],
@@ -249,11 +249,11 @@ fn lower_whole(s: &[u8], k: Pack, output: &mut [u8], report: &mut [u8]) -> Outco
 {
     let mut spots = [0u16; 32768];
     let mut to = [0u16; 32768];
-    let mut ends = [0u16; 52432];
+    let mut ends = [0u16; 58986];
     let mut t = [0usize; 7698];
     let mut reg = [0usize; 514];
     let mut lets = [0u8; 131072];
-    let mut nodes = [0usize; 5958];
+    let mut nodes = [0u16; 5958];
     let mut mats = [0usize; 4682];
     let mut ats = [0usize; 4682];
     let mut regs = [0usize; 4682];

@@ -1,6 +1,9 @@
 // Whether a resolved machine's states give an output: a state calls its regions and a region its states,
 // with the levels left as the falling number.
+use crate::cells::cell;
+use crate::cells::put_cell;
 use crate::ends::end_of;
+use crate::kept::kept_regions;
 use crate::rows::first;
 use crate::rows::inner;
 use crate::rows::word;
@@ -8,23 +11,19 @@ use crate::sure::number;
 use crate::table::entry;
 ghost use mathlib.Core.List.{List};
 ghost use mathlib.Core.Path.{_≡_};
-ghost use mathlib.Core.Bool.{_&&_, _||_};
-ghost use Prim.Native.Nat.{_≤_};
+ghost use mathlib.Core.Bool.{_&&_};
+ghost use Prim.Native.Nat.{_<_, _≤_};
 ghost use lib.ListN.{length};
 ghost use Rattle.pack.specs.Names.{Name};
 ghost use Rattle.machines.specs.Ends.{EndsRight};
+ghost use Rattle.machines.specs.Kept.{regionsIn};
 ghost use Rattle.machines.specs.Covers.{givesT, orNext, ownT, missT, uncoveredT};
+ghost use Rattle.machines.specs.Told.{ToldRight, toldMark};
 
 // A yes or no, and the offset after what it was asked of.
 pub struct Told {
     pub yes: bool,
     pub next: usize,
-}
-
-pub fn either(a: bool, b: bool) -> bool
-    ensures { λ r. ⌜ r ≡ (a || b) ⌝ }
-{
-    if a { true } else { b }
 }
 
 pub fn both(a: bool, b: bool) -> bool
@@ -56,14 +55,57 @@ fn own(s: &[u8], names: usize, ends: &[u16], out: usize, at: usize) -> bool
     let t = number(s, i.next);
     let mut n = t.value;
     let mut p = t.next;
-    let mut a = false;
     while 0 < n {
         let e = gives(s, names, ends, out, p);
-        a = either(a, e.yes);
+        if e.yes {
+            return true;
+        }
         n = n - 1;
         p = e.next;
     }
-    a
+    false
+}
+
+// What a state's cell says of an output that the state's own equations give or do not give.
+fn mark(out: usize, given: bool) -> usize
+    requires { ⌜ out < 32767 ⌝ }
+    ensures { λ r. ⌜ r ≡ toldMark out given ⌝ }
+{
+    if given { 2 * out + 2 } else { 2 * out + 1 }
+}
+
+// Whether an equation of the state at `at`, which is kept, gives `out`. A state that is drawn once may stand hundreds of times in
+// a resolved machine: its equations are looked at only where its cell says nothing of `out`.
+fn own_kept(s: &[u8], names: usize, ends: &[u16], told: &mut [u16], out: usize, at: usize) -> bool
+    requires { ⌜ (length (now s) ≤ 65536) × EndsRight (now s) names (now ends) × ToldRight (now s) names (now ends) (now told) × (out < 32767) × (0 < regionsIn (now ends) at) ⌝ }
+    ensures { λ r. ⌜ ((ns : List Name) → length ns ≡ names → r ≡ ownT ns (now (s .entry)) out at) ⌝ }
+    ensures { λ _. ⌜ ToldRight (now (s .entry)) names (now (ends .entry)) (now (told .exit)) ⌝ }
+{
+    let c = cell(told, at / 10);
+    if c == mark(out, false) {
+        return false;
+    }
+    if c == mark(out, true) {
+        return true;
+    }
+    let r = own(s, names, ends, out, at);
+    put_cell(told, at / 10, mark(out, r));
+    r
+}
+
+// The same of any state. One that is not kept has no cell of its own, and the mark of a larger index fits no cell.
+fn own_told(s: &[u8], names: usize, ends: &[u16], told: &mut [u16], out: usize, at: usize) -> bool
+    requires { ⌜ (length (now s) ≤ 65536) × EndsRight (now s) names (now ends) × ToldRight (now s) names (now ends) (now told) ⌝ }
+    ensures { λ r. ⌜ ((ns : List Name) → length ns ≡ names → r ≡ ownT ns (now (s .entry)) out at) ⌝ }
+    ensures { λ _. ⌜ ToldRight (now (s .entry)) names (now (ends .entry)) (now (told .exit)) ⌝ }
+{
+    if 32767 <= out {
+        return own(s, names, ends, out, at);
+    }
+    if kept_regions(ends, at) == 0 {
+        return own(s, names, ends, out, at);
+    }
+    own_kept(s, names, ends, told, out, at)
 }
 
 // The first number, or the second where that is 0.
@@ -80,14 +122,16 @@ fn uncovered_state(
     names: usize,
     ends: &[u16],
     t: &[usize],
+    told: &mut [u16],
     out: usize,
     levels: usize,
     p: usize,
 ) -> usize
-    requires { ⌜ (length (now s) ≤ 65536) × EndsRight (now s) names (now ends) ⌝ }
+    requires { ⌜ (length (now s) ≤ 65536) × EndsRight (now s) names (now ends) × ToldRight (now s) names (now ends) (now told) ⌝ }
     ensures { λ r. ⌜ ((ns : List Name) → length ns ≡ names → r ≡ missT ns (now (s .entry)) (now (t .entry)) out (uncoveredT ns (now (s .entry)) (now (t .entry)) out levels) p) ⌝ }
+    ensures { λ _. ⌜ ToldRight (now (s .entry)) names (now (ends .entry)) (now (told .exit)) ⌝ }
 {
-    if own(s, names, ends, out, entry(t, p)) {
+    if own_told(s, names, ends, told, out, entry(t, p)) {
         return 0;
     }
     let mut n = word(t, p, 5);
@@ -97,7 +141,7 @@ fn uncovered_state(
     let mut g = inner(t, p);
     let mut miss = 0;
     while 0 < n {
-        let m = uncovered_region(s, names, ends, t, out, levels, g);
+        let m = uncovered_region(s, names, ends, t, told, out, levels, g);
         if m == 0 {
             return 0;
         }
@@ -114,12 +158,14 @@ pub fn uncovered_region(
     names: usize,
     ends: &[u16],
     t: &[usize],
+    told: &mut [u16],
     out: usize,
     levels: usize,
     q: usize,
 ) -> usize
-    requires { ⌜ (length (now s) ≤ 65536) × EndsRight (now s) names (now ends) ⌝ }
+    requires { ⌜ (length (now s) ≤ 65536) × EndsRight (now s) names (now ends) × ToldRight (now s) names (now ends) (now told) ⌝ }
     ensures { λ r. ⌜ ((ns : List Name) → length ns ≡ names → r ≡ uncoveredT ns (now (s .entry)) (now (t .entry)) out levels q) ⌝ }
+    ensures { λ _. ⌜ ToldRight (now (s .entry)) names (now (ends .entry)) (now (told .exit)) ⌝ }
 {
     if levels == 0 {
         return 0;
@@ -127,7 +173,7 @@ pub fn uncovered_region(
     let mut n = word(t, q, 6);
     let mut p = first(t, q);
     while 0 < n {
-        let m = uncovered_state(s, names, ends, t, out, levels - 1, p);
+        let m = uncovered_state(s, names, ends, t, told, out, levels - 1, p);
         if m != 0 {
             return m;
         }
@@ -135,4 +181,21 @@ pub fn uncovered_region(
         n = n - 1;
     }
     0
+}
+
+// The same where one output is asked for: nothing is worth remembering.
+pub fn uncovered_once(
+    s: &[u8],
+    names: usize,
+    ends: &[u16],
+    t: &[usize],
+    out: usize,
+    levels: usize,
+    q: usize,
+) -> usize
+    requires { ⌜ (length (now s) ≤ 65536) × EndsRight (now s) names (now ends) ⌝ }
+    ensures { λ r. ⌜ ((ns : List Name) → length ns ≡ names → r ≡ uncoveredT ns (now (s .entry)) (now (t .entry)) out levels q) ⌝ }
+{
+    let mut none = [0u16; 1];
+    uncovered_region(s, names, ends, t, &mut none, out, levels, q)
 }

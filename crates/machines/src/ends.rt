@@ -1,12 +1,16 @@
 // Looked up where it is kept, and read where it is not: where an equation and a guard end, where a state's transitions and its
-// regions are.
+// regions are, and where it ends.
+use crate::kept::EQUATION;
+use crate::kept::GUARD;
 use crate::kept::kept;
 use crate::kept::kept_moves;
+use crate::kept::kept_past;
 use crate::kept::kept_regions;
 use crate::sure::Num;
 use crate::sure::after_equation;
 use crate::sure::after_equations;
 use crate::sure::after_expr;
+use crate::sure::after_state;
 use crate::sure::after_transitions;
 use crate::sure::number;
 ghost use mathlib.Core.List.{List};
@@ -15,7 +19,7 @@ ghost use Prim.Native.Nat.{_≤_};
 ghost use lib.ListN.{length};
 ghost use Rattle.pack.specs.Names.{Name};
 ghost use Rattle.pack.specs.Read.{equationIn, exprIn};
-ghost use Rattle.machines.specs.Stands.{endOf};
+ghost use Rattle.machines.specs.Stands.{endOf, overIn};
 ghost use Rattle.machines.specs.Lays.{movesAt, regionsAt};
 ghost use Rattle.machines.specs.Ends.{EndsRight};
 
@@ -24,7 +28,7 @@ pub fn end_of(s: &[u8], names: usize, ends: &[u16], at: usize) -> usize
     requires { ⌜ (length (now s) ≤ 65536) × EndsRight (now s) names (now ends) ⌝ }
     ensures { λ r. ⌜ ((ns : List Name) → length ns ≡ names → r ≡ endOf (equationIn ns (now (s .entry)) at)) ⌝ }
 {
-    let e = kept(ends, at, 1);
+    let e = kept(ends, at, EQUATION);
     if 0 < e {
         return e;
     }
@@ -36,7 +40,7 @@ pub fn guard_end(s: &[u8], names: usize, ends: &[u16], at: usize) -> usize
     requires { ⌜ (length (now s) ≤ 65536) × EndsRight (now s) names (now ends) ⌝ }
     ensures { λ r. ⌜ ((ns : List Name) → length ns ≡ names → r ≡ endOf (exprIn ns (now (s .entry)) at)) ⌝ }
 {
-    let e = kept(ends, at, 6);
+    let e = kept(ends, at, GUARD);
     if 0 < e {
         return e;
     }
@@ -67,4 +71,16 @@ pub fn regions_of(s: &[u8], names: usize, ends: &[u16], at: usize) -> Num
     }
     let m = moves_of(s, names, ends, at);
     number(s, after_transitions(s, names, m))
+}
+
+// Past the state at `at`.
+pub fn past_of(s: &[u8], names: usize, ends: &[u16], at: usize) -> usize
+    requires { ⌜ (length (now s) ≤ 65536) × EndsRight (now s) names (now ends) ⌝ }
+    ensures { λ r. ⌜ ((ns : List Name) → length ns ≡ names → r ≡ overIn ns (now (s .entry)) at) ⌝ }
+{
+    let r = kept_regions(ends, at);
+    if 0 < r {
+        return kept_past(ends, at);
+    }
+    after_state(s, names, at)
 }

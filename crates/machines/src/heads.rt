@@ -11,7 +11,7 @@ ghost use mathlib.Core.Path.{_≡_};
 ghost use Prim.Native.Nat.{_≤_};
 ghost use lib.ListN.{length};
 ghost use Rattle.pack.specs.Names.{Name};
-ghost use Rattle.machines.specs.Walks.{maxOf, targetT, headT};
+ghost use Rattle.machines.specs.Walks.{lenAt, maxOf, targetT, headT};
 ghost use Rattle.machines.specs.Lays.{movesAt};
 ghost use Rattle.machines.specs.Ends.{EndsRight, KeptRight};
 
@@ -19,6 +19,14 @@ pub fn most(a: usize, b: usize) -> usize
     ensures { λ r. ⌜ r ≡ maxOf a b ⌝ }
 {
     if a < b { b } else { a }
+}
+
+// The length of the name whose index stands at `at`.
+pub fn len_at(s: &[u8], spots: &[u16], at: usize) -> usize
+    ensures { λ r. ⌜ r ≡ lenAt (now (s .entry)) (now (spots .entry)) at ⌝ }
+{
+    let i = number(s, at);
+    name_len(s, spots, i.value)
 }
 
 // A transition: its target's length.

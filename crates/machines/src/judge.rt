@@ -1,5 +1,6 @@
 // Whether a machine is accepted, or why it is refused: resolving, then its states' names, initial states and targets,
 // then its outputs.
+use crate::cover::both;
 use crate::cover::uncovered_region;
 use crate::lay::lay_machine;
 use crate::refusal::Called;
@@ -22,7 +23,9 @@ ghost use mathlib.Core.Path.{_≡_};
 ghost use Prim.Native.Nat.{_≤_};
 ghost use lib.ListN.{length};
 ghost use Rattle.pack.specs.Names.{Name};
+ghost use Rattle.machines.specs.Covers.{uncoveredT};
 ghost use Rattle.machines.specs.Ends.{EndsRight, KeptRight};
+ghost use Rattle.machines.specs.Told.{GivenWhere, ToldRight};
 ghost use Rattle.machines.specs.Judging.{noName, named as namedOf, refusedBy, stateCalled, calledAt, againCalled, outputsJ, checkedJ, laidJ, judgeAt, boardAt};
 
 pub fn no_name() -> Called
@@ -93,7 +96,30 @@ fn again_called(lets: &[u8], d: usize) -> Called
     }
 }
 
-// The outputs of a machine that is laid out, `count` from the offset `from` on: the first that a state does not give.
+// 0 where each state gives the output x, else the word of a state that does not. Where an output was asked for and is given, it need
+// not be asked for again: a machine may have it thousands of times.
+fn uncovered_output(
+    s: &[u8],
+    names: usize,
+    ends: &[u16],
+    t: &[usize],
+    told: &mut [u16],
+    asked: bool,
+    last: usize,
+    x: usize,
+) -> usize
+    requires { ⌜ (length (now s) ≤ 65536) × EndsRight (now s) names (now ends) × ToldRight (now s) names (now ends) (now told) × GivenWhere asked (now s) names (now t) last ⌝ }
+    ensures { λ r. ⌜ ((ns : List Name) → length ns ≡ names → r ≡ uncoveredT ns (now (s .entry)) (now (t .entry)) x 8 0) ⌝ }
+    ensures { λ _. ⌜ ToldRight (now (s .entry)) names (now (ends .entry)) (now (told .exit)) ⌝ }
+{
+    if both(asked, x == last) {
+        return 0;
+    }
+    uncovered_region(s, names, ends, t, told, x, Pack::LEVELS, 0)
+}
+
+// The outputs of a machine that is laid out, `count` from the offset `from` on: the first that a state does not give. What drawn
+// states give is remembered, a cell for ten bytes of the pack.
 fn judge_outputs(
     s: &[u8],
     names: usize,
@@ -106,14 +132,19 @@ fn judge_outputs(
     requires { ⌜ (length (now s) ≤ 65536) × EndsRight (now s) names (now ends) ⌝ }
     ensures { λ r. ⌜ ((ns : List Name) → length ns ≡ names → r ≡ outputsJ ns (now (s .entry)) (now (t .entry)) regions count from) ⌝ }
 {
+    let mut told = [0u16; 6554];
+    let mut asked = false;
+    let mut last = 0;
     let mut n = count;
     let mut p = from;
     while 0 < n {
         let x = number(s, p);
-        let m = uncovered_region(s, names, ends, t, x.value, Pack::LEVELS, 0);
+        let m = uncovered_output(s, names, ends, t, &mut told, asked, last, x.value);
         if m != 0 {
             return refused(4, named(x.value), state_called(t, m));
         }
+        asked = true;
+        last = x.value;
         p = after_port(s, names, p);
         n = n - 1;
     }

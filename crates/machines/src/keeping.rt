@@ -1,13 +1,20 @@
-// What walking, laying out and looking for outputs need of the drawn states, read once a call and kept. Where it does not fit,
-// nothing is kept.
+// What walking, laying out, checking and looking for outputs need of the drawn states, read once a call and kept. Where it does not
+// fit, nothing is kept.
+use crate::closed::drawn_closed;
+use crate::empties::empties_from;
 use crate::heads::most;
 use crate::heads::read_head;
+use crate::kept::CLOSED;
+use crate::kept::EQUATION;
+use crate::kept::GUARD;
 use crate::kept::keep;
+use crate::kept::keep_empties;
 use crate::kept::keep_state;
 use crate::sure::Num;
 use crate::sure::after_equation;
 use crate::sure::after_equations;
 use crate::sure::after_expr;
+use crate::sure::after_state;
 use crate::sure::after_transitions;
 use crate::sure::machine;
 use crate::sure::number;
@@ -15,17 +22,25 @@ use crate::sure::region;
 use crate::table::to_initial;
 use pack::record::Pack;
 ghost use mathlib.Core.List.{List};
+ghost use mathlib.Core.Path.{_≡_};
 ghost use Prim.Native.Nat.{ℕ, _≤_};
 ghost use lib.ListN.{length};
+ghost use Rattle.wire.specs.Answer.{counted};
+ghost use Rattle.pack.specs.Names.{Name};
+ghost use Rattle.pack.specs.Read.{equationIn, exprIn, transitionIn};
+ghost use Rattle.machines.specs.Stands.{endOf};
+ghost use Rattle.machines.specs.Sure.{numberIn};
+ghost use Rattle.machines.specs.Lays.{movesAt};
 ghost use Rattle.machines.specs.Ends.{HeadRead, KeptRight};
 
 // Keeps where the equation at `at` ends, and answers it.
 fn put_end(s: &[u8], names: usize, ends: &mut [u16], at: usize) -> usize
     requires { ⌜ length (now s) ≤ 65536 ⌝ }
+    ensures { λ r. ⌜ ((ns : List Name) → length ns ≡ names → r ≡ endOf (equationIn ns (now (s .entry)) at)) ⌝ }
     ensures { λ _. ⌜ ((spots : List ℕ) → KeptRight (now (s .entry)) names spots (now (ends .entry)) → KeptRight (now (s .entry)) names spots (now (ends .exit))) ⌝ }
 {
     let e = after_equation(s, names, at);
-    keep(ends, at, 1, e);
+    keep(ends, at, EQUATION, e);
     e
 }
 
@@ -45,10 +60,11 @@ fn put_ends(s: &[u8], names: usize, ends: &mut [u16], count: usize, from: usize)
 // Keeps where the guard at `at` ends; the offset after its transition.
 fn put_guard(s: &[u8], names: usize, ends: &mut [u16], at: usize) -> usize
     requires { ⌜ length (now s) ≤ 65536 ⌝ }
+    ensures { λ r. ⌜ ((ns : List Name) → length ns ≡ names → r ≡ numberIn (now (s .entry)) (endOf (exprIn ns (now (s .entry)) at)) .next) ⌝ }
     ensures { λ _. ⌜ ((spots : List ℕ) → KeptRight (now (s .entry)) names spots (now (ends .entry)) → KeptRight (now (s .entry)) names spots (now (ends .exit))) ⌝ }
 {
     let e = after_expr(s, names, at);
-    keep(ends, at, 6, e);
+    keep(ends, at, GUARD, e);
     let x = number(s, e);
     x.next
 }
@@ -66,25 +82,27 @@ fn put_guards(s: &[u8], names: usize, ends: &mut [u16], count: usize, from: usiz
     }
 }
 
-// Keeps what was read of the state at `at`: its head h, where its transitions are (m) and its regions' count (r). Bytes that are no
-// state may be read past in two ways: such a state is not kept.
-fn put_state(ends: &mut [u16], at: usize, h: Num, m: usize, r: usize)
-    ensures { λ _. ⌜ ((s : List ℕ) (names : ℕ) (spots : List ℕ) → KeptRight s names spots (now (ends .entry)) → HeadRead s names spots at h m r → KeptRight s names spots (now (ends .exit))) ⌝ }
+// Keeps what was read of the state at `at`: its head h, where its transitions are (m), where it ends (o), and where its regions'
+// count is (r). Bytes that are no state may be read past in two ways: such a state is not kept.
+fn put_state(ends: &mut [u16], at: usize, h: Num, m: usize, o: usize, r: usize)
+    ensures { λ _. ⌜ ((s : List ℕ) (names : ℕ) (spots : List ℕ) → KeptRight s names spots (now (ends .entry)) → HeadRead s names spots at h m o r → KeptRight s names spots (now (ends .exit))) ⌝ }
 {
     if h.next != r {
         return;
     }
     let a = most(at, h.value);
     let b = most(m, r);
-    if 65536 <= most(a, b) {
+    let c = most(a, b);
+    if 65536 <= most(c, o) {
         return;
     }
-    keep_state(ends, at, h.value, m, r);
+    keep_state(ends, at, h.value, m, o, r);
 }
 
 // The equations, the guards and the head of the state at `at`; where its regions' count stands.
 fn put_head(s: &[u8], names: usize, spots: &[u16], ends: &mut [u16], at: usize) -> usize
     requires { ⌜ (length (now s) ≤ 65536) × KeptRight (now s) names (now spots) (now ends) ⌝ }
+    ensures { λ r. ⌜ ((ns : List Name) → length ns ≡ names → r ≡ endOf (counted (transitionIn ns (now (s .entry))) (now (s .entry)) (movesAt ns (now (s .entry)) at))) ⌝ }
     ensures { λ _. ⌜ KeptRight (now (s .entry)) names (now (spots .entry)) (now (ends .exit)) ⌝ }
 {
     let i = number(s, at);
@@ -95,8 +113,56 @@ fn put_head(s: &[u8], names: usize, spots: &[u16], ends: &mut [u16], at: usize) 
     put_guards(s, names, ends, g.value, g.next);
     let h = read_head(s, names, spots, ends, at, m);
     let r = after_transitions(s, names, m);
-    put_state(ends, at, h, m, r);
+    let o = after_state(s, names, at);
+    put_state(ends, at, h, m, o, r);
     r
+}
+
+// Keeps how many of n regions from `at` on have no states, where these are several; how many follow the one at `at`. Where `known`
+// are known to follow, they are kept already.
+fn put_empties(
+    s: &[u8],
+    names: usize,
+    spots: &[u16],
+    ends: &mut [u16],
+    n: usize,
+    known: usize,
+    at: usize,
+) -> usize
+    requires { ⌜ (length (now s) ≤ 65536) × KeptRight (now s) names (now spots) (now ends) ⌝ }
+    ensures { λ _. ⌜ KeptRight (now (s .entry)) names (now (spots .entry)) (now (ends .exit)) ⌝ }
+{
+    if 0 < known {
+        return known - 1;
+    }
+    let e = empties_from(s, spots, n, at);
+    let k = e.count;
+    let l = e.longest;
+    if k < 2 {
+        return 0;
+    }
+    if 65536 <= l {
+        return 0;
+    }
+    keep_empties(ends, at, l, k);
+    k - 1
+}
+
+// Keeps that the transitions of the `count` states from `from` on stay among them, where they do. The row is that of the bytes
+// before the states, where no equation and no guard begins.
+fn put_closed(s: &[u8], names: usize, spots: &[u16], ends: &mut [u16], count: usize, from: usize)
+    requires { ⌜ (length (now s) ≤ 65536) × KeptRight (now s) names (now spots) (now ends) ⌝ }
+    ensures { λ _. ⌜ KeptRight (now (s .entry)) names (now (spots .entry)) (now (ends .exit)) ⌝ }
+{
+    if count == 0 {
+        return;
+    }
+    if from < 5 {
+        return;
+    }
+    if drawn_closed(s, names, ends, count, from) {
+        keep(ends, from - 5, CLOSED, count);
+    }
 }
 
 // The state at `at` and the states in its regions; the offset after it.
@@ -115,8 +181,10 @@ fn keep_in_state(
     let r = number(s, e);
     let mut n = r.value;
     let mut p = r.next;
+    let mut known = 0;
     while 0 < n {
         let h = region(s, p);
+        known = put_empties(s, names, spots, ends, n, known, p);
         p = keep_in_states(s, names, spots, ends, levels, h.value, h.next);
         n = n - 1;
     }
@@ -146,6 +214,7 @@ fn keep_in_states(
         p = keep_in_state(s, names, spots, ends, levels - 1, p);
         n = n - 1;
     }
+    put_closed(s, names, spots, ends, count, from);
     p
 }
 

@@ -1,14 +1,21 @@
-// What is kept of equations, guards and states, by where they begin: a table that is filled once, so that what is visited many
-// times is read once. Nothing depends on its being complete: what it does not have is read.
+// What is kept of equations, guards, regions and states, by where they begin: a table that is filled once, so that what is visited
+// many times is read once. Nothing depends on its being complete: what it does not have is read.
 use crate::cells::cell;
 use crate::cells::put_cell;
 ghost use mathlib.Core.Path.{_≡_};
-ghost use Prim.Native.Nat.{_<_, _≤_};
-ghost use Rattle.machines.specs.Kept.{keptIn, keptPut, stateRow, longestIn, movesIn, regionsIn, statePut};
+ghost use Prim.Native.Nat.{_+_, _%_, _<_, _≤_};
+ghost use Rattle.machines.specs.Kept.{keptIn, rowPut, emptiesIn, emptyLongest, emptyMark, stateRow, longestIn, movesIn, pastIn, regionsIn, statePut};
 
-// Where the equation (k is 1) or the guard (k is 6) at p ends; 0 where that is not kept.
+// The kinds of things that have rows of two cells (specs/Kept).
+pub const EQUATION: usize = 1;
+
+pub const GUARD: usize = 6;
+
+pub const CLOSED: usize = 11;
+
+// The value that is kept of the thing of the kind k at p; 0 where none is.
 pub fn kept(ends: &[u16], p: usize, k: usize) -> usize
-    requires { ⌜ k ≤ 6 ⌝ }
+    requires { ⌜ k ≤ 11 ⌝ }
     ensures { λ r. ⌜ r ≡ keptIn (now (ends .entry)) p k ⌝ }
 {
     if 65536 <= p {
@@ -21,28 +28,68 @@ pub fn kept(ends: &[u16], p: usize, k: usize) -> usize
     0
 }
 
-// Keeps that it ends at e, where both fit a cell.
-pub fn keep(ends: &mut [u16], p: usize, k: usize, e: usize)
-    requires { ⌜ k ≤ 6 ⌝ }
-    ensures { λ _. ⌜ now (ends .exit) ≡ keptPut (now (ends .entry)) p k e ⌝ }
+// A row of the mark m and the value v, where all fits a cell.
+fn put_row(ends: &mut [u16], p: usize, m: usize, v: usize)
+    ensures { λ _. ⌜ now (ends .exit) ≡ rowPut (now (ends .entry)) p m v ⌝ }
 {
     if 65536 <= p {
         return;
     }
-    if 65536 <= e {
+    if 65536 <= m {
+        return;
+    }
+    if 65536 <= v {
         return;
     }
     let b = 2 * (p / 5);
-    put_cell(ends, b, p % 5 + k);
-    put_cell(ends, b + 1, e);
+    put_cell(ends, b, m);
+    put_cell(ends, b + 1, v);
+}
+
+// Keeps the value v of the thing of the kind k at p.
+pub fn keep(ends: &mut [u16], p: usize, k: usize, v: usize)
+    requires { ⌜ k ≤ 11 ⌝ }
+    ensures { λ _. ⌜ now (ends .exit) ≡ rowPut (now (ends .entry)) p (p % 5 + k) v ⌝ }
+{
+    put_row(ends, p, p % 5 + k, v);
+}
+
+// How many regions without states follow one another from p on; 0 where that is not kept.
+pub fn kept_empties(ends: &[u16], p: usize) -> usize
+    ensures { λ r. ⌜ r ≡ emptiesIn (now (ends .entry)) p ⌝ }
+{
+    if 65536 <= p {
+        return 0;
+    }
+    let b = 2 * (p / 5);
+    if cell(ends, b) % 32 == p % 5 + 16 {
+        return cell(ends, b + 1);
+    }
+    0
+}
+
+// And the longest name of their initial states.
+pub fn kept_initials(ends: &[u16], p: usize) -> usize
+    ensures { λ r. ⌜ r ≡ emptyLongest (now (ends .entry)) p ⌝ }
+{
+    let b = 2 * (p / 5);
+    cell(ends, b) / 32
+}
+
+// Keeps that there are n, and that the longest such name has l letters.
+pub fn keep_empties(ends: &mut [u16], p: usize, l: usize, n: usize)
+    requires { ⌜ l < 65536 ⌝ }
+    ensures { λ _. ⌜ now (ends .exit) ≡ rowPut (now (ends .entry)) p (emptyMark p l) n ⌝ }
+{
+    put_row(ends, p, p % 5 + 16 + 32 * l, n);
 }
 
 // Where the row of the state at p begins.
 fn state_row(p: usize) -> usize
     ensures { λ r. ⌜ r ≡ stateRow p ⌝ }
-    ensures { λ r. ⌜ r < 9223372036854775808 ⌝ }
+    ensures { λ r. ⌜ r < 9300000000000000000 ⌝ }
 {
-    26216 + 4 * (p / 10)
+    26216 + 5 * (p / 10)
 }
 
 // Of a state that is kept: the longest name of its head.
@@ -53,12 +100,20 @@ pub fn kept_longest(ends: &[u16], p: usize) -> usize
     cell(ends, b + 1)
 }
 
-// And where its transitions begin.
+// Where its transitions begin.
 pub fn kept_moves(ends: &[u16], p: usize) -> usize
     ensures { λ r. ⌜ r ≡ movesIn (now (ends .entry)) p ⌝ }
 {
     let b = state_row(p);
     cell(ends, b + 2)
+}
+
+// And where it ends.
+pub fn kept_past(ends: &[u16], p: usize) -> usize
+    ensures { λ r. ⌜ r ≡ pastIn (now (ends .entry)) p ⌝ }
+{
+    let b = state_row(p);
+    cell(ends, b + 3)
 }
 
 // Where the regions' count of the state at p stands; 0 where the state is not kept.
@@ -67,19 +122,20 @@ pub fn kept_regions(ends: &[u16], p: usize) -> usize
 {
     let b = state_row(p);
     if cell(ends, b) == p {
-        return cell(ends, b + 3);
+        return cell(ends, b + 4);
     }
     0
 }
 
-// Keeps the state at p: its longest name, where its transitions begin and where its regions' count stands.
-pub fn keep_state(ends: &mut [u16], p: usize, l: usize, m: usize, r: usize)
-    requires { ⌜ (p < 65536) × (l < 65536) × (m < 65536) × (r < 65536) ⌝ }
-    ensures { λ _. ⌜ now (ends .exit) ≡ statePut (now (ends .entry)) p l m r ⌝ }
+// Keeps the state at p: its longest name, where its transitions begin, where it ends, where its regions' count stands.
+pub fn keep_state(ends: &mut [u16], p: usize, l: usize, m: usize, o: usize, r: usize)
+    requires { ⌜ (p < 65536) × (l < 65536) × (m < 65536) × (o < 65536) × (r < 65536) ⌝ }
+    ensures { λ _. ⌜ now (ends .exit) ≡ statePut (now (ends .entry)) p l m o r ⌝ }
 {
     let b = state_row(p);
     put_cell(ends, b, p);
     put_cell(ends, b + 1, l);
     put_cell(ends, b + 2, m);
-    put_cell(ends, b + 3, r);
+    put_cell(ends, b + 3, o);
+    put_cell(ends, b + 4, r);
 }

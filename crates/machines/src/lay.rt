@@ -2,11 +2,12 @@
 // the full names of states. What comes after looks at the tables alone, and meets no refinement and no prefix.
 use crate::cells::cell;
 use crate::cover::both;
+use crate::empties::at_once;
+use crate::empties::open_regions;
 use crate::ends::moves_of;
 use crate::ends::regions_of;
 use crate::opening::Opening;
 use crate::opening::machine_as;
-use crate::opening::region_from;
 use crate::spell::spell;
 use crate::sure::number;
 use crate::table::put;
@@ -16,10 +17,12 @@ use crate::words::put_state_words;
 use crate::words::put_word;
 use pack::record::Pack;
 ghost use mathlib.Core.List.{List};
+ghost use mathlib.Core.Bool.{true};
 ghost use mathlib.Core.Path.{_≡_};
-ghost use Prim.Native.Nat.{ℕ, _≤_};
+ghost use Prim.Native.Nat.{ℕ, _<_, _≤_};
 ghost use lib.ListN.{length};
 ghost use Rattle.pack.specs.Names.{Name};
+ghost use Rattle.machines.specs.Empties.{AtOnce};
 ghost use Rattle.machines.specs.Ends.{EndsRight};
 ghost use Rattle.machines.specs.Laid.{holed};
 ghost use Rattle.machines.specs.Lays.{sum as sumOf, tally as tallyOf, board, closeState, enteredOf, lay as laid, layMachine, layRegion, layState, movedTo, openRegion, openState};
@@ -149,6 +152,20 @@ fn open_region(
     }
 }
 
+// How many of n regions from `at` on are passed at once: only where one without states was met before, and they may open.
+fn passed_at_once(ends: &[u16], levels: usize, hole: bool, n: usize, at: usize) -> usize
+    requires { ⌜ 0 < n ⌝ }
+    ensures { λ r. ⌜ AtOnce (now (ends .entry)) n at r × (1 < r → (0 < levels) × (hole ≡ true)) ⌝ }
+{
+    if levels == 0 {
+        return 1;
+    }
+    if hole {
+        return at_once(ends, n, at);
+    }
+    1
+}
+
 // The state at c.next in the region `up`, its regions and its refinement. Its name's prefix is m letters from a on.
 fn lay_state(
     s: &[u8],
@@ -179,7 +196,8 @@ fn lay_state(
         hole: c.hole,
     };
     while 0 < n {
-        let h = region_from(s, e.next);
+        let j = passed_at_once(ends, levels, e.hole, n, e.next);
+        let h = open_regions(s, j, e.next);
         let d = lay_region(
             s,
             names,
@@ -198,7 +216,7 @@ fn lay_state(
             e,
         );
         k = tally(k, e.words, d.words);
-        n = n - 1;
+        n = n - j;
         e = d;
     }
     let f = number(s, e.next);

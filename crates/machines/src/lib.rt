@@ -3,9 +3,11 @@ pub mod cells; // tables of 16-bit words
 pub mod sure; // total readers on a checked pack
 pub mod table; // names and machines by name index
 pub mod path; // the machines on the way from the top
-pub mod kept; // what is kept of equations, guards and states
+pub mod kept; // what is kept of equations, guards, regions and states
 pub mod ends; // looked up where it is kept, read where it is not
+pub mod closed; // whether a drawn region's transitions stay in it
 pub mod heads; // what resolving needs of a state
+pub mod empties; // regions without states, passed over at once
 pub mod walk; // resolving, which counts states and makes no tree
 pub mod keeping; // what is kept, filled
 pub mod cover; // whether a resolved machine's states give an output
@@ -30,6 +32,7 @@ pub mod refusal; // a machine that was judged
 pub mod judge; // whether a machine is accepted
 pub mod report; // the report of refused machines
 pub mod bringing; // what machines bring to nodes, counted
+pub mod busy; // the nodes to which machines go
 pub mod nodes; // nodes as they stand
 pub mod brought; // the locals that machines bring to a node
 pub mod origins; // the origins of machines with an owner

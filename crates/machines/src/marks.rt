@@ -1,4 +1,5 @@
 // Marks of names, by which most names that differ are told apart without a look at their bytes.
+use pack::table::hash;
 ghost use mathlib.Core.Path.{_≡_};
 ghost use lib.ListN.{set};
 ghost use Rattle.machines.specs.Marks.{among as isAmong, markOf, maybe};
@@ -7,13 +8,7 @@ ghost use Rattle.machines.specs.Marks.{among as isAmong, markOf, maybe};
 pub fn mark(n: &[u8]) -> u32
     ensures { λ r. ⌜ r ≡ markOf (now (n .entry)) ⌝ }
 {
-    let mut h = 1;
-    let mut i = 0;
-    while i < n.len() {
-        h = (h * 16777619 + n[i] as usize) % 4294967296;
-        i += 1;
-    }
-    h as u32
+    (hash(n) % 4294967296) as u32
 }
 
 // Whether a mark is among marks.

@@ -1,5 +1,7 @@
 // To which node each accepted machine goes: a node of its own, or its owner among the nodes made so far. Nodes are
 // known by their names' indexes.
+use crate::cells::cell;
+use crate::cells::put_cell;
 use crate::nodes::to_node_equations;
 use crate::sure::after_equations;
 use crate::sure::number;
@@ -23,7 +25,7 @@ fn after_node(s: &[u8], names: usize, at: usize) -> usize
 }
 
 // The names of `count` nodes from `from` on.
-pub fn place_nodes(s: &[u8], names: usize, count: usize, from: usize, nodes: &mut [usize])
+pub fn place_nodes(s: &[u8], names: usize, count: usize, from: usize, nodes: &mut [u16])
     requires { ⌜ length (now s) ≤ 65536 ⌝ }
     ensures { λ _. ⌜ ((ns : List Name) → length ns ≡ names → now (nodes .exit) ≡ fillT (nodeNameT ns (now (s .entry)) from) count 0 (now (nodes .entry))) ⌝ }
 {
@@ -31,19 +33,19 @@ pub fn place_nodes(s: &[u8], names: usize, count: usize, from: usize, nodes: &mu
     let mut p = from;
     while k < count {
         let i = number(s, p);
-        put(nodes, k, i.value);
+        put_cell(nodes, k, i.value);
         p = after_node(s, names, p);
         k += 1;
     }
 }
 
 // The index of the first of n nodes of the name x, n where there is none.
-fn find_node(nodes: &[usize], n: usize, x: usize) -> usize
+fn find_node(nodes: &[u16], n: usize, x: usize) -> usize
     ensures { λ r. ⌜ r ≡ findT (now (nodes .entry)) x n 0 ⌝ }
 {
     let mut i = 0;
     while i < n {
-        let e = entry(nodes, i);
+        let e = cell(nodes, i);
         if e == x {
             return i;
         }
@@ -54,7 +56,7 @@ fn find_node(nodes: &[usize], n: usize, x: usize) -> usize
 
 // Where a machine of so many regions and the owner o goes among n nodes; 65535 where it is refused or its owner is not
 // there.
-fn goes_to(nodes: &[usize], n: usize, regions: usize, o: usize) -> usize
+fn goes_to(nodes: &[u16], n: usize, regions: usize, o: usize) -> usize
     ensures { λ r. ⌜ r ≡ goesTo (now (nodes .entry)) n regions o ⌝ }
 {
     if regions == 0 {
@@ -74,7 +76,7 @@ fn settle(
     regs: &[usize],
     i: usize,
     ats: &mut [usize],
-    nodes: &mut [usize],
+    nodes: &mut [u16],
     n: usize,
 ) -> usize
     requires { ⌜ n ≤ 4294967296 ⌝ }
@@ -87,7 +89,7 @@ fn settle(
     let k = goes_to(nodes, n, g, o.value);
     put(ats, i, k);
     if k == n {
-        put(nodes, n, m.value);
+        put_cell(nodes, n, m.value);
         return n + 1;
     }
     n
@@ -100,7 +102,7 @@ pub fn settle_all(
     regs: &[usize],
     count: usize,
     ats: &mut [usize],
-    nodes: &mut [usize],
+    nodes: &mut [u16],
     old: usize,
 ) -> usize
     requires { ⌜ (count ≤ 65536) × (old ≤ 65536) ⌝ }

@@ -5,6 +5,8 @@ use crate::bringing::brought_equations;
 use crate::bringing::owned;
 use crate::bringing::owned_count;
 use crate::bringing::small;
+use crate::busy::asked;
+use crate::busy::next_busy;
 use crate::nodes::to_node_equations;
 use crate::relaid::put_all_equations;
 use crate::rows::between;
@@ -145,7 +147,7 @@ fn put_old_node(
     )
 }
 
-// `count` nodes that stand from `from` on.
+// `count` nodes that stand from `from` on. Up to the next one to which a machine goes no machine is asked.
 fn put_old_nodes(
     old: &[u8],
     s: &[u8],
@@ -173,7 +175,10 @@ fn put_old_nodes(
     let mut k = 0;
     let mut p = from;
     let mut c = count;
+    let mut b = 0;
     while 0 < c {
+        b = next_busy(ats, n, k, b);
+        let m = asked(k, b, n);
         v = put_old_node(
             old,
             s,
@@ -187,7 +192,7 @@ fn put_old_nodes(
             mats,
             ats,
             regs,
-            n,
+            m,
             k,
             p,
             out,

@@ -1,18 +1,24 @@
 // The checks of a machine that is laid out: its states' names, each region's initial state, and targets.
-// A region's states share their prefix, so that names within it are compared as indexes.
+// A region's states share their prefix, so that names within it are compared as indexes. Where a drawn region is kept as closed,
+// its targets are not looked at again.
 use crate::ends::guard_end;
+use crate::ends::moves_of;
+use crate::ends::past_of;
+use crate::kept::CLOSED;
+use crate::kept::kept;
 use crate::rows::first;
 use crate::rows::inner;
+use crate::rows::is;
 use crate::rows::word;
 use crate::sure::number;
 use crate::table::entry;
 ghost use mathlib.Core.List.{List};
 ghost use mathlib.Core.Path.{_≡_};
-ghost use Prim.Native.Nat.{_≤_};
-ghost use lib.ListN.{length};
+ghost use Prim.Native.Nat.{_+_, _≤_};
+ghost use lib.ListN.{length, getD};
 ghost use Rattle.pack.specs.Names.{Name};
 ghost use Rattle.machines.specs.Ends.{EndsRight};
-ghost use Rattle.machines.specs.Valid.{amongT, hasT, targetsT, checkedState, checkedRegion};
+ghost use Rattle.machines.specs.Valid.{amongT, hasT, targetsT, checkedState, checkedRegion, rowDrawn, rowsDrawn, FineWhere, AllFineWhere};
 
 // What checking came to: nothing wrong, a region (by its word) whose initial state is not among its states,
 // or a state's transition to a name that is not.
@@ -76,6 +82,85 @@ fn check_targets(s: &[u8], names: usize, ends: &[u16], t: &[usize], q: usize, p:
     Checked::Fine
 }
 
+// Whether the row at the word p is that of the state drawn at `at`.
+fn row_drawn(s: &[u8], names: usize, ends: &[u16], t: &[usize], p: usize, at: usize) -> bool
+    requires { ⌜ (length (now s) ≤ 65536) × EndsRight (now s) names (now ends) ⌝ }
+    ensures { λ r. ⌜ ((ns : List Name) → length ns ≡ names → r ≡ rowDrawn ns (now (s .entry)) (now (t .entry)) p at) ⌝ }
+{
+    if entry(t, p) == at {
+        let m = moves_of(s, names, ends, at);
+        return is(word(t, p, 1), m);
+    }
+    false
+}
+
+// Whether `count` rows from the word `from` on are those of the states drawn one after the other from f on.
+fn rows_drawn(
+    s: &[u8],
+    names: usize,
+    ends: &[u16],
+    t: &[usize],
+    count: usize,
+    from: usize,
+    f: usize,
+) -> bool
+    requires { ⌜ (length (now s) ≤ 65536) × EndsRight (now s) names (now ends) ⌝ }
+    ensures { λ r. ⌜ ((ns : List Name) → length ns ≡ names → r ≡ rowsDrawn ns (now (s .entry)) (now (t .entry)) count from f) ⌝ }
+{
+    let mut n = count;
+    let mut p = from;
+    let mut at = f;
+    while 0 < n {
+        if row_drawn(s, names, ends, t, p, at) {
+            p = word(t, p, 4);
+            at = past_of(s, names, ends, at);
+            n = n - 1;
+        } else {
+            return false;
+        }
+    }
+    true
+}
+
+// Whether the states of the region at the word q are those of a drawn region whose transitions are known to stay in it.
+fn closed_rows(s: &[u8], names: usize, ends: &[u16], t: &[usize], q: usize) -> bool
+    requires { ⌜ (length (now s) ≤ 65536) × EndsRight (now s) names (now ends) ⌝ }
+    ensures { λ r. ⌜ AllFineWhere (now (s .entry)) names (now (t .entry)) r q (getD (now (t .entry)) (q + 6) 0) (q + 9) ⌝ }
+{
+    let n = word(t, q, 6);
+    if n == 0 {
+        return false;
+    }
+    let p = first(t, q);
+    let f = entry(t, p);
+    if f < 5 {
+        return false;
+    }
+    if kept(ends, f - 5, CLOSED) == n {
+        return rows_drawn(s, names, ends, t, n, p, f);
+    }
+    false
+}
+
+// The targets of the state at the word p, in the region at the word q, where they are not known to be fine.
+fn check_moves(
+    s: &[u8],
+    names: usize,
+    ends: &[u16],
+    t: &[usize],
+    closed: bool,
+    q: usize,
+    p: usize,
+) -> Checked
+    requires { ⌜ (length (now s) ≤ 65536) × EndsRight (now s) names (now ends) × FineWhere (now s) names (now t) closed q p ⌝ }
+    ensures { λ r. ⌜ ((ns : List Name) → length ns ≡ names → r ≡ targetsT ns (now (s .entry)) (now (t .entry)) q p) ⌝ }
+{
+    if closed {
+        return Checked::Fine;
+    }
+    check_targets(s, names, ends, t, q, p)
+}
+
 // A state: its targets, then its regions.
 fn check_state(
     s: &[u8],
@@ -83,13 +168,14 @@ fn check_state(
     ends: &[u16],
     t: &[usize],
     levels: usize,
+    closed: bool,
     q: usize,
     p: usize,
 ) -> Checked
-    requires { ⌜ (length (now s) ≤ 65536) × EndsRight (now s) names (now ends) ⌝ }
+    requires { ⌜ (length (now s) ≤ 65536) × EndsRight (now s) names (now ends) × FineWhere (now s) names (now t) closed q p ⌝ }
     ensures { λ r. ⌜ ((ns : List Name) → length ns ≡ names → r ≡ checkedState ns (now (s .entry)) (now (t .entry)) (checkedRegion ns (now (s .entry)) (now (t .entry)) levels) q p) ⌝ }
 {
-    let c = check_targets(s, names, ends, t, q, p);
+    let c = check_moves(s, names, ends, t, closed, q, p);
     let Checked::Fine = c else {
         return c;
     };
@@ -122,10 +208,11 @@ pub fn check_region(
         return Checked::Fine;
     }
     if has_state(s, t, q, entry(t, q)) {
+        let closed = closed_rows(s, names, ends, t, q);
         let mut n = word(t, q, 6);
         let mut p = first(t, q);
         while 0 < n {
-            let r = check_state(s, names, ends, t, levels - 1, q, p);
+            let r = check_state(s, names, ends, t, levels - 1, closed, q, p);
             let Checked::Fine = r else {
                 return r;
             };

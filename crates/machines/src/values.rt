@@ -2,7 +2,7 @@
 // equation. Right sides are copied from the pack.
 use crate::chains::put_test;
 use crate::cover::both;
-use crate::cover::uncovered_region;
+use crate::cover::uncovered_once;
 use crate::ends::end_of;
 use crate::rows::between;
 use crate::rows::first;
@@ -84,7 +84,7 @@ fn entered(
     let mut n = word(t, p, 5);
     let mut g = inner(t, p);
     while 0 < n {
-        let m = uncovered_region(s, names, ends, t, x, levels, g);
+        let m = uncovered_once(s, names, ends, t, x, levels, g);
         if m == 0 {
             return g;
         }

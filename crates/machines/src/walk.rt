@@ -1,7 +1,10 @@
 // Resolving a machine on the pack's bytes: a state's regions, then its refinement by going to the machine's place.
 // No tree is made. Of names only the longest length is kept, which decides whether qualified names fit.
 use crate::cells::cell;
+use crate::empties::at_once;
+use crate::empties::take_regions;
 use crate::heads::head;
+use crate::heads::len_at;
 use crate::heads::most;
 use crate::path::Path;
 use crate::path::on_path;
@@ -9,7 +12,6 @@ use crate::path::pushed;
 use crate::path::start;
 use crate::sure::machine;
 use crate::sure::number;
-use crate::sure::region;
 use crate::table::name_len;
 use pack::record::Pack;
 ghost use mathlib.Core.List.{List};
@@ -18,7 +20,7 @@ ghost use Prim.Native.Nat.{_≤_};
 ghost use lib.ListN.{length};
 ghost use Rattle.pack.specs.Names.{Name};
 ghost use Rattle.machines.specs.Ends.{KeptRight};
-ghost use Rattle.machines.specs.Walks.{lenAt, enterW, qualifyOf, stateW, walk as walkIn, machineW};
+ghost use Rattle.machines.specs.Walks.{enterW, qualifyOf, stateW, walk as walkIn, machineW};
 
 // What walking came to: the offset after, how many states so far, the longest name's length; or why it stopped.
 pub enum Walked {
@@ -26,14 +28,6 @@ pub enum Walked {
     Cycle(usize),
     Unknown { state: usize, name: usize },
     Large,
-}
-
-// The length of the name whose index stands at `at`.
-fn len_at(s: &[u8], spots: &[u16], at: usize) -> usize
-    ensures { λ r. ⌜ r ≡ lenAt (now (s .entry)) (now (spots .entry)) at ⌝ }
-{
-    let i = number(s, at);
-    name_len(s, spots, i.value)
 }
 
 // Where the refinement m of the state i leads: its states' offset and count, and its initial state's length.
@@ -89,13 +83,14 @@ fn walk_state(
     let mut c = count + 1;
     let mut a = h.value;
     while 0 < n {
-        let g = region(s, o);
-        let e = walk_states(s, names, spots, to, ends, levels, p, g.value, g.next, c);
+        let k = at_once(ends, n, o);
+        let g = take_regions(s, spots, ends, k, o);
+        let e = walk_states(s, names, spots, to, ends, levels, p, g.states, g.next, c);
         let Walked::Went(next, states, longest) = e else {
             return e;
         };
-        a = most(a, most(len_at(s, spots, o), longest));
-        n = n - 1;
+        a = most(a, most(g.longest, longest));
+        n = n - k;
         o = next;
         c = states;
     }

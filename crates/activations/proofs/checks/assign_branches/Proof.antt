@@ -8,7 +8,8 @@ use Rattle.pack.specs.Names.{Name}
 use Rattle.activations.specs.Places.{bodyIn, branchEnd}
 use Rattle.activations.specs.Passes.{passT}
 use Rattle.activations.specs.ChecksAt.{assignScopeT}
-use Rattle.activations.proofs.StepLaws.{goes-end, goes-on, number-small}
+use Rattle.machines.proofs.SureLaws.{number-small}
+use Rattle.activations.proofs.StepLaws.{goes-end, goes-on}
 use Rattle.activations.proofs.CheckLaws.{branches-over, scope-in}
 use Rattle.activations.proofs.checks.assign_branches.Statement.{statement}
 use Rattle.activations.proofs.checks.assign_branches.Tie as tie

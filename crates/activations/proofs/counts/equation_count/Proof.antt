@@ -1,5 +1,5 @@
 use native.Mathlib.Omega.{arith}
-use Rattle.activations.proofs.StepLaws.{number-small}
+use Rattle.machines.proofs.SureLaws.{number-small}
 use Rattle.activations.proofs.BroughtCounts.{count-is}
 use borrow.Author.Needs.{needs}
 use Rattle.activations.proofs.counts.equation_count.Statement.{statement}

@@ -10,7 +10,8 @@ use Rattle.machines.proofs.RowLaws.{left-less}
 use Rattle.activations.specs.Places.{branchEnd}
 use Rattle.activations.specs.Passes.{passT}
 use Rattle.activations.specs.FlagsAt.{branchFlagsT}
-use Rattle.activations.proofs.StepLaws.{number-small, pass-done, pass-more}
+use Rattle.machines.proofs.SureLaws.{number-small}
+use Rattle.activations.proofs.StepLaws.{pass-done, pass-more}
 use Rattle.activations.proofs.FlagLaws.{branch-full, flags-over}
 use Rattle.activations.proofs.flags.put_flags.Statement.{statement}
 use Rattle.activations.proofs.flags.put_flags.Tie as tie

@@ -1,5 +1,5 @@
 use native.Mathlib.Omega.{arith}
-use Rattle.activations.proofs.StepLaws.{number-small}
+use Rattle.machines.proofs.SureLaws.{number-small}
 use Rattle.activations.proofs.OriginLaws.{first-is, origin-is}
 use borrow.Author.Needs.{needs}
 use Rattle.activations.proofs.origins.put_origin.Statement.{statement}

@@ -8,7 +8,8 @@ use Rattle.machines.specs.declared.sure.Num.{Num}
 use Rattle.activations.specs.Passes.{passT}
 use Rattle.activations.specs.Places.{actEnd}
 use Rattle.activations.specs.Placing.{drawT}
-use Rattle.activations.proofs.StepLaws.{goes-end, goes-on, number-small}
+use Rattle.machines.proofs.SureLaws.{number-small}
+use Rattle.activations.proofs.StepLaws.{goes-end, goes-on}
 use Rattle.activations.proofs.PlacingLaws.{acts-placed, draw-by, draw-kept}
 use borrow.Author.Needs.{needs}
 use Rattle.activations.proofs.placing.place_acts.Statement.{statement}

@@ -7,7 +7,7 @@ use Rattle.pack.specs.Names.{Name}
 use Rattle.machines.specs.Settling.{fillT, nodeEnd, nth}
 use Rattle.machines.specs.declared.sure.Num.{Num}
 use Rattle.machines.proofs.SettleLaws.{fill-done, fill-more, fill-start, node-end, nth-more, nth-start}
-use Rattle.activations.proofs.StepLaws.{number-small}
+use Rattle.machines.proofs.SureLaws.{number-small}
 use Rattle.activations.proofs.PlacingLaws.{cell-kept, nodes-placed}
 use borrow.Author.Needs.{needs}
 use Rattle.activations.proofs.placing.place_nodes.Statement.{statement}

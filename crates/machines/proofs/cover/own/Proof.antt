@@ -1,19 +1,19 @@
 use mathlib.Core.List.{List}
-use mathlib.Core.Bool.{_||_}
+use mathlib.Core.Bool.{false, _||_}
 use mathlib.Core.Path.{_≡_, refl}
 use lib.ListN.{length}
 use borrow.Author.Needs.{needs}
 use Rattle.pack.specs.Names.{Name}
 use Rattle.machines.specs.Covers.{givesT, tells}
-use Rattle.machines.proofs.CoverLaws.{own-is, tells-went, tells-done}
+use Rattle.machines.proofs.CoverLaws.{own-is, tells-done, tells-found, tells-went}
 use Rattle.machines.proofs.cover.own.Statement.{statement}
 use Rattle.machines.proofs.cover.own.Tie as tie
 
 abbrev Inv-loop : tie.InvT-loop
-Inv-loop s names ends out at n₀ p₀ a₀ n p a = (ns : List Name) → length ns ≡ names → tells (givesT ns s out) _||_ n p a ≡ tells (givesT ns s out) _||_ n₀ p₀ a₀
+Inv-loop s names ends out at n₀ p₀ n p = (ns : List Name) → length ns ≡ names → tells (givesT ns s out) _||_ n p false .yes ≡ tells (givesT ns s out) _||_ n₀ p₀ false .yes
 
 abbrev μ-loop : tie.MeasureT-loop
-μ-loop s names ends out at n₀ p₀ a₀ n p a = n
+μ-loop s names ends out at n₀ p₀ n p = n
 
 number-requires : tie.Need-number-requires Inv-loop μ-loop
 number-requires c κs = search needs
@@ -27,8 +27,8 @@ loop-holds c = λ ns e. refl
 gives-requires : tie.Need-gives-requires Inv-loop μ-loop
 gives-requires c κs = search needs
 
-either-requires : tie.Need-either-requires Inv-loop μ-loop
-either-requires c κs = search needs
+returns : tie.Need-returns Inv-loop μ-loop
+returns c = λ ns e. own-is ns _ _ _ _ _ _ (c .before .before .before .before .before .number .ensures) (c .before .before .before .before .number2 .ensures) (tells-found (givesT ns _ _) _ _ _ _ (c .before .before .loop-test .taken) (c .before .gives .ensures ns e) (c .if1 .taken) (c .before .before .before .loop .inv ns e))
 
 sub-n : tie.Need-sub-n Inv-loop μ-loop
 sub-n c = search needs
@@ -37,10 +37,10 @@ loop-less : tie.Need-loop-less Inv-loop μ-loop
 loop-less c = search needs
 
 loop-again : tie.Need-loop-again Inv-loop μ-loop
-loop-again c = λ ns e. tells-went (givesT ns _ _) _||_ _ _ _ _ _ _ (c .before .before .loop-test .taken) (c .before .gives .ensures ns e) (c .either .ensures) (c .before .before .before .loop .inv ns e)
+loop-again c = λ ns e. tells-went (givesT ns _ _) _ _ _ _ (c .before .before .loop-test .taken) (c .before .gives .ensures ns e) (c .if1 .left) (c .before .before .before .loop .inv ns e)
 
-returns : tie.Need-returns Inv-loop μ-loop
-returns c = λ ns e. own-is ns _ _ _ _ _ _ _ (c .before .before .before .number .ensures) (c .before .before .number2 .ensures) (tells-done (givesT ns _ _) _||_ _ _ _ _ (c .loop-test .left) (c .before .loop .inv ns e))
+returns-2 : tie.Need-returns-2 Inv-loop μ-loop
+returns-2 c = λ ns e. own-is ns _ _ _ _ _ _ (c .before .before .before .number .ensures) (c .before .before .number2 .ensures) (tells-done (givesT ns _ _) _ _ _ (c .loop-test .left) (c .before .loop .inv ns e))
 
 pub own-spec : {M : Type 1} → statement M
 own-spec =
@@ -52,8 +52,8 @@ own-spec =
     number-requires-2
     loop-holds
     gives-requires
-    either-requires
+    returns
     sub-n
     loop-less
     loop-again
-    returns)
+    returns-2)

@@ -14,7 +14,7 @@ same-length : tie.Need-same-length
 same-length c = search needs
 
 returns : tie.Need-returns
-returns c = end-put _ _ _ _ _ _ (c .before .before .before .before .after-equation .ensures) (c .before .before .keep .ensures)
+returns c = (c .before .before .before .before .after-equation .ensures, end-put _ _ _ _ _ _ (c .before .before .before .before .after-equation .ensures) (c .before .before .keep .ensures))
 
 pub put-end-spec : {M : Type 1} → statement M
 put-end-spec =

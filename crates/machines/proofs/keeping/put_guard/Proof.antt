@@ -1,5 +1,5 @@
 use native.Mathlib.Omega.{arith}
-use Rattle.machines.proofs.EndLaws.{guard-put}
+use Rattle.machines.proofs.EndLaws.{guard-past, guard-put}
 use borrow.Author.Needs.{needs}
 use Rattle.machines.proofs.keeping.put_guard.Statement.{statement}
 use Rattle.machines.proofs.keeping.put_guard.Tie as tie
@@ -17,7 +17,7 @@ same-length : tie.Need-same-length
 same-length c = search needs
 
 returns : tie.Need-returns
-returns c = guard-put _ _ _ _ _ _ (c .before .before .before .before .before .after-expr .ensures) (c .before .before .before .keep .ensures)
+returns c = (λ ns n. guard-past ns _ _ _ _ (c .before .before .before .before .before .after-expr .ensures ns n) (c .number .ensures), guard-put _ _ _ _ _ _ (c .before .before .before .before .before .after-expr .ensures) (c .before .before .before .keep .ensures))
 
 pub put-guard-spec : {M : Type 1} → statement M
 put-guard-spec =

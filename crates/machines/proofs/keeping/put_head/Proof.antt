@@ -28,14 +28,19 @@ read-head-requires c κs = (c .before .before .before .before .before .before .b
 after-transitions-requires : tie.Need-after-transitions-requires
 after-transitions-requires c κs = c .before .before .before .before .before .before .before .before .before .before .before .before .before .before .before .before .before .pre .0
 
+after-state-requires : tie.Need-after-state-requires
+after-state-requires c κs = c .before .before .before .before .before .before .before .before .before .before .before .before .before .before .before .before .before .before .pre .0
+
 put-state-requires : tie.Need-put-state-requires
 put-state-requires c κs = search needs
 
 same-length : tie.Need-same-length
-same-length c = c .before .before .put-state .kept .0 ∙ c .before .before .before .before .before .before .before .before .before .put-guards .kept .1 .1 .0 ∙ c .before .before .before .before .before .before .before .before .before .before .before .before .before .before .before .put-ends .kept .1 .1 .0
+same-length c = c .before .before .put-state .kept .0 ∙ c .before .before .before .before .before .before .before .before .before .before .put-guards .kept .1 .1 .0 ∙ c .before .before .before .before .before .before .before .before .before .before .before .before .before .before .before .before .put-ends .kept .1 .1 .0
 
 returns : tie.Need-returns
-returns c = c .before .before .put-state .ensures _ _ _ (c .before .before .before .before .before .before .before .before .before .put-guards .ensures _ (c .before .before .before .before .before .before .before .before .before .before .before .before .before .before .before .put-ends .ensures _ (c .before .before .before .before .before .before .before .before .before .before .before .before .before .before .before .before .before .before .before .before .before .before .pre .1))) (head-read _ _ _ _ _ _ _ _ (c .before .before .before .before .before .before .before .before .before .before .before .before .before .before .before .before .before .before .number .ensures) (c .before .before .before .before .before .before .before .before .before .before .before .before .after-equations .ensures) (c .before .before .before .before .before .read-head .ensures) (c .before .before .before .before .after-transitions .ensures))
+returns c =
+    let read = head-read _ _ _ _ _ _ _ _ _ (c .before .before .before .before .before .before .before .before .before .before .before .before .before .before .before .before .before .before .before .number .ensures) (c .before .before .before .before .before .before .before .before .before .before .before .before .before .after-equations .ensures) (c .before .before .before .before .before .before .read-head .ensures) (c .before .before .before .before .after-state .ensures) (c .before .before .before .before .before .after-transitions .ensures) in
+    (λ ns n. read .state ns n .regions, c .before .before .put-state .ensures _ _ _ (c .before .before .before .before .before .before .before .before .before .before .put-guards .ensures _ (c .before .before .before .before .before .before .before .before .before .before .before .before .before .before .before .before .put-ends .ensures _ (c .before .before .before .before .before .before .before .before .before .before .before .before .before .before .before .before .before .before .before .before .before .before .before .pre .1))) read)
 
 pub put-head-spec : {M : Type 1} → statement M
-put-head-spec = tie.close (tie.spec number-requires number-requires-2 put-ends-requires after-equations-requires number-requires-3 put-guards-requires read-head-requires after-transitions-requires put-state-requires same-length returns)
+put-head-spec = tie.close (tie.spec number-requires number-requires-2 put-ends-requires after-equations-requires number-requires-3 put-guards-requires read-head-requires after-transitions-requires after-state-requires put-state-requires same-length returns)

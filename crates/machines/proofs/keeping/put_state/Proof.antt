@@ -15,17 +15,25 @@ most-requires-2 c κs = search needs
 most-requires-3 : tie.Need-most-requires-3
 most-requires-3 c κs = search needs
 
+most-requires-4 : tie.Need-most-requires-4
+most-requires-4 c κs = search needs
+
 returns-2 : tie.Need-returns-2
 returns-2 c = λ s names spots h d. h
 
 keep-state-requires : tie.Need-keep-state-requires
-keep-state-requires c κs = let a = most-both _ _ _ _ (c .before .before .most3 .ensures) (c .before .if2 .left) in let b = most-both _ _ _ _ (c .before .before .before .before .most .ensures) (a .0) in let d = most-both _ _ _ _ (c .before .before .before .most2 .ensures) (a .1) in (b .0, b .1, d .0, d .1)
+keep-state-requires c κs =
+    let z = most-both _ _ _ _ (c .before .before .most4 .ensures) (c .before .if2 .left) in
+    let a = most-both _ _ _ _ (c .before .before .before .most3 .ensures) (z .0) in
+    let b = most-both _ _ _ _ (c .before .before .before .before .before .most .ensures) (a .0) in
+    let d = most-both _ _ _ _ (c .before .before .before .before .most2 .ensures) (a .1) in
+    (b .0, b .1, d .0, z .1, d .1)
 
 same-length : tie.Need-same-length
 same-length c = search needs
 
 returns-3 : tie.Need-returns-3
-returns-3 c = state-put _ _ _ _ _ _ (c .before .before .before .before .before .before .before .before .if1 .left) (c .before .before .keep-state .ensures)
+returns-3 c = state-put _ _ _ _ _ _ _ (c .before .before .before .before .before .before .before .before .before .if1 .left) (c .before .before .keep-state .ensures)
 
 pub put-state-spec : {M : Type 1} → statement M
-put-state-spec = tie.close (tie.spec returns most-requires most-requires-2 most-requires-3 returns-2 keep-state-requires same-length returns-3)
+put-state-spec = tie.close (tie.spec returns most-requires most-requires-2 most-requires-3 most-requires-4 returns-2 keep-state-requires same-length returns-3)

@@ -1,4 +1,5 @@
-use Rattle.machines.proofs.LayLaws.{close-region, inner-done, inner-went, refine-into, refine-plain, region-left, region-none, region-on, region-some, state-on, times-done, times-went}
+use Rattle.machines.proofs.EmptyLaws.{once-near, opened-on}
+use Rattle.machines.proofs.LayLaws.{close-region, inner-done, refine-into, refine-plain, region-left, region-none, region-some, state-on, times-done, times-went}
 use Rattle.machines.specs.Lays.{board, inner, layRegion, layState, refineB, regionB, times}
 use Rattle.pack.specs.Names.{Name}
 use lib.ListN.{length}
@@ -23,7 +24,8 @@ use Rattle.machines.proofs.lay.moved.Reads as moved-reads
 use Rattle.machines.proofs.lay.open_region.Reads as open-region-reads
 use Rattle.machines.proofs.lay.open_state.Reads as open-state-reads
 use Rattle.machines.proofs.words.put_word.Reads as put-word-reads
-use Rattle.machines.proofs.opening.region_from.Reads as region-from-reads
+use Rattle.machines.proofs.lay.passed_at_once.Reads as passed-at-once-reads
+use Rattle.machines.proofs.empties.open_regions.Reads as open-regions-reads
 use Rattle.machines.proofs.lay.tally.Reads as tally-reads
 use Rattle.machines.proofs.sure.number.Reads as number-reads
 use Rattle.machines.proofs.table.entry.Reads as entry-reads
@@ -112,7 +114,7 @@ lay-region-returns-3 : (t : ℕ) → lay-region-lts.Need-returns-3 (lay-region-c
 lay-region-returns-3 t c = λ ns e. region-some ns _ _ _ _ _ _ _ _ _ _ _ _ _ _ (c .before .before .before .before .before .before .before .before .before .before .before .before .before .before .before .before .if1 .left) (c .before .before .before .before .before .before .before .before .before .before .before .before .before .before .both .ensures) (c .before .before .before .before .before .before .before .before .before .before .before .before .before .if2 .left) (c .before .before .before .before .before .before .before .before .before .before .open-region .ensures (c .before .before .before .before .before .before .before .before .before .before .before .before .before .before .before .before .before .before .before .before .before .before .before .before .args .lets .now)) (times-done _ _ _ _ (c .before .before .before .before .loop-test .left) (c .before .before .before .before .before .loop .inv .3 ns e)) (close-region _ _ _ _ _ _ (c .before .before .put-word .ensures))
 
 abbrev lay-state-calls : ℕ → lay-state-lts.Claims
-lay-state-calls t = (open-state-reads.Asked, open-state-reads.Learnt, region-from-reads.Asked, region-from-reads.Learnt, lay-region-below t, lay-region.Post, tally-reads.Asked, tally-reads.Learnt, number-reads.Asked, number-reads.Learnt, close-state-reads.Asked, close-state-reads.Learnt, entry-reads.Asked, entry-reads.Learnt, machine-as-reads.Asked, machine-as-reads.Learnt)
+lay-state-calls t = (open-state-reads.Asked, open-state-reads.Learnt, passed-at-once-reads.Asked, passed-at-once-reads.Learnt, open-regions-reads.Asked, open-regions-reads.Learnt, lay-region-below t, lay-region.Post, tally-reads.Asked, tally-reads.Learnt, number-reads.Asked, number-reads.Learnt, close-state-reads.Asked, close-state-reads.Learnt, entry-reads.Asked, entry-reads.Learnt, machine-as-reads.Asked, machine-as-reads.Learnt)
 
 abbrev lay-state-Inv-loop : lay-state-lts.InvT-loop
 lay-state-Inv-loop s names spots to ends t₀ reg₀ lets₀ levels up a m c b n₀ k₀ e₀ t reg lets n k e = (length t ≡ length t₀) × (length reg ≡ length reg₀) × (length lets ≡ length lets₀) × ((ns : List Name) → length ns ≡ names → inner (regionB ns s spots to (layRegion ns s spots to levels) (c .words) up a m) n k (board t reg lets e) (refineB ns s spots to (layRegion ns s spots to levels) (c .words) up (b .letter) (b .length)) ≡ inner (regionB ns s spots to (layRegion ns s spots to levels) (c .words) up a m) n₀ k₀ (board t₀ reg₀ lets₀ e₀) (refineB ns s spots to (layRegion ns s spots to levels) (c .words) up (b .letter) (b .length)))
@@ -126,23 +128,26 @@ lay-state-open-state-requires t c κs = c .before .before .before .before .befor
 lay-state-loop-holds : (t : ℕ) → lay-state-lts.Need-loop-holds (lay-state-calls t) (lay-state-at t) lay-state.Post lay-state-Inv-loop lay-state-μ-loop
 lay-state-loop-holds t c = (refl, refl, refl, λ ns e. refl)
 
-lay-state-region-from-requires : (t : ℕ) → lay-state-lts.Need-region-from-requires (lay-state-calls t) (lay-state-at t) lay-state.Post lay-state-Inv-loop lay-state-μ-loop
-lay-state-region-from-requires t c κs = search needs
+lay-state-passed-at-once-requires : (t : ℕ) → lay-state-lts.Need-passed-at-once-requires (lay-state-calls t) (lay-state-at t) lay-state.Post lay-state-Inv-loop lay-state-μ-loop
+lay-state-passed-at-once-requires t c κs = c .loop-test .taken
+
+lay-state-open-regions-requires : (t : ℕ) → lay-state-lts.Need-open-regions-requires (lay-state-calls t) (lay-state-at t) lay-state.Post lay-state-Inv-loop lay-state-μ-loop
+lay-state-open-regions-requires t c κs = once-near _ _ _ _ (c .passed-at-once .ensures .0)
 
 lay-state-lay-region-requires : (t : ℕ) → lay-state-lts.Need-lay-region-requires (lay-state-calls t) (lay-state-at t) lay-state.Post lay-state-Inv-loop lay-state-μ-loop
-lay-state-lay-region-requires t c κs = (omega (arith, c .before .before .before .before .before .before .before .before .before .before .before .before .before .before .before .before .before .before .before .before .pre .0), c .before .before .before .before .before .before .before .before .before .before .before .before .before .before .before .before .before .before .before .before .pre .1)
+lay-state-lay-region-requires t c κs = (omega (arith, c .before .before .before .before .before .before .before .before .before .before .before .before .before .before .before .before .before .before .before .before .before .pre .0), c .before .before .before .before .before .before .before .before .before .before .before .before .before .before .before .before .before .before .before .before .before .pre .1)
 
 lay-state-tally-requires : (t : ℕ) → lay-state-lts.Need-tally-requires (lay-state-calls t) (lay-state-at t) lay-state.Post lay-state-Inv-loop lay-state-μ-loop
 lay-state-tally-requires t c κs = search needs
 
 lay-state-sub-n : (t : ℕ) → lay-state-lts.Need-sub-n (lay-state-calls t) (lay-state-at t) lay-state.Post lay-state-Inv-loop lay-state-μ-loop
-lay-state-sub-n t c = omega (arith, c .before .before .before .before .before .before .before .before .before .before .before .before .loop-test .taken)
+lay-state-sub-n t c = c .before .before .before .before .before .before .before .before .before .before .before .before .passed-at-once .ensures .0 .few
 
 lay-state-loop-less : (t : ℕ) → lay-state-lts.Need-loop-less (lay-state-calls t) (lay-state-at t) lay-state.Post lay-state-Inv-loop lay-state-μ-loop
-lay-state-loop-less t c = omega (arith, c .before .before .before .before .before .before .before .before .before .before .before .before .loop-test .taken)
+lay-state-loop-less t c = omega (arith, c .before .before .before .before .before .before .before .before .before .before .before .before .passed-at-once .ensures .0 .some, c .before .before .before .before .before .before .before .before .before .before .before .before .passed-at-once .ensures .0 .few)
 
 lay-state-loop-again : (t : ℕ) → lay-state-lts.Need-loop-again (lay-state-calls t) (lay-state-at t) lay-state.Post lay-state-Inv-loop lay-state-μ-loop
-lay-state-loop-again t c = (c .before .before .before .before .before .before .before .lay-region .kept .1 .1 .1 .1 .1 .0 ∙ c .before .before .before .before .before .before .before .before .before .before .before .before .before .loop .inv .0, c .before .before .before .before .before .before .before .lay-region .kept .1 .1 .1 .1 .1 .1 .0 ∙ c .before .before .before .before .before .before .before .before .before .before .before .before .before .loop .inv .1, c .before .before .before .before .before .before .before .lay-region .kept .1 .1 .1 .1 .1 .1 .1 .0 ∙ c .before .before .before .before .before .before .before .before .before .before .before .before .before .loop .inv .2, λ ns e. inner-went _ _ _ _ _ _ _ _ (c .before .before .before .before .before .before .before .before .before .before .before .before .loop-test .taken) (region-on ns _ _ _ _ _ _ _ _ _ _ _ (c .before .before .before .before .before .before .before .before .before .before .before .region-from .ensures) (c .before .before .before .before .before .before .before .lay-region .ensures ns e)) (c .tally .ensures) (c .before .before .before .before .before .before .before .before .before .before .before .before .before .loop .inv .3 ns e))
+lay-state-loop-again t c = (c .before .before .before .before .before .before .before .lay-region .kept .1 .1 .1 .1 .1 .0 ∙ c .before .before .before .before .before .before .before .before .before .before .before .before .before .before .loop .inv .0, c .before .before .before .before .before .before .before .lay-region .kept .1 .1 .1 .1 .1 .1 .0 ∙ c .before .before .before .before .before .before .before .before .before .before .before .before .before .before .loop .inv .1, c .before .before .before .before .before .before .before .lay-region .kept .1 .1 .1 .1 .1 .1 .1 .0 ∙ c .before .before .before .before .before .before .before .before .before .before .before .before .before .before .loop .inv .2, λ ns e. (opened-on ns _ _ _ _ _ e (c .before .before .before .before .before .before .before .before .before .before .before .before .before .before .before .before .before .before .before .before .before .before .before .before .before .before .before .before .before .pre .1 .1) _ _ _ _ _ _ _ _ _ _ _ _ _ _ _ _ _ _ _ (c .before .before .before .before .before .before .before .before .before .before .before .before .passed-at-once .ensures .0) (c .before .before .before .before .before .before .before .before .before .before .before .before .passed-at-once .ensures .1) (c .before .before .before .before .before .before .before .before .before .before .before .open-regions .ensures) (c .before .before .before .before .before .before .before .lay-region .ensures ns e) (c .tally .ensures)) ∙ (c .before .before .before .before .before .before .before .before .before .before .before .before .before .before .loop .inv .3 ns e))
 
 lay-state-number-requires : (t : ℕ) → lay-state-lts.Need-number-requires (lay-state-calls t) (lay-state-at t) lay-state.Post lay-state-Inv-loop lay-state-μ-loop
 lay-state-number-requires t c κs = search needs
@@ -219,7 +224,8 @@ pub +lay-region+lay-state-spec : {M : Type 1} → statement M
     lay-state-μ-loop
     (lay-state-open-state-requires t)
     (lay-state-loop-holds t)
-    (lay-state-region-from-requires t)
+    (lay-state-passed-at-once-requires t)
+    (lay-state-open-regions-requires t)
     (lay-state-lay-region-requires t)
     (lay-state-tally-requires t)
     (lay-state-sub-n t)

@@ -1,4 +1,3 @@
-use native.Mathlib.Omega.{arith}
 use Rattle.machines.proofs.BroughtItems.{its-origin, no-origin}
 use borrow.Author.Needs.{needs}
 use Rattle.machines.proofs.origins.put_origin.Statement.{statement}
@@ -14,34 +13,22 @@ number-requires-2 : tie.Need-number-requires-2
 number-requires-2 c κs = search needs
 
 returns : tie.Need-returns
-returns c = λ ns e old l. no-origin ns _ _ _ _ _ _ _ _ _ _ (c .before .before .before .before .entry .ensures) (c .before .before .before .number .ensures) (c .before .before .number2 .ensures) old _ (c .if1 .taken)
+returns c = λ ns e old l. no-origin ns _ _ _ _ _ _ _ _ (c .before .before .before .before .entry .ensures) (c .before .before .before .number .ensures) (c .before .before .number2 .ensures) old _ (c .if1 .taken)
 
 entry-requires-2 : tie.Need-entry-requires-2
 entry-requires-2 c κs = search needs
 
-entry-requires-3 : tie.Need-entry-requires-3
-entry-requires-3 c κs = search needs
-
-old-equations-requires : tie.Need-old-equations-requires
-old-equations-requires c κs = search needs
-
-brought-equations-requires : tie.Need-brought-equations-requires
-brought-equations-requires c κs = search needs
-
 equation-count-requires : tie.Need-equation-count-requires
 equation-count-requires c κs = search needs
 
-add-put-numbers : tie.Need-add-put-numbers
-add-put-numbers c = omega (arith, c .before .brought-equations .ensures .0, c .before .before .old-equations .ensures .0, c .before .before .before .before .before .before .before .before .before .before .before .before .before .before .before .pre .1)
-
 put-numbers-requires : tie.Need-put-numbers-requires
-put-numbers-requires c κs = (omega (arith, c .before .before .brought-equations .ensures .0, c .before .before .before .old-equations .ensures .0, c .before .before .before .before .before .before .before .before .before .before .before .before .before .before .before .before .pre .1), c .before .equation-count .ensures .0)
+put-numbers-requires c κs = (c .before .before .before .before .before .before .before .before .before .before .before .before .pre .1, c .before .equation-count .ensures .0)
 
 same-length : tie.Need-same-length
 same-length c = search needs
 
 returns-2 : tie.Need-returns-2
-returns-2 c = λ ns e old l. its-origin ns _ _ _ _ _ _ _ _ _ _ (c .before .before .before .before .before .before .before .before .before .before .before .before .before .entry .ensures) (c .before .before .before .before .before .before .before .before .before .before .before .before .number .ensures) (c .before .before .before .before .before .before .before .before .before .before .before .number2 .ensures) _ _ _ _ _ old _ _ (c .before .before .before .before .before .before .before .before .before .if1 .left) (c .before .before .before .before .before .before .before .before .entry2 .ensures) (c .before .before .before .before .before .before .before .entry3 .ensures) (c .before .before .before .before .before .before .old-equations .ensures .1 ns e) (c .before .before .before .before .before .brought-equations .ensures .1 ns e) (c .before .before .before .before .equation-count .ensures .1 ns e) (c .before .before .put-numbers .ensures old l)
+returns-2 c = λ ns e old l. its-origin ns _ _ _ _ _ _ _ _ (c .before .before .before .before .before .before .before .before .before .before .entry .ensures) (c .before .before .before .before .before .before .before .before .before .number .ensures) (c .before .before .before .before .before .before .before .before .number2 .ensures) _ _ old _ _ (c .before .before .before .before .before .before .if1 .left) (c .before .before .before .before .before .entry2 .ensures) (c .before .before .before .before .equation-count .ensures .1 ns e) (c .before .before .put-numbers .ensures old l)
 
 pub put-origin-spec : {M : Type 1} → statement M
-put-origin-spec = tie.close (tie.spec entry-requires number-requires number-requires-2 returns entry-requires-2 entry-requires-3 old-equations-requires brought-equations-requires equation-count-requires add-put-numbers put-numbers-requires same-length returns-2)
+put-origin-spec = tie.close (tie.spec entry-requires number-requires number-requires-2 returns entry-requires-2 equation-count-requires put-numbers-requires same-length returns-2)

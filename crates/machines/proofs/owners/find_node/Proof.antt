@@ -15,11 +15,11 @@ abbrev μ-loop : tie.MeasureT-loop
 loop-holds : tie.Need-loop-holds Inv-loop μ-loop
 loop-holds c = find-start _ _ _
 
-entry-requires : tie.Need-entry-requires Inv-loop μ-loop
-entry-requires c κs = search needs
+cell-requires : tie.Need-cell-requires Inv-loop μ-loop
+cell-requires c κs = search needs
 
 returns : tie.Need-returns Inv-loop μ-loop
-returns c = find-hit _ _ _ _ _ _ (c .before .before .loop-test .taken) (c .before .entry .ensures) (c .if1 .taken) (c .before .before .before .loop .inv)
+returns c = find-hit _ _ _ _ _ _ (c .before .before .loop-test .taken) (c .before .cell .ensures) (c .if1 .taken) (c .before .before .before .loop .inv)
 
 add-i : tie.Need-add-i Inv-loop μ-loop
 add-i c = search needs
@@ -28,7 +28,7 @@ loop-less : tie.Need-loop-less Inv-loop μ-loop
 loop-less c = search needs
 
 loop-again : tie.Need-loop-again Inv-loop μ-loop
-loop-again c = find-miss _ _ _ _ _ _ (c .before .before .loop-test .taken) (c .before .entry .ensures) (c .if1 .left) (c .before .before .before .loop .inv)
+loop-again c = find-miss _ _ _ _ _ _ (c .before .before .loop-test .taken) (c .before .cell .ensures) (c .if1 .left) (c .before .before .before .loop .inv)
 
 returns-2 : tie.Need-returns-2 Inv-loop μ-loop
 returns-2 c = find-done _ _ _ _ _ (c .loop-test .left) (c .before .loop .inv)
@@ -40,7 +40,7 @@ find-node-spec =
     Inv-loop
     μ-loop
     loop-holds
-    entry-requires
+    cell-requires
     returns
     add-i
     loop-less

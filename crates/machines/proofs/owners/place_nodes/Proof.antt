@@ -1,9 +1,11 @@
 use Prim.Native.Nat.{_-_}
+use native.Mathlib.Omega.{arith}
 use mathlib.Core.List.{List}
 use mathlib.Core.Path.{_≡_, refl}
 use lib.ListN.{length}
 use Rattle.pack.specs.Names.{Name}
 use Rattle.machines.specs.Settling.{fillT, nodeEnd, nodeNameT, nth}
+use Rattle.machines.proofs.SureLaws.{number-put}
 use Rattle.machines.proofs.TableLaws.{put-length}
 use Rattle.machines.proofs.SettleLaws.{fill-done, fill-more, fill-start, node-name, nth-more, nth-start}
 use borrow.Author.Needs.{needs}
@@ -22,8 +24,8 @@ loop-holds c = (refl, λ ns e. (nth-start _ _, fill-start _ _ _))
 number-requires : tie.Need-number-requires Inv-loop μ-loop
 number-requires c κs = search needs
 
-put-requires : tie.Need-put-requires Inv-loop μ-loop
-put-requires c κs = search needs
+put-cell-requires : tie.Need-put-cell-requires Inv-loop μ-loop
+put-cell-requires c κs = search needs
 
 after-node-requires : tie.Need-after-node-requires Inv-loop μ-loop
 after-node-requires c κs = search needs
@@ -35,7 +37,7 @@ loop-less : tie.Need-loop-less Inv-loop μ-loop
 loop-less c = search needs
 
 loop-again : tie.Need-loop-again Inv-loop μ-loop
-loop-again c = (put-length (c .before .before .before .before .before .before .before .loop .nodes) _ (c .before .before .before .before .before .before .before .before .before .before .args .nodes .now) (c .before .before .before .before .before .before .before .loop .k) (c .before .before .before .before .before .number .result .value) (c .before .before .before .put .ensures) (c .before .before .before .before .before .before .before .loop .inv .0), λ ns e. (nth-more _ _ _ _ _ (c .before .before .before .before .before .before .before .loop .inv .1 ns e .0) (c .after-node .ensures ns e), fill-more _ _ _ _ _ _ _ (c .before .before .before .before .before .before .loop-test .taken) (node-name ns _ _ _ _ _ (c .before .before .before .before .before .before .before .loop .inv .1 ns e .0) (c .before .before .before .before .before .number .ensures)) (c .before .before .before .put .ensures) (c .before .before .before .before .before .before .before .loop .inv .1 ns e .1)))
+loop-again c = (put-length (c .before .before .before .before .before .before .before .loop .nodes) _ (c .before .before .before .before .before .before .before .before .before .before .args .nodes .now) (c .before .before .before .before .before .before .before .loop .k) _ (c .before .before .before .put-cell .ensures) (c .before .before .before .before .before .before .before .loop .inv .0), λ ns e. (nth-more _ _ _ _ _ (c .before .before .before .before .before .before .before .loop .inv .1 ns e .0) (c .after-node .ensures ns e), fill-more _ _ _ _ _ _ _ (c .before .before .before .before .before .before .loop-test .taken) (node-name ns _ _ _ _ _ (c .before .before .before .before .before .before .before .loop .inv .1 ns e .0) (c .before .before .before .before .before .number .ensures)) (number-put (c .before .before .before .before .before .before .before .before .before .before .args .s .now) _ (c .before .before .before .before .before .number .result) (c .before .before .before .before .before .before .before .loop .nodes) _ (c .before .before .before .before .before .before .before .loop .k) (λ i. omega (arith, c .before .before .before .before .before .before .before .before .before .shared-slice-known .given i)) (c .before .before .before .before .before .number .ensures) (c .before .before .before .put-cell .ensures)) (c .before .before .before .before .before .before .before .loop .inv .1 ns e .1)))
 
 same-length : tie.Need-same-length Inv-loop μ-loop
 same-length c = c .before .loop .inv .0
@@ -51,7 +53,7 @@ place-nodes-spec =
     μ-loop
     loop-holds
     number-requires
-    put-requires
+    put-cell-requires
     after-node-requires
     add-k
     loop-less

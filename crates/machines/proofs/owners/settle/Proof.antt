@@ -1,4 +1,5 @@
 use native.Mathlib.Omega.{arith}
+use Rattle.machines.proofs.SureLaws.{number-put}
 use Rattle.machines.proofs.SettleLaws.{settled-new, settled-old}
 use borrow.Author.Needs.{needs}
 use Rattle.machines.proofs.owners.settle.Statement.{statement}
@@ -22,8 +23,8 @@ goes-to-requires c κs = search needs
 put-requires : tie.Need-put-requires
 put-requires c κs = search needs
 
-put-requires-2 : tie.Need-put-requires-2
-put-requires-2 c κs = search needs
+put-cell-requires : tie.Need-put-cell-requires
+put-cell-requires c κs = search needs
 
 add-result : tie.Need-add-result
 add-result c = search needs
@@ -35,7 +36,7 @@ same-length-2 : tie.Need-same-length-2
 same-length-2 c = search needs
 
 returns : tie.Need-returns
-returns c = (omega arith, settled-new _ _ _ _ _ _ _ _ _ _ _ _ _ (c .before .before .before .before .before .before .before .before .before .before .before .before .before .before .entry .ensures) (c .before .before .before .before .before .before .before .before .before .before .before .before .before .entry2 .ensures) (c .before .before .before .before .before .before .before .before .before .before .before .before .number .ensures) (c .before .before .before .before .before .before .before .before .before .before .before .number2 .ensures) (c .before .before .before .before .before .before .before .before .before .goes-to .ensures) (c .before .before .before .before .before .before .before .put .ensures) _ (c .before .before .before .before .if1 .taken) (c .before .before .put2 .ensures))
+returns c = (omega arith, settled-new _ _ _ _ _ _ _ _ _ _ _ _ _ (c .before .before .before .before .before .before .before .before .before .before .before .before .before .before .entry .ensures) (c .before .before .before .before .before .before .before .before .before .before .before .before .before .entry2 .ensures) (c .before .before .before .before .before .before .before .before .before .before .before .before .number .ensures) (c .before .before .before .before .before .before .before .before .before .before .before .number2 .ensures) (c .before .before .before .before .before .before .before .before .before .goes-to .ensures) (c .before .before .before .before .before .before .before .put .ensures) _ (c .before .before .before .before .if1 .taken) (number-put (c .before .before .before .before .before .before .before .before .before .before .before .before .before .before .before .before .before .before .before .before .args .s .now) _ (c .before .before .before .before .before .before .before .before .before .before .before .before .number .result) (c .before .before .before .before .before .before .before .before .before .before .before .before .before .before .before .before .before .before .before .before .args .nodes .now) _ (c .before .before .before .before .before .before .before .before .before .before .before .before .before .before .before .before .before .before .before .before .args .n) (λ j. omega (arith, c .before .before .before .before .before .before .before .before .before .before .before .before .before .before .before .before .before .before .before .shared-slice-known .given j)) (c .before .before .before .before .before .before .before .before .before .before .before .before .number .ensures) (c .before .before .put-cell .ensures)))
 
 same-length-3 : tie.Need-same-length-3
 same-length-3 c = search needs
@@ -56,7 +57,7 @@ settle-spec =
     number-requires-2
     goes-to-requires
     put-requires
-    put-requires-2
+    put-cell-requires
     add-result
     same-length
     same-length-2

@@ -24,11 +24,11 @@ inner-requires c κs = search needs
 loop-holds : tie.Need-loop-holds Inv-loop μ-loop
 loop-holds c = λ ns e. refl
 
-uncovered-region-requires : tie.Need-uncovered-region-requires Inv-loop μ-loop
-uncovered-region-requires c κs = search needs
+uncovered-once-requires : tie.Need-uncovered-once-requires Inv-loop μ-loop
+uncovered-once-requires c κs = search needs
 
 returns : tie.Need-returns Inv-loop μ-loop
-returns c = λ ns e. giving-found _ _ _ _ _ _ (c .before .before .loop-test .taken) (c .before .uncovered-region .ensures ns e) (c .if1 .taken) (c .before .before .before .loop .inv ns e) ∙ entered-from _ _ _ _ _ (c .before .before .before .before .before .word .ensures) (c .before .before .before .before .inner .ensures)
+returns c = λ ns e. giving-found _ _ _ _ _ _ (c .before .before .loop-test .taken) (c .before .uncovered-once .ensures ns e) (c .if1 .taken) (c .before .before .before .loop .inv ns e) ∙ entered-from _ _ _ _ _ (c .before .before .before .before .before .word .ensures) (c .before .before .before .before .inner .ensures)
 
 word-requires-2 : tie.Need-word-requires-2 Inv-loop μ-loop
 word-requires-2 c κs = search needs
@@ -40,7 +40,7 @@ loop-less : tie.Need-loop-less Inv-loop μ-loop
 loop-less c = search needs
 
 loop-again : tie.Need-loop-again Inv-loop μ-loop
-loop-again c = λ ns e. giving-went _ _ _ _ _ _ _ (c .before .before .before .loop-test .taken) (c .before .before .uncovered-region .ensures ns e) (c .before .if1 .left) (c .word2 .ensures) (c .before .before .before .before .loop .inv ns e)
+loop-again c = λ ns e. giving-went _ _ _ _ _ _ _ (c .before .before .before .loop-test .taken) (c .before .before .uncovered-once .ensures ns e) (c .before .if1 .left) (c .word2 .ensures) (c .before .before .before .before .loop .inv ns e)
 
 returns-2 : tie.Need-returns-2 Inv-loop μ-loop
 returns-2 c = λ ns e. giving-done _ _ _ _ _ (c .loop-test .left) (c .before .loop .inv ns e) ∙ entered-from _ _ _ _ _ (c .before .before .before .word .ensures) (c .before .before .inner .ensures)
@@ -54,7 +54,7 @@ entered-spec =
     word-requires
     inner-requires
     loop-holds
-    uncovered-region-requires
+    uncovered-once-requires
     returns
     word-requires-2
     sub-n

@@ -8,7 +8,8 @@ use Rattle.pack.specs.Names.{Name}
 use Rattle.machines.specs.Sure.{numberIn}
 use Rattle.machines.specs.Walks.{regionW, rounds, stateW, walk}
 use Rattle.machines.proofs.SureLaws.{on}
-use Rattle.machines.proofs.WalkLaws.{most-of, moved, qualified, refine-into, refine-plain, region-on, rounds-done, rounds-stopped, rounds-went, state-large, state-on, stopped, walk-none, walk-some, went-on}
+use Rattle.machines.proofs.WalkLaws.{moved, qualified, refine-into, refine-plain, rounds-done, rounds-stopped, rounds-went, state-large, state-on, stopped, walk-none, walk-some, went-on}
+use Rattle.machines.proofs.EmptyLaws.{once-near, taken-stopped, taken-went}
 use Prim.Native.Nat.{ℕ, _<_}
 use borrow.Fn.Kinds.{In}
 use borrow.Fn.PlainCycle.{Measures, is, falls, and}
@@ -18,14 +19,14 @@ use Rattle.machines.proofs.walk.+walk_state+walk_states.Lts-walk_state 
 use Rattle.machines.proofs.walk.walk_states.Reads as walk-states
 use Rattle.machines.proofs.walk.walk_states.Kinds as walk-states-kinds
 use Rattle.machines.proofs.walk.+walk_state+walk_states.Lts-walk_states as walk-states-lts
+use Rattle.machines.proofs.empties.at_once.Reads as at-once-reads
+use Rattle.machines.proofs.empties.take_regions.Reads as take-regions-reads
 use Rattle.machines.proofs.heads.head.Reads as head-reads
 use Rattle.machines.proofs.heads.most.Reads as most-reads
 use Rattle.machines.proofs.path.pushed.Reads as pushed-reads
 use Rattle.machines.proofs.sure.number.Reads as number-reads
-use Rattle.machines.proofs.sure.region.Reads as region-reads
 use Rattle.machines.proofs.table.name_len.Reads as name-len-reads
 use Rattle.machines.proofs.walk.enter.Reads as enter-reads
-use Rattle.machines.proofs.walk.len_at.Reads as len-at-reads
 use Rattle.machines.proofs.walk.qualify.Reads as qualify-reads
 use Rattle.machines.proofs.walk.+walk_state+walk_states.{statement}
 use Rattle.machines.proofs.walk.+walk_state+walk_states.Tie.{close}
@@ -53,7 +54,7 @@ walk-states-below t =
     and 4 walk-states-kinds.ps (falls 4 walk-states-kinds.ps _<_ μ-walk-states t) walk-states.Pre
 
 abbrev walk-state-calls : ℕ → walk-state-lts.Claims
-walk-state-calls t = (head-reads.Asked, head-reads.Learnt, number-reads.Asked, number-reads.Learnt, region-reads.Asked, region-reads.Learnt, walk-states-below t, walk-states.Post, len-at-reads.Asked, len-at-reads.Learnt, most-reads.Asked, most-reads.Learnt, enter-reads.Asked, enter-reads.Learnt, pushed-reads.Asked, pushed-reads.Learnt, name-len-reads.Asked, name-len-reads.Learnt, qualify-reads.Asked, qualify-reads.Learnt)
+walk-state-calls t = (head-reads.Asked, head-reads.Learnt, number-reads.Asked, number-reads.Learnt, at-once-reads.Asked, at-once-reads.Learnt, take-regions-reads.Asked, take-regions-reads.Learnt, walk-states-below t, walk-states.Post, most-reads.Asked, most-reads.Learnt, enter-reads.Asked, enter-reads.Learnt, pushed-reads.Asked, pushed-reads.Learnt, name-len-reads.Asked, name-len-reads.Learnt, qualify-reads.Asked, qualify-reads.Learnt)
 
 abbrev walk-state-Inv-loop : walk-state-lts.InvT-loop
 walk-state-Inv-loop s names spots to ends levels p at count n₀ o₀ c₀ a₀ n o c a = (ns : List Name) → length ns ≡ names → rounds (regionW ns s spots to (walk ns s spots to levels) p) n o c a ≡ rounds (regionW ns s spots to (walk ns s spots to levels) p) n₀ o₀ c₀ a₀
@@ -76,21 +77,21 @@ walk-state-add-c t c = search needs
 walk-state-loop-holds : (t : ℕ) → walk-state-lts.Need-loop-holds (walk-state-calls t) (walk-state-at t) walk-state.Post walk-state-Inv-loop walk-state-μ-loop
 walk-state-loop-holds t c = λ ns e. refl
 
-walk-state-region-requires : (t : ℕ) → walk-state-lts.Need-region-requires (walk-state-calls t) (walk-state-at t) walk-state.Post walk-state-Inv-loop walk-state-μ-loop
-walk-state-region-requires t c κs = search needs
+walk-state-at-once-requires : (t : ℕ) → walk-state-lts.Need-at-once-requires (walk-state-calls t) (walk-state-at t) walk-state.Post walk-state-Inv-loop walk-state-μ-loop
+walk-state-at-once-requires t c κs = c .loop-test .taken
+
+walk-state-take-regions-requires : (t : ℕ) → walk-state-lts.Need-take-regions-requires (walk-state-calls t) (walk-state-at t) walk-state.Post walk-state-Inv-loop walk-state-μ-loop
+walk-state-take-regions-requires t c κs = once-near _ _ _ _ (c .at-once .ensures)
 
 walk-state-walk-states-requires : (t : ℕ) → walk-state-lts.Need-walk-states-requires (walk-state-calls t) (walk-state-at t) walk-state.Post walk-state-Inv-loop walk-state-μ-loop
-walk-state-walk-states-requires t c κs = (omega (arith, c .before .before .before .before .before .before .before .before .before .before .pre .0), c .before .before .before .before .before .before .before .before .before .before .pre .1)
+walk-state-walk-states-requires t c κs = (omega (arith, c .before .before .before .before .before .before .before .before .before .before .before .pre .0), c .before .before .before .before .before .before .before .before .before .before .before .pre .1)
 
 walk-state-enum-known-e : (t : ℕ) → walk-state-lts.Need-enum-known-e (walk-state-calls t) (walk-state-at t) walk-state.Post walk-state-Inv-loop walk-state-μ-loop
 walk-state-enum-known-e t c = search needs
 
 walk-state-returns-2 : (t : ℕ) → walk-state-lts.Need-returns-2 (walk-state-calls t) (walk-state-at t) walk-state.Post walk-state-Inv-loop walk-state-μ-loop
-walk-state-returns-2 t c = λ ns e. state-on ns _ _ _ _ _ _ _ _ _ _ (c .before .before .before .before .before .before .before .if1 .left) (c .before .before .before .before .before .before .head .ensures ns e) (c .before .before .before .before .before .number .ensures)
-    (stopped _ _ _ (c .match .keys2) (rounds-stopped _ _ _ _ _ _ _ (c .before .before .before .loop-test .taken) (c .match .keys2) (region-on ns _ _ _ _ _ _ _ _ _ (c .before .before .region .ensures) (stopped _ _ _ (c .match .keys2) (c .before .walk-states .ensures ns e))) (c .before .before .before .before .loop .inv ns e)))
-
-walk-state-len-at-requires : (t : ℕ) → walk-state-lts.Need-len-at-requires (walk-state-calls t) (walk-state-at t) walk-state.Post walk-state-Inv-loop walk-state-μ-loop
-walk-state-len-at-requires t c κs = search needs
+walk-state-returns-2 t c = λ ns e. state-on ns _ _ _ _ _ _ _ _ _ _ (c .before .before .before .before .before .before .before .before .if1 .left) (c .before .before .before .before .before .before .before .head .ensures ns e) (c .before .before .before .before .before .before .number .ensures)
+    (stopped _ _ _ (c .match .keys2) (taken-stopped ns _ _ _ _ _ e (c .before .before .before .before .before .before .before .before .before .before .before .before .before .pre .1 .1) _ _ _ _ _ _ _ _ _ _ (c .before .before .before .at-once .ensures) (c .before .before .take-regions .ensures) (c .before .walk-states .ensures ns e) (c .match .keys2) (c .before .before .before .before .before .loop .inv ns e)))
 
 walk-state-most-requires : (t : ℕ) → walk-state-lts.Need-most-requires (walk-state-calls t) (walk-state-at t) walk-state.Post walk-state-Inv-loop walk-state-μ-loop
 walk-state-most-requires t c κs = search needs
@@ -99,15 +100,13 @@ walk-state-most-requires-2 : (t : ℕ) → walk-state-lts.Need-most-requires-2 (
 walk-state-most-requires-2 t c κs = search needs
 
 walk-state-sub-n : (t : ℕ) → walk-state-lts.Need-sub-n (walk-state-calls t) (walk-state-at t) walk-state.Post walk-state-Inv-loop walk-state-μ-loop
-walk-state-sub-n t c = search needs
+walk-state-sub-n t c = c .before .before .before .before .before .before .before .at-once .ensures .few
 
 walk-state-loop-less : (t : ℕ) → walk-state-lts.Need-loop-less (walk-state-calls t) (walk-state-at t) walk-state.Post walk-state-Inv-loop walk-state-μ-loop
-walk-state-loop-less t c = search needs
+walk-state-loop-less t c = omega (arith, c .before .before .before .before .before .before .before .at-once .ensures .some, c .before .before .before .before .before .before .before .at-once .ensures .few)
 
 walk-state-loop-again : (t : ℕ) → walk-state-lts.Need-loop-again (walk-state-calls t) (walk-state-at t) walk-state.Post walk-state-Inv-loop walk-state-μ-loop
-walk-state-loop-again t c = λ ns e. rounds-went _ _ _ _ _ _ _ _ _ _ _ (c .before .before .before .before .before .before .before .before .loop-test .taken) refl
-    (region-on ns _ _ _ _ _ _ _ _ _ (c .before .before .before .before .before .before .before .region .ensures) (went-on _ _ _ _ _ _ _ (c .before .before .before .before .e .given .1) (c .before .before .before .before .before .before .walk-states .ensures ns e) refl))
-    (most-of _ _ _ _ _ _ (c .most2 .ensures) (c .before .most .ensures) (c .before .before .len-at .ensures)) (c .before .before .before .before .before .before .before .before .before .loop .inv ns e)
+walk-state-loop-again t c = λ ns e. taken-went ns _ _ _ _ _ e (c .before .before .before .before .before .before .before .before .before .before .before .before .before .before .before .before .before .pre .1 .1) _ _ _ _ _ _ _ _ _ _ _ _ _ _ _ (c .before .before .before .before .before .before .before .at-once .ensures) (c .before .before .before .before .before .before .take-regions .ensures) (c .before .before .before .before .before .walk-states .ensures ns e) (c .before .before .before .e .given .1) (c .before .most .ensures) (c .most2 .ensures) (c .before .before .before .before .before .before .before .before .before .loop .inv ns e)
 
 walk-state-number-requires-2 : (t : ℕ) → walk-state-lts.Need-number-requires-2 (walk-state-calls t) (walk-state-at t) walk-state.Post walk-state-Inv-loop walk-state-μ-loop
 walk-state-number-requires-2 t c κs = search needs
@@ -214,11 +213,11 @@ pub +walk-state+walk-states-spec : {M : Type 1} → statement M
     (walk-state-number-requires t)
     (walk-state-add-c t)
     (walk-state-loop-holds t)
-    (walk-state-region-requires t)
+    (walk-state-at-once-requires t)
+    (walk-state-take-regions-requires t)
     (walk-state-walk-states-requires t)
     (walk-state-enum-known-e t)
     (walk-state-returns-2 t)
-    (walk-state-len-at-requires t)
     (walk-state-most-requires t)
     (walk-state-most-requires-2 t)
     (walk-state-sub-n t)

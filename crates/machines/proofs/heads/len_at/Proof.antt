@@ -1,7 +1,7 @@
 use Rattle.machines.proofs.WalkLaws.{len-at-is}
 use borrow.Author.Needs.{needs}
-use Rattle.machines.proofs.walk.len_at.Statement.{statement}
-use Rattle.machines.proofs.walk.len_at.Tie as tie
+use Rattle.machines.proofs.heads.len_at.Statement.{statement}
+use Rattle.machines.proofs.heads.len_at.Tie as tie
 
 number-requires : tie.Need-number-requires
 number-requires c κs = search needs

@@ -1,0 +1,103 @@
+-- Laws for the table of outputs that drawn states were found to give.
+use Prim.Native.Nat.{ℕ, zero, suc, _+_, _*_, _/_, _%_, _<_}
+use native.Mathlib.Nat.{mod-eq-of-lt}
+use native.Mathlib.Omega.{arith}
+use mathlib.Core.List.{List, [], _∷_}
+use mathlib.Core.Bool.{Bool, false, true, cond, _&&_}
+use mathlib.Core.Path.{_≡_, refl, sym, ap, subst, _∙_}
+use lib.ListN.{length, getD, set}
+use lib.Seq.{getD-set-other}
+use lib.Dec.{eqb}
+use borrow.Author.Tests.{eqb-true, eqb-false}
+use Rattle.pack.specs.Names.{Name}
+use Rattle.machines.specs.Covers.{ownT, uncoveredT}
+use Rattle.machines.specs.Kept.{regionsIn, stateRow}
+use Rattle.machines.specs.Ends.{Blank}
+use Rattle.machines.specs.Told.{GivenWhere, ToldRight, toldMark}
+use Rattle.machines.proofs.SureLaws.{both-true, never}
+
+-- of the states of one row at most one is kept
+chosen : (b : Bool) (n : ℕ) → 0 < cond b n 0 → b ≡ true
+chosen true n h = refl
+chosen false n h = absurd (omega (arith, h))
+
+in-row : (t : List ℕ) (p : ℕ) → 0 < regionsIn t p → getD t (stateRow p) 0 ≡ p
+unfolding regionsIn
+in-row t p h = eqb-true (getD t (stateRow p) 0) p (chosen (eqb (getD t (stateRow p) 0) p) _ h)
+
+kept-once : (t : List ℕ) (p q : ℕ) → p / 10 ≡ q / 10 → 0 < regionsIn t p → 0 < regionsIn t q → p ≡ q
+unfolding stateRow
+kept-once t p q e g h =
+    let row : stateRow p ≡ stateRow q = omega (arith, e) in
+    sym (in-row t p g) ∙ ap (λ (x : ℕ). getD t x 0) row ∙ in-row t q h
+
+-- a cell says something of one output, and it fits
+pub mark-given : (out : ℕ) (b : Bool) → b ≡ true → 2 * out + 2 ≡ toldMark out b
+unfolding toldMark
+mark-given out b e = rw e
+
+pub mark-not : (out : ℕ) (b : Bool) → b ≡ false → 2 * out + 1 ≡ toldMark out b
+unfolding toldMark
+mark-not out b e = rw e
+
+mark-once : (a b : ℕ) (x y : Bool) → toldMark a x ≡ toldMark b y → (a ≡ b) × (x ≡ y)
+unfolding toldMark
+mark-once a b true true e = (omega (arith, e), refl)
+mark-once a b true false e = absurd (omega (arith, e))
+mark-once a b false true e = absurd (omega (arith, e))
+mark-once a b false false e = (omega (arith, e), refl)
+
+mark-some : (a : ℕ) (x : Bool) → 0 < toldMark a x
+unfolding toldMark
+mark-some a true = omega arith
+mark-some a false = omega arith
+
+mark-fits : (a : ℕ) (x : Bool) → a < 32767 → toldMark a x % 65536 ≡ toldMark a x
+unfolding toldMark
+mark-fits a true l = mod-eq-of-lt (omega (arith, l))
+mark-fits a false l = mod-eq-of-lt (omega (arith, l))
+
+-- what was found before
+pub told-before : (s : List ℕ) (names : ℕ) (ends told : List ℕ) (out at c m : ℕ) (given : Bool) → ToldRight s names ends told → 0 < regionsIn ends at
+    → c ≡ getD told (at / 10) 0 → m ≡ toldMark out given → c ≡ m → (ns : List Name) → length ns ≡ names → given ≡ ownT ns s out at
+told-before s names ends told out at c m given h l e f g ns n = sym (h .own ns n at out given l (sym e ∙ g ∙ f))
+
+-- a cell more
+set-here : (t : List ℕ) (i a : ℕ) → 0 < getD (set t i a) i 0 → getD (set t i a) i 0 ≡ a
+set-here [] i a h = absurd (omega (arith, h))
+set-here (x ∷ t) zero a h = refl
+set-here (x ∷ t) (suc i) a h = set-here t i a h
+
+pub told-more : (s : List ℕ) (names : ℕ) (ends told u : List ℕ) (out at m : ℕ) (given : Bool) → ToldRight s names ends told → 0 < regionsIn ends at → out < 32767
+    → ((ns : List Name) → length ns ≡ names → given ≡ ownT ns s out at) → m ≡ toldMark out given → u ≡ set told (at / 10) (m % 65536) → ToldRight s names ends u
+told-more s names ends told u out at m given h l f g e d = record { own = λ ns n p o b k c. go ns n p o b k (eqb (p / 10) (at / 10)) refl c }
+  where
+    cells : (i : ℕ) → getD u i 0 ≡ getD (set told (at / 10) (toldMark out given)) i 0
+    cells i = ap (λ (x : List ℕ). getD x i 0) d ∙ ap (λ (x : ℕ). getD (set told (at / 10) x) i 0) (ap (λ (x : ℕ). x % 65536) e ∙ mark-fits out given f)
+
+    go : (ns : List Name) → length ns ≡ names → (p o : ℕ) (b : Bool) → 0 < regionsIn ends p → (x : Bool) → eqb (p / 10) (at / 10) ≡ x → getD u (p / 10) 0 ≡ toldMark o b → ownT ns s o p ≡ b
+    go ns n p o b k true i c =
+        let r = eqb-true (p / 10) (at / 10) i in
+        let v : getD (set told (at / 10) (toldMark out given)) (at / 10) 0 ≡ toldMark o b = ap (λ (x : ℕ). getD (set told (at / 10) (toldMark out given)) x 0) (sym r) ∙ sym (cells (p / 10)) ∙ c in
+        let w = mark-once out o given b (sym (set-here told (at / 10) (toldMark out given) (subst (λ (x : ℕ). 0 < x) (sym v) (mark-some o b))) ∙ v) in
+        (λ j. ownT ns s (sym (w .0) j) (kept-once ends p at r k l j)) ∙ sym (g ns n) ∙ w .1
+    go ns n p o b k false i c =
+        h .own ns n p o b k (sym (getD-set-other told (at / 10) (p / 10) (toldMark out given) 0 (eqb-false (p / 10) (at / 10) i)) ∙ sym (cells (p / 10)) ∙ c)
+
+-- a table of zeros is right
+pub blank-told : (s : List ℕ) (names : ℕ) (ends told : List ℕ) → Blank told → ToldRight s names ends told
+blank-told s names ends told h = record { own = λ ns n p out b l e. absurd (omega (arith, h (p / 10), e, mark-some out b)) }
+
+-- an output that was asked for and is given
+pub given-none : (s : List ℕ) (names : ℕ) (t : List ℕ) (x : ℕ) → GivenWhere false s names t x
+unfolding GivenWhere
+given-none s names t x ns n e = absurd (never e)
+
+pub given-now : (s : List ℕ) (names : ℕ) (t : List ℕ) (x m : ℕ) → ((ns : List Name) → length ns ≡ names → m ≡ uncoveredT ns s t x 8 0) → m ≡ 0 → GivenWhere true s names t x
+unfolding GivenWhere
+given-now s names t x m h e ns n a = sym (h ns n) ∙ e
+
+pub given-again : (s : List ℕ) (names : ℕ) (t : List ℕ) (x last : ℕ) (asked b : Bool) → b ≡ (asked && eqb x last) → b ≡ true → GivenWhere asked s names t last → (ns : List Name) → length ns ≡ names → 0 ≡ uncoveredT ns s t x 8 0
+unfolding GivenWhere
+given-again s names t x last asked b e f h ns n =
+    let w = both-true asked (eqb x last) (sym e ∙ f) in sym (h ns n (w .0)) ∙ ap (λ (y : ℕ). uncoveredT ns s t y 8 0) (sym (eqb-true x last (w .1)))

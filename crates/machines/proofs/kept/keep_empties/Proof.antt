@@ -1,0 +1,25 @@
+use Rattle.machines.proofs.KeptLaws.{empty-mark-is}
+use borrow.Author.Needs.{needs}
+use Rattle.machines.proofs.kept.keep_empties.Statement.{statement}
+use Rattle.machines.proofs.kept.keep_empties.Tie as tie
+
+add-put-row : tie.Need-add-put-row
+add-put-row c = search needs
+
+mul-put-row : tie.Need-mul-put-row
+mul-put-row c = search needs
+
+add-put-row-2 : tie.Need-add-put-row-2
+add-put-row-2 c = search needs
+
+put-row-requires : tie.Need-put-row-requires
+put-row-requires c κs = search needs
+
+same-length : tie.Need-same-length
+same-length c = search needs
+
+returns : tie.Need-returns
+returns c = empty-mark-is _ _ _ _ _ (c .before .before .put-row .ensures)
+
+pub keep-empties-spec : {M : Type 1} → statement M
+keep-empties-spec = tie.close (tie.spec add-put-row mul-put-row add-put-row-2 put-row-requires same-length returns)

@@ -1,0 +1,76 @@
+// Whether a drawn region's transitions stay in it: said of what is drawn, so that it is looked at once, however often it is shown.
+use crate::ends::guard_end;
+use crate::ends::moves_of;
+use crate::ends::past_of;
+use crate::sure::number;
+ghost use mathlib.Core.List.{List};
+ghost use mathlib.Core.Path.{_≡_};
+ghost use Prim.Native.Nat.{_≤_};
+ghost use lib.ListN.{length};
+ghost use Rattle.pack.specs.Names.{Name};
+ghost use Rattle.machines.specs.Drawn.{amongD, aimedD, closedD};
+ghost use Rattle.machines.specs.Ends.{EndsRight};
+
+// Whether one of `count` states drawn from `from` on has the pack's name x.
+fn drawn_among(s: &[u8], names: usize, ends: &[u16], x: usize, count: usize, from: usize) -> bool
+    requires { ⌜ (length (now s) ≤ 65536) × EndsRight (now s) names (now ends) ⌝ }
+    ensures { λ r. ⌜ ((ns : List Name) → length ns ≡ names → r ≡ amongD ns (now (s .entry)) x count from) ⌝ }
+{
+    let mut n = count;
+    let mut p = from;
+    while 0 < n {
+        let i = number(s, p);
+        if i.value == x {
+            return true;
+        }
+        p = past_of(s, names, ends, p);
+        n = n - 1;
+    }
+    false
+}
+
+// Whether `count` transitions from `from` on lead to names of the n states drawn from f on.
+fn drawn_aimed(
+    s: &[u8],
+    names: usize,
+    ends: &[u16],
+    n: usize,
+    f: usize,
+    count: usize,
+    from: usize,
+) -> bool
+    requires { ⌜ (length (now s) ≤ 65536) × EndsRight (now s) names (now ends) ⌝ }
+    ensures { λ r. ⌜ ((ns : List Name) → length ns ≡ names → r ≡ aimedD ns (now (s .entry)) n f count from) ⌝ }
+{
+    let mut k = count;
+    let mut o = from;
+    while 0 < k {
+        let x = number(s, guard_end(s, names, ends, o));
+        if drawn_among(s, names, ends, x.value, n, f) {
+            o = x.next;
+            k = k - 1;
+        } else {
+            return false;
+        }
+    }
+    true
+}
+
+// Whether those of the n states drawn from f on do.
+pub fn drawn_closed(s: &[u8], names: usize, ends: &[u16], n: usize, f: usize) -> bool
+    requires { ⌜ (length (now s) ≤ 65536) × EndsRight (now s) names (now ends) ⌝ }
+    ensures { λ r. ⌜ ((ns : List Name) → length ns ≡ names → r ≡ closedD ns (now (s .entry)) n f) ⌝ }
+{
+    let mut m = n;
+    let mut p = f;
+    while 0 < m {
+        let c = number(s, moves_of(s, names, ends, p));
+        if drawn_aimed(s, names, ends, n, f, c.value, c.next) {
+            p = past_of(s, names, ends, p);
+            m = m - 1;
+        } else {
+            return false;
+        }
+    }
+    true
+}
