@@ -42,10 +42,13 @@ pub fn generated(count: usize, bytes: RangeInclusive<usize>, wanted: &dyn Fn(&[u
 
 /// A lowering's worst packs, and as one set those at its limits.
 pub fn lowering(costly: Vec<Hostile>, limits: Vec<Hostile>) -> Vec<Set> {
-    let worst = |h: Hostile| Set { name: h.name, size: Size::Worst, packs: vec![h.pack] };
     let limits = limits.into_iter().map(|h| h.pack).filter(|p| decode(p).is_ok()).collect();
     let limits = Set { name: "at the limits: states, levels, lengths", size: Size::Worst, packs: limits };
     costly.into_iter().map(worst).chain([limits]).collect()
+}
+
+pub fn worst(h: Hostile) -> Set {
+    Set { name: h.name, size: Size::Worst, packs: vec![h.pack] }
 }
 
 /// The worst packs of the check.

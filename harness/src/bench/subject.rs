@@ -30,6 +30,8 @@ pub struct Lowering {
     alone: fn(&mut Project) -> bool,
     costly: fn() -> Vec<Hostile>,
     limits: fn() -> Vec<Hostile>,
+    /// Packs that the Rust side takes minutes for.
+    vast: fn() -> Vec<Hostile>,
 }
 
 pub fn lowerings() -> [Lowering; 2] {
@@ -43,6 +45,7 @@ pub fn lowerings() -> [Lowering; 2] {
             alone: |project| project.lower_state_machines().is_ok(),
             costly: hostile::machines::costly,
             limits: hostile::machines::limits,
+            vast: hostile::machines::vast,
         },
         Lowering {
             name: "activations",
@@ -53,6 +56,7 @@ pub fn lowerings() -> [Lowering; 2] {
             alone: |project| project.lower_activations().is_ok(),
             costly: hostile::activations::costly,
             limits: hostile::activations::limits,
+            vast: Vec::new,
         },
     ]
 }
@@ -62,6 +66,11 @@ impl Lowering {
         let mut sets = sets::usual(&self.plain);
         sets.extend(sets::lowering((self.costly)(), (self.limits)()));
         sets
+    }
+
+    /// The packs on which the linked call is timed alone.
+    pub fn vast(&self) -> Vec<Set> {
+        (self.vast)().into_iter().map(sets::worst).collect()
     }
 
     /// Whether the reference's own call can lower every pack of the set.

@@ -15,15 +15,19 @@ pub const TURNS: usize = 11;
 const LONGEST: Duration = Duration::from_secs(3);
 pub const FEWEST: usize = 3;
 
-/// Microseconds a pack of each side: the median of its turns.
-pub fn time(set: &Set, rust: Side, rattle: Option<Side>) -> (f64, Option<f64>) {
-    let (mut one, mut other) = (Vec::new(), Vec::new());
+/// Microseconds a pack of each side that there is: the median of its turns.
+pub fn time(set: &Set, sides: [Option<Side>; 2]) -> [Option<f64>; 2] {
+    let mut turns = [Vec::new(), Vec::new()];
     let start = Instant::now();
-    while one.len() < TURNS && (one.len() < FEWEST || start.elapsed() < LONGEST) {
-        one.push(turn(set, rust));
-        other.extend(rattle.map(|call| turn(set, call)));
+    for done in 0..TURNS {
+        if done >= FEWEST && start.elapsed() >= LONGEST {
+            break;
+        }
+        for (times, side) in turns.iter_mut().zip(sides) {
+            times.extend(side.map(|call| turn(set, call)));
+        }
     }
-    (median(one), rattle.map(|_| median(other)))
+    turns.map(|times| (!times.is_empty()).then(|| median(times)))
 }
 
 fn turn(set: &Set, call: Side) -> f64 {

@@ -44,7 +44,8 @@ fn legend(timed: bool) -> String {
     format!(
         "microseconds a pack: the median of {FEWEST} to {TURNS} repetitions of at least {} ms, both sides in turn\n\
          check: against the harness's decoder; a lowering: against decoding, the reference's call and encoding\n\
-         ~ the reference's call cannot do it, or only with gigabytes: the harness's shortcut is timed\n",
+         ~ the reference's call cannot do it, or only with gigabytes: the harness's shortcut is timed\n\
+         - the Rust side would take minutes: only the linked call is timed\n",
         TURN.as_millis()
     )
 }
@@ -64,23 +65,28 @@ impl Bench {
         for (i, set) in sets.iter().enumerate() {
             say("check", i, sets.len(), set);
             let rattle = call.as_ref().map(|c| c as Side);
-            self.row("check", set, "", &|p| decode(p).is_ok() as u64, rattle);
+            self.row("check", set, "", Some(&|p| decode(p).is_ok() as u64), rattle);
         }
     }
 
     fn lowering(&mut self, l: &Lowering) {
         let call = l.linked.map(|f| move |p: &[u8]| lower(f, p));
-        let sets = l.sets();
+        let rattle = call.as_ref().map(|c| c as Side);
+        let (sets, vast) = (l.sets(), l.vast());
+        let all = sets.len() + vast.len();
         for (i, set) in sets.iter().enumerate() {
-            say(l.name, i, sets.len(), set);
+            say(l.name, i, all, set);
             let plain = l.plain(set);
-            let rattle = call.as_ref().map(|c| c as Side);
-            self.row(l.name, set, if plain { "" } else { " ~" }, &|p| l.rust(plain, p), rattle);
+            self.row(l.name, set, if plain { "" } else { " ~" }, Some(&|p| l.rust(plain, p)), rattle);
+        }
+        for (i, set) in vast.iter().enumerate() {
+            say(l.name, sets.len() + i, all, set);
+            self.row(l.name, set, "", None, rattle);
         }
     }
 
-    fn row(&mut self, call: &'static str, set: &Set, mark: &str, rust: Side, rattle: Option<Side>) {
-        let times = self.timed.then(|| time(set, rust, rattle));
+    fn row(&mut self, call: &'static str, set: &Set, mark: &str, rust: Option<Side>, rattle: Option<Side>) {
+        let [rust, times] = if self.timed { time(set, [rust, rattle]) } else { [None, None] };
         let count = set.packs.len();
         self.rows.push(Row {
             call,
@@ -88,8 +94,8 @@ impl Bench {
             packs: format!("{}{mark}", set.name),
             count,
             bytes: set.packs.iter().map(|p| p.len()).sum::<usize>() / count,
-            rust: times.map(|(rust, _)| rust),
-            rattle: times.and_then(|(_, rattle)| rattle),
+            rust,
+            rattle: times,
             stack: rattle.map(|call| stack(set, call)),
         });
     }

@@ -123,6 +123,20 @@ pub fn revisited_state(equations: usize, transitions: usize, bytes: usize, count
     revisited(b, State { equations, transitions, ..state(s) }, count)
 }
 
+/// The state has so many equations of which the last gives the output that the refining machines have.
+pub fn revisited_output(equations: usize, count: usize) -> Package {
+    let mut b = Builder::new();
+    let [s, o, other] = ["S", "o", "p"].map(|n| b.name(n));
+    let one = b.p.expr([Tok::Tuple(0)]);
+    let mut equations = vec![equation(other, one); equations - 1];
+    equations.push(equation(o, one));
+    let mut p = revisited(b, State { equations, ..state(s) }, count);
+    for m in &mut p.machines[2..] {
+        m.outputs.push(port(o));
+    }
+    p
+}
+
 /// The state has so many regions, all without states.
 pub fn revisited_regions(regions: usize, count: usize) -> Package {
     let mut b = Builder::new();
@@ -224,6 +238,19 @@ pub fn transitions(states: usize, count: usize, refused: bool) -> Package {
     b.done()
 }
 
+/// So many machines that each refine one of many states, the first of which has many transitions, all to the last.
+pub fn refined_transitions(states: usize, transitions: usize, count: usize) -> Package {
+    let mut b = Builder::new();
+    let [top, sub, x] = ["Top", "Sub", "x"].map(|n| b.name(n));
+    let guard = b.p.expr([Tok::Tuple(0)]);
+    let mut all: Vec<State> = (0..states).map(|k| state(b.name(&short_name(k + 100)))).collect();
+    let target = all[states - 1].name;
+    all[0].transitions = vec![Transition { guard, target }; transitions];
+    b.p.machines.push(machine(sub, all[0].name, all));
+    b.p.machines.extend(vec![machine(top, x, vec![refining(x, sub)]); count]);
+    b.done()
+}
+
 /// Packs at the limits of lowering machines.
 pub fn limits() -> Vec<Hostile> {
     let all = [
@@ -289,8 +316,22 @@ pub fn costly() -> Vec<Hostile> {
         ("2,000 equations, visited 2,500 times", revisited_state(2_000, 0, 4, 10)),
         ("4,000 transitions, visited 2,500 times", revisited_state(0, 4_000, 4, 10)),
         ("3,000 regions, visited 2,500 times", revisited_regions(3_000, 10)),
+        ("3,000 equations, visited 2,500 times", revisited_output(3_000, 10)),
+        ("5,000 transitions, refined 20 times", refined_transitions(500, 5_000, 20)),
         ("500 states, 10,000 transitions to the last", transitions(500, 10_000, false)),
         ("500 states, 10,000 transitions, refused", transitions(500, 10_000, true)),
+    ])
+}
+
+/// Packs whose resolved machines are so large that the reference and the shortcut take minutes or all memory.
+pub fn vast() -> Vec<Hostile> {
+    packs([
+        ("right side of 16 KB, visited 75,000 times", revisited_state(1, 0, 16_000, 300)),
+        ("guard of 16 KB, visited 75,000 times", revisited_state(0, 1, 16_000, 300)),
+        ("4,000 transitions, visited 75,000 times", revisited_state(0, 4_000, 4, 300)),
+        ("3,000 regions, visited 75,000 times", revisited_regions(3_000, 300)),
+        ("3,000 equations, visited 75,000 times", revisited_output(3_000, 300)),
+        ("5,000 transitions, refined 700 times", refined_transitions(500, 5_000, 700)),
     ])
 }
 
