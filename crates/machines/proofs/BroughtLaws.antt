@@ -46,6 +46,25 @@ total-done f n i c z l h = let k : n - i ≡ 0 = omega arith in let a : totalT f
 pub total-start : (f : ℕ → ℕ) (n : ℕ) → 0 + totalT f (n - 0) 0 ≡ totalT f n 0
 total-start f n = let k : n - 0 ≡ n = omega arith in let a : totalT f (n - 0) 0 ≡ totalT f n 0 = ap (λ y. totalT f y 0) k in omega arith
 
+-- such a loop, past indexes that add nothing: its start, and one more
+total-one : (f : ℕ → ℕ) (n i : ℕ) → 0 ≡ f i → totalT f (n - i) i ≡ totalT f (n - suc i) (suc i)
+unfolding totalT
+total-one f n i e = go (n - i) refl
+  where
+    go : (m : ℕ) → n - i ≡ m → totalT f (n - i) i ≡ totalT f (n - suc i) (suc i)
+    go zero d = let g : n - suc i ≡ 0 = omega arith in rw (d, g)
+    go (suc m) d = let g : n - suc i ≡ m = omega arith in rw (d, g, ← e) (omega arith)
+
+total-skip : (f : ℕ → ℕ) (n j m i : ℕ) → i + m ≡ j → ((p : ℕ) → i ≤ p → p < j → 0 ≡ f p) → totalT f (n - i) i ≡ totalT f (n - j) j
+total-skip f n j zero i e h = let d : i ≡ j = omega arith in ap (λ (y : ℕ). totalT f (n - y) y) d
+total-skip f n j (suc m) i e h = total-one f n i (h i (omega arith) (omega arith)) ∙ total-skip f n j m (suc i) (omega arith) (λ p l q. h p (omega arith) q)
+
+pub total-first : (f : ℕ → ℕ) (n j : ℕ) → 0 ≤ j → ((p : ℕ) → 0 ≤ p → p < j → 0 ≡ f p) → 0 + totalT f (n - j) j ≡ totalT f n 0
+total-first f n j l h = ap (λ y. 0 + y) (sym (total-skip f n j j 0 (omega arith) h)) ∙ total-start f n
+
+pub total-next : (f : ℕ → ℕ) (n i c d j z : ℕ) → i < n → d ≡ f i → i + 1 ≤ j → ((p : ℕ) → i + 1 ≤ p → p < j → 0 ≡ f p) → c + totalT f (n - i) i ≡ z → (c + d) + totalT f (n - j) j ≡ z
+total-next f n i c d j z l e k h q = ap (λ y. (c + d) + y) (sym (total-skip f n j (j - (i + 1)) (i + 1) (omega arith) h)) ∙ total-more f n i c d z l e q
+
 -- a sum with one more at the end
 pub total-end : (f : ℕ → ℕ) (n i : ℕ) → totalT f (suc n) i ≡ totalT f n i + f (i + n)
 unfolding totalT

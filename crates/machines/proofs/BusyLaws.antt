@@ -21,7 +21,7 @@ use Rattle.machines.specs.Brought.{bringsEquationsT, bringsLocalsT, brou
 use Rattle.machines.specs.NodeHeads.{nodeLocalsT, oldHeadT}
 use Rattle.machines.specs.Parts.{broughtEquationsT, nodeEquationsT, oldNodeT}
 use Rattle.machines.specs.Busy.{Idle, askedT, busyT, goesT, nearerT, nextBusyT}
-use Rattle.machines.proofs.BroughtLaws.{brings-no-equations, brings-no-locals, each-skip, no-locals}
+use Rattle.machines.proofs.BroughtLaws.{brings-no-equations, brings-no-locals, each-skip, no-locals, total-done, total-first}
 use Rattle.machines.proofs.RelaidLaws.{no-equations}
 
 -- the node of a machine as it is looked up
@@ -136,10 +136,8 @@ module _ (k b n : ℕ) where
       go false = omega arith
 
 -- nothing is brought by those that go elsewhere
-total-idle : (f : ℕ → ℕ) (n i : ℕ) → ((p : ℕ) → p < i + n → 0 ≡ f p) → 0 ≡ totalT f n i
-unfolding totalT
-total-idle f zero i h = refl
-total-idle f (suc n) i h = omega (arith, h i (omega arith), total-idle f n (suc i) (λ p l. h p (omega arith)))
+total-idle : (f : ℕ → ℕ) (n : ℕ) → ((p : ℕ) → p < n → 0 ≡ f p) → 0 ≡ totalT f n 0
+total-idle f n h = total-done f n n 0 _ (omega arith) (total-first f n n (omega arith) (λ p l. h p))
 
 each-idle : (f : ℕ → List Item) (n : ℕ) → ((p : ℕ) → p < n → f p ≡ []) → [] ≡ eachT f n 0
 unfolding eachT
@@ -153,14 +151,14 @@ module _ (ns : List Name) (s mats ats regs spots : List ℕ) (n k : ℕ) (idle :
   idle-locals : (own from to : ℕ) → nodeLocalsT ns s mats ats regs spots 0 k own from to ≡ nodeLocalsT ns s mats ats regs spots n k own from to
   unfolding nodeLocalsT totalT eachT
   idle-locals own from to =
-      let t = total-idle (bringsLocalsT ns s mats ats regs k) n 0 (λ p l. brings-no-locals ns s mats ats regs k p _ _ _ refl refl refl (idle p (omega arith))) in
+      let t = total-idle (bringsLocalsT ns s mats ats regs k) n (λ p l. brings-no-locals ns s mats ats regs k p _ _ _ refl refl refl (idle p l)) in
       let e = each-idle (broughtLocalsT ns s mats ats regs spots k) n (λ p l. no-locals ns s mats ats regs spots k p (idle p l)) in
       λ j. raw (two (smallOf own + t j)) ∷ raw (sliceOf s from (to - from)) ∷ e j
 
   idle-equations : (eqs : ℕ → List Item) (own from to : ℕ) → nodeEquationsT ns s mats ats regs spots 0 eqs k own from to ≡ nodeEquationsT ns s mats ats regs spots n eqs k own from to
   unfolding nodeEquationsT totalT eachT
   idle-equations eqs own from to =
-      let t = total-idle (bringsEquationsT ns s mats ats regs k) n 0 (λ p l. brings-no-equations ns s mats ats regs k p _ _ _ refl refl refl (idle p (omega arith))) in
+      let t = total-idle (bringsEquationsT ns s mats ats regs k) n (λ p l. brings-no-equations ns s mats ats regs k p _ _ _ refl refl refl (idle p l)) in
       let e = each-idle (broughtEquationsT ats eqs k) n (λ p l. no-equations ats eqs k p (idle p l)) in
       λ j. raw (two (smallOf own + t j)) ∷ raw (sliceOf s from (to - from)) ∷ e j
 

@@ -4,6 +4,7 @@ use native.Mathlib.Omega.{arith}
 use mathlib.Core.List.{List}
 use mathlib.Core.Bool.{Bool, true, false, _&&_, _||_}
 use mathlib.Core.Path.{_≡_, refl, sym, ap, _∙_}
+use lib.ListN.{length}
 use lib.Dec.{eqb}
 use borrow.Author.Tests.{eq-eqb, ne-eqb}
 use Rattle.pack.specs.Names.{Name}
@@ -12,7 +13,7 @@ use Rattle.machines.specs.declared.sure.Num.{Num}
 use Rattle.machines.specs.Stands.{endOf, overIn}
 use Rattle.machines.specs.Sure.{numberIn}
 use Rattle.machines.specs.Lays.{movesAt}
-use Rattle.machines.specs.Drawn.{aimedD, allAimed, amongD, closedD}
+use Rattle.machines.specs.Drawn.{Among, aimedD, allAimed, amongD, closedD}
 use Rattle.machines.proofs.SureLaws.{on}
 
 module _ (ns : List Name) (s : List ℕ) where
@@ -81,3 +82,12 @@ module _ (ns : List Name) (s : List ℕ) where
   pub all-from : (n f : ℕ) → allAimed ns s n f n f ≡ closedD ns s n f
   unfolding closedD
   all-from n f = refl
+
+-- a target that was found
+pub among-now : (s : List ℕ) (names n f x : ℕ) (b : Bool) → ((ns : List Name) → length ns ≡ names → b ≡ amongD ns s x n f) → b ≡ true → Among s names n f x
+unfolding Among
+among-now s names n f x b h e ns l = sym (h ns l) ∙ e
+
+pub among-told : (s : List ℕ) (names n f x : ℕ) → Among s names n f x → (ns : List Name) → length ns ≡ names → true ≡ amongD ns s x n f
+unfolding Among
+among-told s names n f x h ns l = sym (h ns l)

@@ -128,10 +128,6 @@ closed-put s names t u f n b r q =
     let m : f - 5 + 5 ≡ f = omega (arith, b) in
     row-put s names t (f - 5) ofClosed n refl (omega arith) (λ ns e. record { equation = λ x. absurd (omega arith); guard = λ x. absurd (omega arith); closed = λ x. ap (closedD ns s n) m ∙ sym (r ns e); empty = λ x. absurd (omega arith) }) u q
 
--- past a guard's transition
-pub guard-past : (ns : List Name) (s : List ℕ) (at e : ℕ) (x : Num) → e ≡ endOf (exprIn ns s at) → x ≡ numberIn s e → x .next ≡ numberIn s (endOf (exprIn ns s at)) .next
-guard-past ns s at e x a b = ap (λ (y : Num). y .next) (b ∙ ap (numberIn s) a)
-
 -- one state more
 pub state-put : (t u : List ℕ) (at : ℕ) (h : Num) (m o r : ℕ) → h .next ≡ r → u ≡ statePut t at (h .value) m o r
     → (s : List ℕ) (names : ℕ) (spots : List ℕ) → KeptRight s names spots t → HeadRead s names spots at h m o r → KeptRight s names spots u

@@ -31,6 +31,7 @@ pub mod RowLaws
 pub mod ValidLaws
 pub mod ClosedRows
 pub mod RepeatLaws
+pub mod ManyEnds
 pub mod MarkLaws
 pub mod JudgeLaws
 pub mod EnumLaws
@@ -92,6 +93,7 @@ pub mod Settled
 pub mod SettledTables
 pub mod TablesFilled
 pub mod PackCounts
+pub mod PartEnds
 pub mod PackSettled
 pub mod SettledExample
 pub mod TablesKnown

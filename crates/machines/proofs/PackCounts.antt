@@ -112,7 +112,7 @@ module _ (ns : List Name) (s : List ℕ) where
       let to = v .to in
       omega arith
 
-  optional-takes : (at : ℕ) (o : Option Name) (q : ℕ) → optionalIn ns s at ≡ value o q → at + 2 ≤ q
+  pub optional-takes : (at : ℕ) (o : Option Name) (q : ℕ) → optionalIn ns s at ≡ value o q → at + 2 ≤ q
   unfolding optionalIn
   optional-takes at o q e =
       let m = map-value _ _ o q e in

@@ -10,7 +10,7 @@ use lib.ListN.{getD, set}
 use lib.Dec.{eqb}
 use types.Run.{OneOf}
 use denote.Enum.Declared.{tagOf}
-use borrow.Author.Tests.{eq-eqb, ne-eqb}
+use borrow.Author.Tests.{eq-eqb, eqb-true, ne-eqb}
 use Rattle.wire.proofs.answer.Read as Read-enum
 use Rattle.wire.specs.declared.answer.Read.{Read}
 use Rattle.wire.specs.declared.answer.Read.the-variants as rd
@@ -23,6 +23,7 @@ use Rattle.pack.specs.Names.{Name}
 use Rattle.wire.specs.Code.{next, onward, readOf, skip, skips}
 use Rattle.pack.specs.Verdict.{offsetOf}
 use Rattle.machines.specs.declared.sure.Num.{Num}
+use Rattle.machines.specs.Known.{Known}
 use Rattle.machines.specs.Stands.{MachineAt, RegionAt, endOf}
 use Rattle.machines.proofs.Reading.{name-number}
 use Rattle.machines.specs.Sure.{byteIn, machineFrom, num, numberIn, regionIn, sureOf, turns, with}
@@ -148,3 +149,16 @@ number-small s at c by e = subst (λ (x : Num). x .value < 65536) (sym e) (go (u
 -- so a table of 16-bit words holds it as it is
 pub number-put : (s : List ℕ) (at : ℕ) (c : Num) (t u : List ℕ) (i : ℕ) → ((j : ℕ) → getD s j 0 < 256) → c ≡ numberIn s at → u ≡ set t i (c .value % 65536) → u ≡ set t i (c .value)
 number-put s at c t u i by e h = h ∙ ap (set t i) (mod-eq-of-lt (number-small s at c by e))
+
+-- what is known of the one before: nothing yet, of one that was looked at, of the same one again
+pub known-none : (P : ℕ → Type 0) (x : ℕ) → Known false P x
+unfolding Known
+known-none P x e = absurd (never e)
+
+pub known-now : (P : ℕ → Type 0) (x : ℕ) → P x → Known true P x
+unfolding Known
+known-now P x h e = h
+
+pub known-again : (P : ℕ → Type 0) (x last : ℕ) (known b : Bool) → b ≡ (known && eqb x last) → b ≡ true → Known known P last → P x
+unfolding Known
+known-again P x last known b e g h = let w = both-true known (eqb x last) (sym e ∙ g) in subst P (sym (eqb-true x last (w .1))) (h (w .0))

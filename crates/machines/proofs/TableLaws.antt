@@ -13,9 +13,10 @@ use Rattle.pack.specs.Names.{Name}
 use Rattle.pack.specs.Read.{optionalIn, portsIn, stateAt}
 use Rattle.pack.specs.Verdict.{offsetOf}
 use Rattle.machines.specs.declared.sure.Num.{Num}
+use Rattle.machines.specs.Stands.{endOf}
 use Rattle.machines.specs.Sure.{numberIn}
 use Rattle.machines.specs.Tables.{outputsIn, initialIn, lenOf, machinesPlaced, namesPlaced, nextName, placedFrom, statesEnd}
-use Rattle.machines.proofs.SureLaws.{on}
+use Rattle.machines.proofs.SureLaws.{end-is, on}
 
 pub past-end : (t : List ℕ) (i : ℕ) → length t ≤ i → 0 ≡ getD t i 0
 past-end t i h = sym (List·getD-eq-default t 0 h)
@@ -59,9 +60,9 @@ module _ (ns : List Name) (s : List ℕ) where
   initial-is at o a b c r x y z w v =
       v ∙ ap offsetOf (w ∙ ap (onward (portsIn ns s)) (z ∙ ap (onward (portsIn ns s)) (y ∙ ap (onward (portsIn ns s)) x)))
 
-  pub states-end : (at : ℕ) (i : Num) (c : Skipped) (r : ℕ) → i ≡ numberIn s at → c ≡ onward (counted (stateAt ns s) s) (sk.To (i .next)) → r ≡ offsetOf c → r ≡ statesEnd ns s at
+  pub states-end : (at : ℕ) (i : Num) (r : ℕ) → i ≡ numberIn s at → r ≡ endOf (counted (stateAt ns s) s (i .next)) → r ≡ statesEnd ns s at
   unfolding statesEnd
-  states-end at i c r x y z = on i _ _ r x (z ∙ ap offsetOf y)
+  states-end at i r x y = on i _ _ r x (y ∙ sym (end-is (counted (stateAt ns s) s) (i .next) _ _ refl refl))
 
   pub placed-more : (n at w p : ℕ) (i : Num) (t u z : List ℕ) → 0 < n → i ≡ numberIn s at → w ≡ initialIn ns s (i .next) → u ≡ set t (i .value) (w % 65536) → p ≡ statesEnd ns s w → placedFrom ns s n at t ≡ z → placedFrom ns s (n - 1) p u ≡ z
   unfolding placedFrom

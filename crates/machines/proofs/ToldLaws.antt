@@ -3,7 +3,7 @@ use Prim.Native.Nat.{ℕ, zero, suc, _+_, _*_, _/_, _%_, _<_}
 use native.Mathlib.Nat.{mod-eq-of-lt}
 use native.Mathlib.Omega.{arith}
 use mathlib.Core.List.{List, [], _∷_}
-use mathlib.Core.Bool.{Bool, false, true, cond, _&&_}
+use mathlib.Core.Bool.{Bool, false, true, cond}
 use mathlib.Core.Path.{_≡_, refl, sym, ap, subst, _∙_}
 use lib.ListN.{length, getD, set}
 use lib.Seq.{getD-set-other}
@@ -13,8 +13,7 @@ use Rattle.pack.specs.Names.{Name}
 use Rattle.machines.specs.Covers.{ownT, uncoveredT}
 use Rattle.machines.specs.Kept.{regionsIn, stateRow}
 use Rattle.machines.specs.Ends.{Blank}
-use Rattle.machines.specs.Told.{GivenWhere, ToldRight, toldMark}
-use Rattle.machines.proofs.SureLaws.{both-true, never}
+use Rattle.machines.specs.Told.{Given, ToldRight, toldMark}
 
 -- of the states of one row at most one is kept
 chosen : (b : Bool) (n : ℕ) → 0 < cond b n 0 → b ≡ true
@@ -88,16 +87,11 @@ told-more s names ends told u out at m given h l f g e d = record { own = λ ns 
 pub blank-told : (s : List ℕ) (names : ℕ) (ends told : List ℕ) → Blank told → ToldRight s names ends told
 blank-told s names ends told h = record { own = λ ns n p out b l e. absurd (omega (arith, h (p / 10), e, mark-some out b)) }
 
--- an output that was asked for and is given
-pub given-none : (s : List ℕ) (names : ℕ) (t : List ℕ) (x : ℕ) → GivenWhere false s names t x
-unfolding GivenWhere
-given-none s names t x ns n e = absurd (never e)
+-- an output that was found given
+pub given-now : (s : List ℕ) (names : ℕ) (t : List ℕ) (x m : ℕ) → ((ns : List Name) → length ns ≡ names → m ≡ uncoveredT ns s t x 8 0) → m ≡ 0 → Given s names t x
+unfolding Given
+given-now s names t x m h e ns n = sym (h ns n) ∙ e
 
-pub given-now : (s : List ℕ) (names : ℕ) (t : List ℕ) (x m : ℕ) → ((ns : List Name) → length ns ≡ names → m ≡ uncoveredT ns s t x 8 0) → m ≡ 0 → GivenWhere true s names t x
-unfolding GivenWhere
-given-now s names t x m h e ns n a = sym (h ns n) ∙ e
-
-pub given-again : (s : List ℕ) (names : ℕ) (t : List ℕ) (x last : ℕ) (asked b : Bool) → b ≡ (asked && eqb x last) → b ≡ true → GivenWhere asked s names t last → (ns : List Name) → length ns ≡ names → 0 ≡ uncoveredT ns s t x 8 0
-unfolding GivenWhere
-given-again s names t x last asked b e f h ns n =
-    let w = both-true asked (eqb x last) (sym e ∙ f) in sym (h ns n (w .0)) ∙ ap (λ (y : ℕ). uncoveredT ns s t y 8 0) (sym (eqb-true x last (w .1)))
+pub given-told : (s : List ℕ) (names : ℕ) (t : List ℕ) (x : ℕ) → Given s names t x → (ns : List Name) → length ns ≡ names → 0 ≡ uncoveredT ns s t x 8 0
+unfolding Given
+given-told s names t x h ns n = sym (h ns n)

@@ -18,7 +18,7 @@ use Rattle.machines.specs.declared.valid.Checked.{Checked}
 use Rattle.machines.specs.declared.valid.Checked.the-variants as ck
 use Rattle.machines.specs.Stands.{endOf}
 use Rattle.machines.specs.Sure.{numberIn}
-use Rattle.machines.specs.Valid.{amongT, checkedRegion, checkedState, eachRow, hasT, movesChecked, orThen, targetsT}
+use Rattle.machines.specs.Valid.{Has, amongT, checkedRegion, checkedState, eachRow, hasT, movesChecked, orThen, targetsT}
 use Rattle.machines.proofs.SureLaws.{on}
 
 module _ (s t : List ℕ) where
@@ -47,6 +47,15 @@ module _ (s t : List ℕ) where
   unfolding amongT hasT
   among-from x q zero p r a b c = c ∙ ap (λ y. amongT s t x y (q + 9)) a
   among-from x q (suc n) p r a b c = c ∙ (λ j. amongT s t x (a j) (b (omega arith) j))
+
+-- a target that was found
+pub has-now : (s t : List ℕ) (q x : ℕ) (b : Bool) → b ≡ hasT s t q x → b ≡ true → Has s t q x
+unfolding Has
+has-now s t q x b h e = sym h ∙ e
+
+pub has-told : (s t : List ℕ) (q x : ℕ) → Has s t q x → true ≡ hasT s t q x
+unfolding Has
+has-told s t q x h = sym h
 
 module _ (ns : List Name) (s t : List ℕ) where
   pub moves-went : (q p n at e : ℕ) (x : Num) (z : Checked) → 0 < n → e ≡ endOf (exprIn ns s at) → x ≡ numberIn s e → true ≡ hasT s t q (x .value) → movesChecked ns s t q p n at ≡ z → movesChecked ns s t q p (n - 1) (x .next) ≡ z

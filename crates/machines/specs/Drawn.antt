@@ -2,6 +2,8 @@
 use Prim.Native.Nat.{ℕ, zero, suc}
 use mathlib.Core.List.{List}
 use mathlib.Core.Bool.{Bool, true, false, _&&_, _||_}
+use mathlib.Core.Path.{_≡_}
+use lib.ListN.{length}
 use lib.Dec.{eqb}
 use Rattle.pack.specs.Names.{Name}
 use Rattle.pack.specs.Read.{exprIn}
@@ -28,3 +30,7 @@ module _ (ns : List Name) (s : List ℕ) where
   -- those of the n states drawn from f on
   unfoldable pub closedD : ℕ → ℕ → Bool
   closedD n f = allAimed n f n f
+
+-- one of the n states drawn from f on has the name of index x, whatever the names are
+unfoldable pub Among : List ℕ → ℕ → ℕ → ℕ → ℕ → Type 0
+Among s names n f x = (ns : List Name) → length ns ≡ names → amongD ns s x n f ≡ true

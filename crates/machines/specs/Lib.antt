@@ -1,4 +1,5 @@
 pub mod Vars
+pub mod Known
 pub mod Stands
 pub mod Sure
 pub mod Tables

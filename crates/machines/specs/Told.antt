@@ -2,7 +2,7 @@
 -- kept (specs/Kept), for the output that was asked last.
 use Prim.Native.Nat.{ℕ, _+_, _*_, _/_, _<_}
 use mathlib.Core.List.{List}
-use mathlib.Core.Bool.{Bool, true, cond}
+use mathlib.Core.Bool.{Bool, cond}
 use mathlib.Core.Path.{_≡_}
 use lib.ListN.{length, getD}
 use Rattle.pack.specs.Names.{Name}
@@ -17,6 +17,6 @@ toldMark out given = 2 * out + cond given 2 1
 pub record ToldRight (s : List ℕ) (names : ℕ) (ends told : List ℕ) : Type 0 where
   pub own : (ns : List Name) → length ns ≡ names → (p out : ℕ) (given : Bool) → 0 < regionsIn ends p → getD told (p / 10) 0 ≡ toldMark out given → ownT ns s out p ≡ given
 
--- where it was asked for, each state of the layout t gives the output x
-unfoldable pub GivenWhere : Bool → List ℕ → ℕ → List ℕ → ℕ → Type 0
-GivenWhere asked s names t x = (ns : List Name) → length ns ≡ names → asked ≡ true → uncoveredT ns s t x 8 0 ≡ 0
+-- each state of the layout t gives the output x
+unfoldable pub Given : List ℕ → ℕ → List ℕ → ℕ → Type 0
+Given s names t x = (ns : List Name) → length ns ≡ names → uncoveredT ns s t x 8 0 ≡ 0

@@ -34,6 +34,10 @@ module _ (s t : List ℕ) where
   unfoldable pub hasT : ℕ → ℕ → Bool
   hasT q x = amongT x (getD t (q + 6) 0) (q + 9)
 
+-- a state of the region at the word q has the name of index x
+unfoldable pub Has : List ℕ → List ℕ → ℕ → ℕ → Type 0
+Has s t q x = hasT s t q x ≡ true
+
 module _ (ns : List Name) (s t : List ℕ) where
   -- n transitions from `at` on, of the state at the word p in the region at the word q
   unfoldable pub movesChecked : ℕ → ℕ → ℕ → ℕ → Checked

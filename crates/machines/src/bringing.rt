@@ -146,11 +146,11 @@ pub fn brought_equations(
     requires { ⌜ (length (now s) ≤ 65536) × (n ≤ 65536) ⌝ }
     ensures { λ r. ⌜ (r ≤ 1048576 * n) × ((ns : List Name) → length ns ≡ names → r ≡ totalT (bringsEquationsT ns (now (s .entry)) (now (mats .entry)) (now (ats .entry)) (now (regs .entry)) k) n 0) ⌝ }
 {
-    let mut i = 0;
     let mut c = 0;
+    let mut i = next_to(ats, n, k, 0);
     while i < n {
         c += brings_equations(s, names, mats, ats, regs, k, i);
-        i += 1;
+        i = next_to(ats, n, k, i + 1);
     }
     c
 }
@@ -168,11 +168,11 @@ pub fn brought_locals(
     requires { ⌜ (length (now s) ≤ 65536) × (n ≤ 65536) ⌝ }
     ensures { λ r. ⌜ (r ≤ 1048576 * n) × ((ns : List Name) → length ns ≡ names → r ≡ totalT (bringsLocalsT ns (now (s .entry)) (now (mats .entry)) (now (ats .entry)) (now (regs .entry)) k) n 0) ⌝ }
 {
-    let mut i = 0;
     let mut c = 0;
+    let mut i = next_to(ats, n, k, 0);
     while i < n {
         c += brings_locals(s, names, mats, ats, regs, k, i);
-        i += 1;
+        i = next_to(ats, n, k, i + 1);
     }
     c
 }

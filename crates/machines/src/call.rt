@@ -69,7 +69,7 @@ fn fill_tables(
     let n = small(m.value);
     place_names(s, k.names, spots);
     keep_machines(s, k.names, spots, k.machines, ends);
-    place_machines(s, k.names, k.machines, to);
+    place_machines(s, k.names, ends, k.machines, to);
     place_nodes(s, k.names, old, c.next, nodes);
     judge_all(
         s,

@@ -1,4 +1,5 @@
 // Whether a drawn region's transitions stay in it: said of what is drawn, so that it is looked at once, however often it is shown.
+use crate::cover::both;
 use crate::ends::guard_end;
 use crate::ends::moves_of;
 use crate::ends::past_of;
@@ -8,7 +9,8 @@ ghost use mathlib.Core.Path.{_≡_};
 ghost use Prim.Native.Nat.{_≤_};
 ghost use lib.ListN.{length};
 ghost use Rattle.pack.specs.Names.{Name};
-ghost use Rattle.machines.specs.Drawn.{amongD, aimedD, closedD};
+ghost use Rattle.machines.specs.Drawn.{Among, amongD, aimedD, closedD};
+ghost use Rattle.machines.specs.Known.{Known};
 ghost use Rattle.machines.specs.Ends.{EndsRight};
 
 // Whether one of `count` states drawn from `from` on has the pack's name x.
@@ -29,6 +31,27 @@ fn drawn_among(s: &[u8], names: usize, ends: &[u16], x: usize, count: usize, fro
     false
 }
 
+// Whether one of the n states drawn from f on has the pack's name x, where it may be known of the name `last`: transitions to one
+// state mostly follow one another.
+fn drawn_known(
+    s: &[u8],
+    names: usize,
+    ends: &[u16],
+    n: usize,
+    f: usize,
+    known: bool,
+    last: usize,
+    x: usize,
+) -> bool
+    requires { ⌜ (length (now s) ≤ 65536) × EndsRight (now s) names (now ends) × Known known (Among (now s) names n f) last ⌝ }
+    ensures { λ r. ⌜ ((ns : List Name) → length ns ≡ names → r ≡ amongD ns (now (s .entry)) x n f) ⌝ }
+{
+    if both(known, x == last) {
+        return true;
+    }
+    drawn_among(s, names, ends, x, n, f)
+}
+
 // Whether `count` transitions from `from` on lead to names of the n states drawn from f on.
 fn drawn_aimed(
     s: &[u8],
@@ -44,11 +67,15 @@ fn drawn_aimed(
 {
     let mut k = count;
     let mut o = from;
+    let mut known = false;
+    let mut last = 0;
     while 0 < k {
         let x = number(s, guard_end(s, names, ends, o));
-        if drawn_among(s, names, ends, x.value, n, f) {
+        if drawn_known(s, names, ends, n, f, known, last, x.value) {
             o = x.next;
             k = k - 1;
+            known = true;
+            last = x.value;
         } else {
             return false;
         }

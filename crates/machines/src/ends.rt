@@ -1,5 +1,5 @@
 // Looked up where it is kept, and read where it is not: where an equation and a guard end, where a state's transitions and its
-// regions are, and where it ends.
+// regions are, and where it ends, alone or with those after it.
 use crate::kept::EQUATION;
 use crate::kept::GUARD;
 use crate::kept::kept;
@@ -17,8 +17,9 @@ ghost use mathlib.Core.List.{List};
 ghost use mathlib.Core.Path.{_≡_};
 ghost use Prim.Native.Nat.{_≤_};
 ghost use lib.ListN.{length};
+ghost use Rattle.wire.specs.Answer.{counted};
 ghost use Rattle.pack.specs.Names.{Name};
-ghost use Rattle.pack.specs.Read.{equationIn, exprIn};
+ghost use Rattle.pack.specs.Read.{equationIn, exprIn, stateAt};
 ghost use Rattle.machines.specs.Stands.{endOf, overIn};
 ghost use Rattle.machines.specs.Lays.{movesAt, regionsAt};
 ghost use Rattle.machines.specs.Ends.{EndsRight};
@@ -83,4 +84,22 @@ pub fn past_of(s: &[u8], names: usize, ends: &[u16], at: usize) -> usize
         return kept_past(ends, at);
     }
     after_state(s, names, at)
+}
+
+// Past the states whose count stands at `at`.
+pub fn past_states(s: &[u8], names: usize, ends: &[u16], at: usize) -> usize
+    requires { ⌜ (length (now s) ≤ 65536) × EndsRight (now s) names (now ends) ⌝ }
+    ensures { λ r. ⌜ ((ns : List Name) → length ns ≡ names → r ≡ endOf (counted (stateAt ns (now (s .entry))) (now (s .entry)) at)) ⌝ }
+{
+    let c = number(s, at);
+    let mut n = c.value;
+    let mut p = c.next;
+    while 0 < n {
+        p = past_of(s, names, ends, p);
+        if p == 0 {
+            return 0;
+        }
+        n = n - 1;
+    }
+    p
 }

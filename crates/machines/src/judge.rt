@@ -24,8 +24,9 @@ ghost use Prim.Native.Nat.{_≤_};
 ghost use lib.ListN.{length};
 ghost use Rattle.pack.specs.Names.{Name};
 ghost use Rattle.machines.specs.Covers.{uncoveredT};
+ghost use Rattle.machines.specs.Known.{Known};
 ghost use Rattle.machines.specs.Ends.{EndsRight, KeptRight};
-ghost use Rattle.machines.specs.Told.{GivenWhere, ToldRight};
+ghost use Rattle.machines.specs.Told.{Given, ToldRight};
 ghost use Rattle.machines.specs.Judging.{noName, named as namedOf, refusedBy, stateCalled, calledAt, againCalled, outputsJ, checkedJ, laidJ, judgeAt, boardAt};
 
 pub fn no_name() -> Called
@@ -108,7 +109,7 @@ fn uncovered_output(
     last: usize,
     x: usize,
 ) -> usize
-    requires { ⌜ (length (now s) ≤ 65536) × EndsRight (now s) names (now ends) × ToldRight (now s) names (now ends) (now told) × GivenWhere asked (now s) names (now t) last ⌝ }
+    requires { ⌜ (length (now s) ≤ 65536) × EndsRight (now s) names (now ends) × ToldRight (now s) names (now ends) (now told) × Known asked (Given (now s) names (now t)) last ⌝ }
     ensures { λ r. ⌜ ((ns : List Name) → length ns ≡ names → r ≡ uncoveredT ns (now (s .entry)) (now (t .entry)) x 8 0) ⌝ }
     ensures { λ _. ⌜ ToldRight (now (s .entry)) names (now (ends .entry)) (now (told .exit)) ⌝ }
 {

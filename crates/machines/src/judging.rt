@@ -9,18 +9,18 @@ ghost use mathlib.Core.Path.{_≡_};
 ghost use Prim.Native.Nat.{ℕ, _<_, _≤_};
 ghost use lib.ListN.{length};
 ghost use Rattle.pack.specs.Names.{Name};
-ghost use Rattle.machines.specs.Ends.{KeptRight};
+ghost use Rattle.machines.specs.Ends.{EndsRight, KeptRight};
 ghost use Rattle.machines.specs.Relaid.{Long};
 ghost use Rattle.machines.specs.Settling.{fillT, nth, machineEnd, HasRegions};
 
 // Past the machine at `at`.
-fn after_machine(s: &[u8], names: usize, at: usize) -> usize
-    requires { ⌜ length (now s) ≤ 65536 ⌝ }
+fn after_machine(s: &[u8], names: usize, ends: &[u16], at: usize) -> usize
+    requires { ⌜ (length (now s) ≤ 65536) × EndsRight (now s) names (now ends) ⌝ }
     ensures { λ r. ⌜ ((ns : List Name) → length ns ≡ names → r ≡ machineEnd ns (now (s .entry)) at) ⌝ }
 {
     let m = number(s, at);
     let i = to_initial(s, names, m.next);
-    after_states(s, names, i)
+    after_states(s, names, ends, i)
 }
 
 // Where each of `count` machines from `from` on is drawn, and how many regions it has: 0 where it is refused.
@@ -48,7 +48,7 @@ pub fn judge_all(
         let j = judge(s, names, spots, to, ends, t, reg, lets, p);
         put(mats, i, p);
         put(regs, i, j.regions);
-        p = after_machine(s, names, p);
+        p = after_machine(s, names, ends, p);
         i += 1;
     }
 }

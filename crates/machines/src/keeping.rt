@@ -12,24 +12,24 @@ use crate::kept::keep_empties;
 use crate::kept::keep_state;
 use crate::sure::Num;
 use crate::sure::after_equation;
-use crate::sure::after_equations;
-use crate::sure::after_expr;
 use crate::sure::after_state;
-use crate::sure::after_transitions;
 use crate::sure::machine;
 use crate::sure::number;
+use crate::sure::reached;
 use crate::sure::region;
 use crate::table::to_initial;
+use pack::parts::then_expr;
+use pack::parts::then_name;
 use pack::record::Pack;
+use wire::answer::Skipped;
 ghost use mathlib.Core.List.{List};
 ghost use mathlib.Core.Path.{_≡_};
 ghost use Prim.Native.Nat.{ℕ, _≤_};
 ghost use lib.ListN.{length};
-ghost use Rattle.wire.specs.Answer.{counted};
+ghost use Rattle.wire.specs.Answer.{counted, many};
 ghost use Rattle.pack.specs.Names.{Name};
-ghost use Rattle.pack.specs.Read.{equationIn, exprIn, transitionIn};
+ghost use Rattle.pack.specs.Read.{equationIn, transitionIn};
 ghost use Rattle.machines.specs.Stands.{endOf};
-ghost use Rattle.machines.specs.Sure.{numberIn};
 ghost use Rattle.machines.specs.Lays.{movesAt};
 ghost use Rattle.machines.specs.Ends.{HeadRead, KeptRight};
 
@@ -44,42 +44,51 @@ fn put_end(s: &[u8], names: usize, ends: &mut [u16], at: usize) -> usize
     e
 }
 
-// The ends of `count` equations from `from` on.
-fn put_ends(s: &[u8], names: usize, ends: &mut [u16], count: usize, from: usize)
+// The ends of `count` equations from `from` on; the offset after them, 0 where one does not read.
+fn put_ends(s: &[u8], names: usize, ends: &mut [u16], count: usize, from: usize) -> usize
     requires { ⌜ length (now s) ≤ 65536 ⌝ }
+    ensures { λ r. ⌜ ((ns : List Name) → length ns ≡ names → r ≡ endOf (many (equationIn ns (now (s .entry))) count from)) ⌝ }
     ensures { λ _. ⌜ ((spots : List ℕ) → KeptRight (now (s .entry)) names spots (now (ends .entry)) → KeptRight (now (s .entry)) names spots (now (ends .exit))) ⌝ }
 {
     let mut n = count;
     let mut p = from;
     while 0 < n {
         p = put_end(s, names, ends, p);
+        if p == 0 {
+            return 0;
+        }
         n = n - 1;
     }
+    p
 }
 
 // Keeps where the guard at `at` ends; the offset after its transition.
 fn put_guard(s: &[u8], names: usize, ends: &mut [u16], at: usize) -> usize
     requires { ⌜ length (now s) ≤ 65536 ⌝ }
-    ensures { λ r. ⌜ ((ns : List Name) → length ns ≡ names → r ≡ numberIn (now (s .entry)) (endOf (exprIn ns (now (s .entry)) at)) .next) ⌝ }
+    ensures { λ r. ⌜ ((ns : List Name) → length ns ≡ names → r ≡ endOf (transitionIn ns (now (s .entry)) at)) ⌝ }
     ensures { λ _. ⌜ ((spots : List ℕ) → KeptRight (now (s .entry)) names spots (now (ends .entry)) → KeptRight (now (s .entry)) names spots (now (ends .exit))) ⌝ }
 {
-    let e = after_expr(s, names, at);
-    keep(ends, at, GUARD, e);
-    let x = number(s, e);
-    x.next
+    let g = then_expr(s, names, Skipped::To(at));
+    keep(ends, at, GUARD, reached(g));
+    reached(then_name(s, names, g))
 }
 
-// The guards of `count` transitions from `from` on.
-fn put_guards(s: &[u8], names: usize, ends: &mut [u16], count: usize, from: usize)
+// The guards of `count` transitions from `from` on; the offset after them, 0 where one does not read.
+fn put_guards(s: &[u8], names: usize, ends: &mut [u16], count: usize, from: usize) -> usize
     requires { ⌜ length (now s) ≤ 65536 ⌝ }
+    ensures { λ r. ⌜ ((ns : List Name) → length ns ≡ names → r ≡ endOf (many (transitionIn ns (now (s .entry))) count from)) ⌝ }
     ensures { λ _. ⌜ ((spots : List ℕ) → KeptRight (now (s .entry)) names spots (now (ends .entry)) → KeptRight (now (s .entry)) names spots (now (ends .exit))) ⌝ }
 {
     let mut n = count;
     let mut p = from;
     while 0 < n {
         p = put_guard(s, names, ends, p);
+        if p == 0 {
+            return 0;
+        }
         n = n - 1;
     }
+    p
 }
 
 // Keeps what was read of the state at `at`: its head h, where its transitions are (m), where it ends (o), and where its regions'
@@ -107,12 +116,10 @@ fn put_head(s: &[u8], names: usize, spots: &[u16], ends: &mut [u16], at: usize) 
 {
     let i = number(s, at);
     let c = number(s, i.next);
-    put_ends(s, names, ends, c.value, c.next);
-    let m = after_equations(s, names, i.next);
+    let m = put_ends(s, names, ends, c.value, c.next);
     let g = number(s, m);
-    put_guards(s, names, ends, g.value, g.next);
+    let r = put_guards(s, names, ends, g.value, g.next);
     let h = read_head(s, names, spots, ends, at, m);
-    let r = after_transitions(s, names, m);
     let o = after_state(s, names, at);
     put_state(ends, at, h, m, o, r);
     r

@@ -1,9 +1,9 @@
 // Tables by name index, made once: where a name stands, and where the machine of that name is.
 use crate::cells::cell;
 use crate::cells::put_cell;
+use crate::ends::past_states;
 use crate::sure::number;
 use crate::sure::reached;
-use pack::charts::then_states;
 use pack::parts::then_optional;
 use pack::parts::then_ports;
 use wire::answer::Skipped;
@@ -12,6 +12,7 @@ ghost use mathlib.Core.Path.{_≡_};
 ghost use Prim.Native.Nat.{_≤_};
 ghost use lib.ListN.{length, getD, set};
 ghost use Rattle.pack.specs.Names.{Name};
+ghost use Rattle.machines.specs.Ends.{EndsRight};
 ghost use Rattle.machines.specs.Tables.{initialIn, outputsIn, statesEnd, machinesPlaced, namesPlaced, nextName, lenOf};
 
 pub fn entry(t: &[usize], i: usize) -> usize
@@ -89,17 +90,17 @@ pub fn to_initial(s: &[u8], names: usize, at: usize) -> usize
 }
 
 // From a machine's initial state, past its states.
-pub fn after_states(s: &[u8], names: usize, at: usize) -> usize
-    requires { ⌜ length (now s) ≤ 65536 ⌝ }
+pub fn after_states(s: &[u8], names: usize, ends: &[u16], at: usize) -> usize
+    requires { ⌜ (length (now s) ≤ 65536) × EndsRight (now s) names (now ends) ⌝ }
     ensures { λ r. ⌜ ((ns : List Name) → length ns ≡ names → r ≡ statesEnd ns (now (s .entry)) at) ⌝ }
 {
     let i = number(s, at);
-    reached(then_states(s, names, Skipped::To(i.next)))
+    past_states(s, names, ends, i.next)
 }
 
 // Where the initial state of the last machine of each name is. In a table of zeros, 0 stays where there is none.
-pub fn place_machines(s: &[u8], names: usize, at: usize, to: &mut [u16])
-    requires { ⌜ length (now s) ≤ 65536 ⌝ }
+pub fn place_machines(s: &[u8], names: usize, ends: &[u16], at: usize, to: &mut [u16])
+    requires { ⌜ (length (now s) ≤ 65536) × EndsRight (now s) names (now ends) ⌝ }
     ensures { λ r. ⌜ ((ns : List Name) → length ns ≡ names → now (to .exit) ≡ machinesPlaced ns (now (s .entry)) at (now (to .entry))) ⌝ }
 {
     let c = number(s, at);
@@ -109,7 +110,7 @@ pub fn place_machines(s: &[u8], names: usize, at: usize, to: &mut [u16])
         let i = number(s, p);
         let w = to_initial(s, names, i.next);
         put_cell(to, i.value, w);
-        p = after_states(s, names, w);
+        p = after_states(s, names, ends, w);
         n = n - 1;
     }
 }

@@ -1,6 +1,7 @@
 // The checks of a machine that is laid out: its states' names, each region's initial state, and targets.
 // A region's states share their prefix, so that names within it are compared as indexes. Where a drawn region is kept as closed,
 // its targets are not looked at again.
+use crate::cover::both;
 use crate::ends::guard_end;
 use crate::ends::moves_of;
 use crate::ends::past_of;
@@ -17,8 +18,9 @@ ghost use mathlib.Core.Path.{_≡_};
 ghost use Prim.Native.Nat.{_+_, _≤_};
 ghost use lib.ListN.{length, getD};
 ghost use Rattle.pack.specs.Names.{Name};
+ghost use Rattle.machines.specs.Known.{Known};
 ghost use Rattle.machines.specs.Ends.{EndsRight};
-ghost use Rattle.machines.specs.Valid.{amongT, hasT, targetsT, checkedState, checkedRegion, rowDrawn, rowsDrawn, FineWhere, AllFineWhere};
+ghost use Rattle.machines.specs.Valid.{amongT, hasT, targetsT, checkedState, checkedRegion, rowDrawn, rowsDrawn, Has, FineWhere, AllFineWhere};
 
 // What checking came to: nothing wrong, a region (by its word) whose initial state is not among its states,
 // or a state's transition to a name that is not.
@@ -58,6 +60,17 @@ fn has_state(s: &[u8], t: &[usize], q: usize, x: usize) -> bool
     among(s, t, n, p, x)
 }
 
+// The same where it may be known of the name `last`: transitions to one state mostly follow one another.
+fn has_target(s: &[u8], t: &[usize], q: usize, known: bool, last: usize, x: usize) -> bool
+    requires { ⌜ Known known (Has (now s) (now t) q) last ⌝ }
+    ensures { λ r. ⌜ r ≡ hasT (now (s .entry)) (now (t .entry)) q x ⌝ }
+{
+    if both(known, x == last) {
+        return true;
+    }
+    has_state(s, t, q, x)
+}
+
 // The targets of the state at the word p, in the region at the word q.
 fn check_targets(s: &[u8], names: usize, ends: &[u16], t: &[usize], q: usize, p: usize) -> Checked
     requires { ⌜ (length (now s) ≤ 65536) × EndsRight (now s) names (now ends) ⌝ }
@@ -66,11 +79,15 @@ fn check_targets(s: &[u8], names: usize, ends: &[u16], t: &[usize], q: usize, p:
     let c = number(s, word(t, p, 1));
     let mut n = c.value;
     let mut o = c.next;
+    let mut known = false;
+    let mut last = 0;
     while 0 < n {
         let x = number(s, guard_end(s, names, ends, o));
-        if has_state(s, t, q, x.value) {
+        if has_target(s, t, q, known, last, x.value) {
             o = x.next;
             n = n - 1;
+            known = true;
+            last = x.value;
         } else {
             return Checked::Target {
                 state: p,

@@ -4,22 +4,24 @@ use mathlib.Core.Path.{_≡_, refl, _∙_}
 use lib.ListN.{length}
 use Rattle.pack.specs.Names.{Name}
 use Rattle.machines.specs.Judging.{outputsJ}
-use Rattle.machines.specs.Told.{GivenWhere, ToldRight}
+use Rattle.machines.specs.Known.{Known}
+use Rattle.machines.specs.Told.{Given, ToldRight}
 use Rattle.machines.proofs.JudgeLaws.{outputs-done, outputs-stop, outputs-went}
-use Rattle.machines.proofs.ToldLaws.{blank-told, given-none, given-now}
+use Rattle.machines.proofs.SureLaws.{known-none, known-now}
+use Rattle.machines.proofs.ToldLaws.{blank-told, given-now}
 use Rattle.machines.proofs.CallScratch.{zeros}
 use borrow.Author.Needs.{needs}
 use Rattle.machines.proofs.judge.judge_outputs.Statement.{statement}
 use Rattle.machines.proofs.judge.judge_outputs.Tie as tie
 
 abbrev Inv-loop : tie.InvT-loop
-Inv-loop s names ends t count from regions told₀ asked₀ last₀ n₀ p₀ told asked last n p = ((ns : List Name) → length ns ≡ names → outputsJ ns s t regions n p ≡ outputsJ ns s t regions count from) × ToldRight s names ends told × GivenWhere asked s names t last × (length {A = ℕ} told ≡ length {A = ℕ} told₀)
+Inv-loop s names ends t count from regions told₀ asked₀ last₀ n₀ p₀ told asked last n p = ((ns : List Name) → length ns ≡ names → outputsJ ns s t regions n p ≡ outputsJ ns s t regions count from) × ToldRight s names ends told × Known asked (Given s names t) last × (length {A = ℕ} told ≡ length {A = ℕ} told₀)
 
 abbrev μ-loop : tie.MeasureT-loop
 μ-loop s names ends t count from regions told₀ asked₀ last₀ n₀ p₀ told asked last n p = n
 
 loop-holds : tie.Need-loop-holds Inv-loop μ-loop
-loop-holds c = (λ ns e. refl, blank-told _ _ _ _ (zeros 6554), given-none _ _ _ _, refl)
+loop-holds c = (λ ns e. refl, blank-told _ _ _ _ (zeros 6554), known-none _ _, refl)
 
 number-requires : tie.Need-number-requires Inv-loop μ-loop
 number-requires c κs = search needs
@@ -52,7 +54,7 @@ loop-less : tie.Need-loop-less Inv-loop μ-loop
 loop-less c = search needs
 
 loop-again : tie.Need-loop-again Inv-loop μ-loop
-loop-again c = (λ ns e. outputs-went ns _ _ _ _ _ _ _ _ _ (c .before .before .before .before .before .before .loop-test .taken) (c .before .before .before .before .before .number .ensures) (c .before .before .before .uncovered-output .ensures .0 ns e) (c .before .if1 .left) (c .after-port .ensures ns e) (c .before .before .before .before .before .before .before .loop .inv .0 ns e), c .before .before .before .uncovered-output .ensures .1, given-now _ _ _ _ _ (c .before .before .before .uncovered-output .ensures .0) (c .before .if1 .left), c .before .before .before .uncovered-output .kept .1 .1 .1 .1 .0 ∙ c .before .before .before .before .before .before .before .loop .inv .3)
+loop-again c = (λ ns e. outputs-went ns _ _ _ _ _ _ _ _ _ (c .before .before .before .before .before .before .loop-test .taken) (c .before .before .before .before .before .number .ensures) (c .before .before .before .uncovered-output .ensures .0 ns e) (c .before .if1 .left) (c .after-port .ensures ns e) (c .before .before .before .before .before .before .before .loop .inv .0 ns e), c .before .before .before .uncovered-output .ensures .1, known-now _ _ (given-now _ _ _ _ _ (c .before .before .before .uncovered-output .ensures .0) (c .before .if1 .left)), c .before .before .before .uncovered-output .kept .1 .1 .1 .1 .0 ∙ c .before .before .before .before .before .before .before .loop .inv .3)
 
 no-name-requires : tie.Need-no-name-requires Inv-loop μ-loop
 no-name-requires c κs = search needs

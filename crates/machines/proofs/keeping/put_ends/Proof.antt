@@ -1,23 +1,35 @@
-use mathlib.Core.List.{List}
 use Prim.Native.Nat.{ℕ}
+use mathlib.Core.List.{List}
 use mathlib.Core.Path.{_≡_, refl, _∙_}
 use lib.ListN.{length}
-use borrow.Author.Needs.{needs}
+use Rattle.wire.specs.Answer.{many}
+use Rattle.pack.specs.Names.{Name}
+use Rattle.pack.specs.Read.{equationIn}
+use Rattle.machines.specs.Stands.{endOf}
 use Rattle.machines.specs.Ends.{KeptRight}
+use Rattle.machines.proofs.ManyEnds.{many-done}
+use Rattle.machines.proofs.PartEnds.{equations-stopped, equations-went}
+use borrow.Author.Needs.{needs}
 use Rattle.machines.proofs.keeping.put_ends.Statement.{statement}
 use Rattle.machines.proofs.keeping.put_ends.Tie as tie
 
 abbrev Inv-loop : tie.InvT-loop
-Inv-loop s names ends₀ count from n₀ p₀ ends n p = ((spots : List ℕ) → KeptRight s names spots ends₀ → KeptRight s names spots ends) × (length {A = ℕ} ends ≡ length {A = ℕ} ends₀)
+Inv-loop s names ends₀ count from n₀ p₀ ends n p = ((ns : List Name) → length ns ≡ names → endOf (many (equationIn ns s) n p) ≡ endOf (many (equationIn ns s) count from)) × ((spots : List ℕ) → KeptRight s names spots ends₀ → KeptRight s names spots ends) × (length {A = ℕ} ends ≡ length {A = ℕ} ends₀)
 
 abbrev μ-loop : tie.MeasureT-loop
 μ-loop s names ends₀ count from n₀ p₀ ends n p = n
 
 loop-holds : tie.Need-loop-holds Inv-loop μ-loop
-loop-holds c = (λ spots h. h, refl)
+loop-holds c = (λ ns e. refl, λ spots h. h, refl)
 
 put-end-requires : tie.Need-put-end-requires Inv-loop μ-loop
 put-end-requires c κs = c .before .before .before .before .before .pre
+
+same-length : tie.Need-same-length Inv-loop μ-loop
+same-length c = c .before .before .before .put-end .kept .1 .1 .0 ∙ c .before .before .before .before .before .before .loop .inv .2
+
+returns : tie.Need-returns Inv-loop μ-loop
+returns c = (λ ns e. equations-stopped ns _ _ _ _ _ (c .before .before .before .put-end .ensures .0 ns e) (c .if1 .taken) (c .before .before .before .before .before .loop-test .taken) (c .before .before .before .before .before .before .loop .inv .0 ns e), λ spots h. c .before .before .before .put-end .ensures .1 spots (c .before .before .before .before .before .before .loop .inv .1 spots h))
 
 sub-n : tie.Need-sub-n Inv-loop μ-loop
 sub-n c = search needs
@@ -26,24 +38,13 @@ loop-less : tie.Need-loop-less Inv-loop μ-loop
 loop-less c = search needs
 
 loop-again : tie.Need-loop-again Inv-loop μ-loop
-loop-again c = (λ spots h. c .before .before .put-end .ensures .1 spots (c .before .before .before .before .before .loop .inv .0 spots h), c .before .before .put-end .kept .1 .1 .0 ∙ c .before .before .before .before .before .loop .inv .1)
+loop-again c = (λ ns e. equations-went ns _ _ _ _ _ (c .before .before .before .put-end .ensures .0 ns e) (c .if1 .left) (c .before .before .before .before .before .loop-test .taken) (c .before .before .before .before .before .before .loop .inv .0 ns e), λ spots h. c .before .before .before .put-end .ensures .1 spots (c .before .before .before .before .before .before .loop .inv .1 spots h), c .before .before .before .put-end .kept .1 .1 .0 ∙ c .before .before .before .before .before .before .loop .inv .2)
 
-same-length : tie.Need-same-length Inv-loop μ-loop
-same-length c = c .before .loop .inv .1
+same-length-2 : tie.Need-same-length-2 Inv-loop μ-loop
+same-length-2 c = c .before .loop .inv .2
 
-returns : tie.Need-returns Inv-loop μ-loop
-returns c = c .before .loop .inv .0
+returns-2 : tie.Need-returns-2 Inv-loop μ-loop
+returns-2 c = (λ ns e. many-done _ _ _ _ (c .loop-test .left) (c .before .loop .inv .0 ns e), c .before .loop .inv .1)
 
 pub put-ends-spec : {M : Type 1} → statement M
-put-ends-spec =
-    tie.close
-    (tie.spec
-    Inv-loop
-    μ-loop
-    loop-holds
-    put-end-requires
-    sub-n
-    loop-less
-    loop-again
-    same-length
-    returns)
+put-ends-spec = tie.close (tie.spec Inv-loop μ-loop loop-holds put-end-requires same-length returns sub-n loop-less loop-again same-length-2 returns-2)
