@@ -87,6 +87,7 @@ pub mod SettleLaws
 pub mod ReportingLaws
 pub mod RelaidLaws
 pub mod BusyLaws
+pub mod SpanLaws
 pub mod PartsLaws
 pub mod VerdictLaws
 pub mod Settled

@@ -68,13 +68,11 @@ module _ (ns : List Name) (s mats ats regs spots : List ℕ) (n : ℕ) where
     olds-none (suc c) k p z y l h = absurd (omega arith)
 
     -- the node that a machine begins, and none
-    pub new-node-put : (i o k at : ℕ) (z a w : State) → o ≡ ownedT s mats i → k ≡ getD ats i 0 → at ≡ getD mats i 0 → o ≡ 0 → a ≡ render old (newHeadT ns s mats ats regs spots n k at) z → w ≡ render old (nodeEquationsT ns s mats ats regs spots n eqs k 0 0 0) a → w ≡ render old (newNodeT ns s mats ats regs spots n eqs i) z
+    pub new-node-put : (i o k at : ℕ) (z w : State) → o ≡ ownedT s mats i → k ≡ getD ats i 0 → at ≡ getD mats i 0 → o ≡ 0 → w ≡ render old (newHeadT ns s mats ats regs spots n k at ++ nodeEquationsT ns s mats ats regs spots n eqs k 0 0 0) z → w ≡ render old (newNodeT ns s mats ats regs spots n eqs i) z
     unfolding newNodeT
-    new-node-put i o k at z a w eo ek et h ha hw =
-        let f : a ≡ render old (newHeadT ns s mats ats regs spots n (getD ats i 0) (getD mats i 0)) z = ha ∙ (λ j. render old (newHeadT ns s mats ats regs spots n (ek j) (et j)) z) in
+    new-node-put i o k at z w eo ek et h hw =
         hw
-        ∙ (λ j. render old (nodeEquationsT ns s mats ats regs spots n eqs (ek j) 0 0 0) (f j))
-        ∙ sym (render-append old (newHeadT ns s mats ats regs spots n (getD ats i 0) (getD mats i 0)) (nodeEquationsT ns s mats ats regs spots n eqs (getD ats i 0) 0 0 0) z)
+        ∙ (λ j. render old (newHeadT ns s mats ats regs spots n (ek j) (et j) ++ nodeEquationsT ns s mats ats regs spots n eqs (ek j) 0 0 0) z)
         ∙ ap (λ (b : Bool). render old (cond b (newHeadT ns s mats ats regs spots n (getD ats i 0) (getD mats i 0) ++ nodeEquationsT ns s mats ats regs spots n eqs (getD ats i 0) 0 0 0) []) z)
         (sym (eq-eqb (ownedT s mats i) 0 (sym eo ∙ h)))
 

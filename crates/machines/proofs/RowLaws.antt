@@ -31,7 +31,7 @@ first-none t q r h l = let e = word-past t q 6 h in absurd (omega arith)
 pub inner-none : (t : List ℕ) (p r : ℕ) → length t ≤ p → 0 < getD t (p + 5) 0 → r ≡ p + 6
 inner-none t p r h l = let e = word-past t p 5 h in absurd (omega arith)
 
-drop-cut : (s : List ℕ) (a b : ℕ) → b ≡ min (0 + a) (length s) → drop b s ≡ drop a s
+pub drop-cut : (s : List ℕ) (a b : ℕ) → b ≡ min (0 + a) (length s) → drop b s ≡ drop a s
 drop-cut s a b e = ⊎-elim
     (λ (g : length s < a). let i : b ≡ length s = omega arith in drop-of-length-le s {i = b} (omega arith) ∙ sym (drop-of-length-le s {i = a} (omega arith)))
     (λ (g : a ≤ length s). let i : b ≡ a = omega arith in ap (λ (k : ℕ). drop k s) i)

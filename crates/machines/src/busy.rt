@@ -1,6 +1,9 @@
-// The nodes to which machines go: at the others none is asked.
+// The nodes to which machines go: at the others none is asked, and at one of them none before the first or after the last that goes there.
 use crate::table::entry;
+use wire::writer::capped;
 ghost use mathlib.Core.Path.{_≡_};
+ghost use Prim.Native.Nat.{ℕ, _+_, _-_, _<_, _≤_};
+ghost use lib.ListN.{drop, getD};
 ghost use Rattle.machines.specs.Busy.{askedT, busyT, goesT, nearerT, nextBusyT};
 
 // The lesser of two goals, where a is not before k.
@@ -39,4 +42,27 @@ pub fn asked(k: usize, b: usize, n: usize) -> usize
     ensures { λ r. ⌜ r ≡ askedT k b n ⌝ }
 {
     if k < b { 0 } else { n }
+}
+
+// How many of n machines stand from f on up to the last one that goes to the node k.
+pub fn span(ats: &[usize], n: usize, k: usize, f: usize) -> usize
+    ensures { λ r. ⌜ (r ≤ n - f) × ((j : ℕ) → f + r ≤ j → j < n → getD (now (ats .entry)) j 0 ≡ k → ⊥) ⌝ }
+{
+    let mut p = n;
+    while f < p {
+        let i = p - 1;
+        if entry(ats, i) == k {
+            return p - f;
+        }
+        p = i;
+    }
+    0
+}
+
+// A table from f on.
+pub fn table_from(t: &[usize], f: usize) -> &[usize]
+    ensures { λ r. ⌜ now r ≡ drop f (now (t .entry)) ⌝ }
+{
+    let b = capped(t.len(), 0, f);
+    &t[b..]
 }

@@ -2,11 +2,14 @@
 use crate::beginnings::put_new_head;
 use crate::beginnings::put_old_head;
 use crate::bringing::brought_equations;
+use crate::bringing::next_to;
 use crate::bringing::owned;
 use crate::bringing::owned_count;
 use crate::bringing::small;
 use crate::busy::asked;
 use crate::busy::next_busy;
+use crate::busy::span;
+use crate::busy::table_from;
 use crate::nodes::to_node_equations;
 use crate::relaid::put_all_equations;
 use crate::rows::between;
@@ -17,7 +20,7 @@ use crate::table::entry;
 use wire::writer::Writer;
 use wire::writer::put_bytes;
 use wire::writer::put_u16;
-ghost use mathlib.Core.List.{List};
+ghost use mathlib.Core.List.{List, _++_};
 ghost use mathlib.Core.Path.{_≡_};
 ghost use Prim.Native.Nat.{ℕ, _-_, _≤_};
 ghost use lib.ListN.{length};
@@ -27,6 +30,7 @@ ghost use Rattle.pack.specs.Write.{Item};
 ghost use Rattle.pack.specs.Intern.{render};
 ghost use Rattle.machines.specs.Ends.{EndsRight};
 ghost use Rattle.machines.specs.Brought.{eachT, ownedT, totalT};
+ghost use Rattle.machines.specs.NodeHeads.{newHeadT};
 ghost use Rattle.machines.specs.Relaid.{AllWrite, Long, equationsAt};
 ghost use Rattle.machines.specs.Parts.{newNodeT, nodeEquationsT, nodesT, oldNodeT, oldNodesT};
 
@@ -207,6 +211,60 @@ fn put_old_nodes(
     v
 }
 
+// The node k that the machine drawn at `at` begins. Only machines from the first to the last one that go to it are asked.
+fn put_begun(
+    old: &[u8],
+    s: &[u8],
+    names: usize,
+    spots: &[u16],
+    to: &[u16],
+    ends: &[u16],
+    t: &mut [usize],
+    reg: &mut [usize],
+    lets: &mut [u8],
+    mats: &[usize],
+    ats: &[usize],
+    regs: &[usize],
+    n: usize,
+    k: usize,
+    at: usize,
+    out: &mut [u8],
+    made: &mut [u8],
+    w: Writer,
+) -> Writer
+    requires { ⌜ (length (now s) ≤ 65536) × (n ≤ 65536) × Long (now t) (now reg) (now lets) × EndsRight (now s) names (now ends) ⌝ }
+    ensures { λ r. ⌜ ((ns : List Name) → length ns ≡ names → (eqs : ℕ → List Item) → AllWrite (now (old .entry)) (equationsAt ns (now (s .entry)) (now (spots .entry)) (now (to .entry))) (now (mats .entry)) n eqs → stateOf (now (out .exit)) (now (made .exit)) r ≡ render (now (old .entry)) (newHeadT ns (now (s .entry)) (now (mats .entry)) (now (ats .entry)) (now (regs .entry)) (now (spots .entry)) n k at ++ nodeEquationsT ns (now (s .entry)) (now (mats .entry)) (now (ats .entry)) (now (regs .entry)) (now (spots .entry)) n eqs k 0 0 0) (stateOf (now (out .entry)) (now (made .entry)) w)) ⌝ }
+{
+    let f = next_to(ats, n, k, 0);
+    let m = span(ats, n, k, f);
+    let ms = table_from(mats, f);
+    let gs = table_from(ats, f);
+    let rs = table_from(regs, f);
+    let a = put_new_head(old, s, names, spots, ms, gs, rs, m, k, at, out, made, w);
+    put_node_equations(
+        old,
+        s,
+        names,
+        spots,
+        to,
+        ends,
+        t,
+        reg,
+        lets,
+        ms,
+        gs,
+        rs,
+        m,
+        k,
+        0,
+        0,
+        0,
+        out,
+        made,
+        a,
+    )
+}
+
 // The node that the machine i begins, where it has no owner.
 fn put_new_node(
     old: &[u8],
@@ -234,22 +292,7 @@ fn put_new_node(
     let k = entry(ats, i);
     let at = entry(mats, i);
     if o == 0 {
-        let a = put_new_head(
-            old,
-            s,
-            names,
-            spots,
-            mats,
-            ats,
-            regs,
-            n,
-            k,
-            at,
-            out,
-            made,
-            w,
-        );
-        return put_node_equations(
+        return put_begun(
             old,
             s,
             names,
@@ -264,12 +307,10 @@ fn put_new_node(
             regs,
             n,
             k,
-            0,
-            0,
-            0,
+            at,
             out,
             made,
-            a,
+            w,
         );
     }
     w

@@ -12,11 +12,8 @@ entry-requires c κs = search needs
 entry-requires-2 : tie.Need-entry-requires-2
 entry-requires-2 c κs = search needs
 
-put-new-head-requires : tie.Need-put-new-head-requires
-put-new-head-requires c κs = search needs
-
-put-node-equations-requires : tie.Need-put-node-equations-requires
-put-node-equations-requires c κs = c .before .before .before .before .before .before .before .before .before .before .before .before .before .before .before .before .before .before .before .before .before .before .before .before .before .before .before .before .before .pre
+put-begun-requires : tie.Need-put-begun-requires
+put-begun-requires c κs = c .before .before .before .before .before .before .before .before .before .before .before .before .before .before .before .before .before .before .before .before .before .before .pre
 
 same-length : tie.Need-same-length
 same-length c = search needs
@@ -34,7 +31,7 @@ same-length-5 : tie.Need-same-length-5
 same-length-5 c = search needs
 
 returns : tie.Need-returns
-returns c = λ ns e eqs h. new-node-put ns _ _ _ _ _ _ eqs _ _ _ _ _ _ _ _ (c .before .before .before .before .before .before .before .before .before .before .before .before .before .before .before .before .before .before .before .before .before .before .before .before .before .before .owned .ensures .1) (c .before .before .before .before .before .before .before .before .before .before .before .before .before .before .before .before .before .before .before .before .before .before .before .before .before .entry .ensures) (c .before .before .before .before .before .before .before .before .before .before .before .before .before .before .before .before .before .before .before .before .before .before .before .before .entry2 .ensures) (c .before .before .before .before .before .before .before .before .before .before .before .before .before .before .before .before .before .before .before .before .before .before .before .if1 .taken) (c .before .before .before .before .before .before .before .before .before .before .before .before .before .before .before .before .before .before .before .before .put-new-head .ensures ns e) (c .before .before .before .before .before .before .before .before .before .before .put-node-equations .ensures ns e eqs h)
+returns c = λ ns e eqs h. new-node-put ns _ _ _ _ _ _ eqs _ _ _ _ _ _ _ (c .before .before .before .before .before .before .before .before .before .before .before .before .before .before .before .before .before .before .before .owned .ensures .1) (c .before .before .before .before .before .before .before .before .before .before .before .before .before .before .before .before .before .before .entry .ensures) (c .before .before .before .before .before .before .before .before .before .before .before .before .before .before .before .before .before .entry2 .ensures) (c .before .before .before .before .before .before .before .before .before .before .before .before .before .before .before .before .if1 .taken) (c .before .before .before .before .before .before .before .before .before .before .put-begun .ensures ns e eqs h)
 
 returns-2 : tie.Need-returns-2
 returns-2 c = λ ns e eqs h. no-new-node ns _ _ _ _ _ _ eqs _ _ _ _ (c .before .before .before .owned .ensures .1) (c .if1 .left)
@@ -46,8 +43,7 @@ put-new-node-spec =
     owned-requires
     entry-requires
     entry-requires-2
-    put-new-head-requires
-    put-node-equations-requires
+    put-begun-requires
     same-length
     same-length-2
     same-length-3
