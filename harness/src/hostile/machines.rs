@@ -238,14 +238,18 @@ pub fn transitions(states: usize, count: usize, refused: bool) -> Package {
     b.done()
 }
 
-/// So many machines that each refine one of many states, the first of which has many transitions, all to the last.
-pub fn refined_transitions(states: usize, transitions: usize, count: usize) -> Package {
+/// So many machines that each refine one of many states, the first of which has many transitions, to the last and the last
+/// but one in turn; with one that goes nowhere after them where the machines are to be refused.
+pub fn refined_transitions(states: usize, transitions: usize, count: usize, refused: bool) -> Package {
     let mut b = Builder::new();
-    let [top, sub, x] = ["Top", "Sub", "x"].map(|n| b.name(n));
+    let [top, sub, x, nowhere] = ["Top", "Sub", "x", "nowhere"].map(|n| b.name(n));
     let guard = b.p.expr([Tok::Tuple(0)]);
     let mut all: Vec<State> = (0..states).map(|k| state(b.name(&short_name(k + 100)))).collect();
-    let target = all[states - 1].name;
-    all[0].transitions = vec![Transition { guard, target }; transitions];
+    let last = [all[states - 1].name, all[states - 2].name];
+    all[0].transitions = (0..transitions).map(|k| Transition { guard, target: last[k % 2] }).collect();
+    if refused {
+        all[0].transitions.push(Transition { guard, target: nowhere });
+    }
     b.p.machines.push(machine(sub, all[0].name, all));
     b.p.machines.extend(vec![machine(top, x, vec![refining(x, sub)]); count]);
     b.done()
@@ -317,7 +321,8 @@ pub fn costly() -> Vec<Hostile> {
         ("4,000 transitions, visited 2,500 times", revisited_state(0, 4_000, 4, 10)),
         ("3,000 regions, visited 2,500 times", revisited_regions(3_000, 10)),
         ("3,000 equations, visited 2,500 times", revisited_output(3_000, 10)),
-        ("5,000 transitions, refined 20 times", refined_transitions(500, 5_000, 20)),
+        ("5,000 transitions, refined 20 times", refined_transitions(500, 5_000, 20, false)),
+        ("5,000 transitions, refined 20 times, refused", refined_transitions(500, 5_000, 20, true)),
         ("500 states, 10,000 transitions to the last", transitions(500, 10_000, false)),
         ("500 states, 10,000 transitions, refused", transitions(500, 10_000, true)),
     ])
@@ -331,7 +336,7 @@ pub fn vast() -> Vec<Hostile> {
         ("4,000 transitions, visited 75,000 times", revisited_state(0, 4_000, 4, 300)),
         ("3,000 regions, visited 75,000 times", revisited_regions(3_000, 300)),
         ("3,000 equations, visited 75,000 times", revisited_output(3_000, 300)),
-        ("5,000 transitions, refined 700 times", refined_transitions(500, 5_000, 700)),
+        ("5,000 transitions, refined 700 times", refined_transitions(500, 5_000, 700, false)),
     ])
 }
 
