@@ -222,34 +222,30 @@ pub fn empty_regions(count: usize) -> Package {
     b.done()
 }
 
-/// The first of many states has many transitions, all to the last; with one that goes nowhere after them where the
-/// machine is to be refused.
+/// Many states, the first of which has many transitions, to so many of the last states in turn, and after them one that goes
+/// `nowhere`.
+fn moving(b: &mut Builder, states: usize, count: usize, last: usize, nowhere: Option<Name>) -> Vec<State> {
+    let guard = b.p.expr([Tok::Tuple(0)]);
+    let mut all: Vec<State> = (0..states).map(|k| state(b.name(&short_name(k + 100)))).collect();
+    let ends: Vec<Name> = (0..count).map(|k| all[states - 1 - k % last].name).chain(nowhere).collect();
+    all[0].transitions = ends.into_iter().map(|target| Transition { guard, target }).collect();
+    all
+}
+
+/// One machine of such states, all transitions to the last.
 pub fn transitions(states: usize, count: usize, refused: bool) -> Package {
     let mut b = Builder::new();
     let [m, nowhere] = ["M", "nowhere"].map(|n| b.name(n));
-    let guard = b.p.expr([Tok::Tuple(0)]);
-    let mut all: Vec<State> = (0..states).map(|k| state(b.name(&short_name(k + 100)))).collect();
-    let target = all[states - 1].name;
-    all[0].transitions = vec![Transition { guard, target }; count];
-    if refused {
-        all[0].transitions.push(Transition { guard, target: nowhere });
-    }
+    let all = moving(&mut b, states, count, 1, refused.then_some(nowhere));
     b.p.machines.push(machine(m, all[0].name, all));
     b.done()
 }
 
-/// So many machines that each refine one of many states, the first of which has many transitions, to the last and the last
-/// but one in turn; with one that goes nowhere after them where the machines are to be refused.
+/// So many machines that each refine one of such states, transitions to the last two in turn.
 pub fn refined_transitions(states: usize, transitions: usize, count: usize, refused: bool) -> Package {
     let mut b = Builder::new();
     let [top, sub, x, nowhere] = ["Top", "Sub", "x", "nowhere"].map(|n| b.name(n));
-    let guard = b.p.expr([Tok::Tuple(0)]);
-    let mut all: Vec<State> = (0..states).map(|k| state(b.name(&short_name(k + 100)))).collect();
-    let last = [all[states - 1].name, all[states - 2].name];
-    all[0].transitions = (0..transitions).map(|k| Transition { guard, target: last[k % 2] }).collect();
-    if refused {
-        all[0].transitions.push(Transition { guard, target: nowhere });
-    }
+    let all = moving(&mut b, states, transitions, 2, refused.then_some(nowhere));
     b.p.machines.push(machine(sub, all[0].name, all));
     b.p.machines.extend(vec![machine(top, x, vec![refining(x, sub)]); count]);
     b.done()
