@@ -14,42 +14,43 @@ use Rattle.pack.specs.Names.{Name, eqName}
 use Rattle.pack.specs.Write.{Found, At, Missing, lookup}
 use Rattle.pack.specs.declared.table.Place.{Place}
 use Rattle.pack.specs.declared.table.Place.the-variants as pl
-use Rattle.pack.specs.Table.{table, rowsMost, textsFrom, cellAt, below, word, putWord, fold, mixed, quadAt, hashFrom, hash, textAt, textOf, placeFrom, placeOf, foundIn, seek, numberIn, isFree, spare, cellFor, hasRow, linked, linkedAt, noted, indexed}
+use Rattle.pack.specs.Table.{table, rowsMost, textsFrom, cellAt, below, word, putWord, fold, mixed, joined, quadAt, hashFrom, hash, textAt, textOf, placeFrom, placeOf, foundIn, seek, numberIn, isFree, spare, cellFor, hasRow, linked, linkedAt, noted, indexed}
 use Rattle.pack.proofs.TableIndex.{rowed}
 use Rattle.pack.proofs.Interns.{found-number}
 
--- four bytes more of a hash
-hash-step : (n : Name) (a b c i x k : ℕ) → x ≡ quadAt n i → c ≡ fold ((b + x + 1) * 1540483477) → hashFrom k c ((a + c) % 4294967296) n (i + 4) ≡ hashFrom (suc k) a b n i
+-- eight bytes more of a hash
+hash-step : (n : Name) (a b i x y k : ℕ) → x ≡ quadAt n i → y ≡ quadAt n (i + 4) → hashFrom k (fold ((a + x) * 1540483477)) (fold ((b + y) * 2083697005)) n (i + 8) ≡ hashFrom (suc k) a b n i
 unfolding hashFrom mixed
-hash-step n a b c i x k e f = rw (f, e)
+hash-step n a b i x y k e f = rw (e, f)
 
--- the same where of the second half one more is kept
-pub hash-turn : (n : Name) (a b c i x : ℕ) → i < length n → 0 < b → x ≡ quadAt n i → c ≡ fold ((b + x) * 1540483477)
-    → hashFrom ((length n + 3 - (i + 4)) / 4) c ((a + c) % 4294967296 + 1 - 1) n (i + 4) ≡ hashFrom ((length n + 3 - i) / 4) a (b - 1) n i
-hash-turn n a b c i x l g e f =
-    let z : suc ((length n + 3 - (i + 4)) / 4) ≡ (length n + 3 - i) / 4 = omega arith in
-    let u : (a + c) % 4294967296 + 1 - 1 ≡ (a + c) % 4294967296 = omega arith in
-    let v : b + x ≡ b - 1 + x + 1 = omega arith in
-    ap (λ y. hashFrom ((length n + 3 - (i + 4)) / 4) c y n (i + 4)) u
-    ∙ hash-step n a (b - 1) c i x ((length n + 3 - (i + 4)) / 4) e (f ∙ ap (λ y. fold (y * 1540483477)) v)
-    ∙ ap (λ k. hashFrom k a (b - 1) n i) z
+pub hash-turn : (n : Name) (a b c d i x y : ℕ) → i + 8 < length n → x ≡ quadAt n i → c ≡ fold ((a + x) * 1540483477) → y ≡ quadAt n (i + 4) → d ≡ fold ((b + y) * 2083697005)
+    → hashFrom ((length n - 1 - (i + 8)) / 8) c d n (i + 8) ≡ hashFrom ((length n - 1 - i) / 8) a b n i
+hash-turn n a b c d i x y l e g f h =
+    let z : suc ((length n - 1 - (i + 8)) / 8) ≡ (length n - 1 - i) / 8 = omega arith in
+    (λ j. hashFrom ((length n - 1 - (i + 8)) / 8) (g j) (h j) n (i + 8)) ∙ hash-step n a b i x y ((length n - 1 - (i + 8)) / 8) e f ∙ ap (λ k. hashFrom k a b n i) z
 
 -- what is computed of two names, as the harness has it to make names that share a head
-strongroom-hash : hash (83 ∷ 116 ∷ 114 ∷ 111 ∷ 110 ∷ 103 ∷ 114 ∷ 111 ∷ 111 ∷ 109 ∷ []) ≡ 7809699440884572074
-unfolding hash hashFrom mixed fold quadAt
+strongroom-hash : hash (83 ∷ 116 ∷ 114 ∷ 111 ∷ 110 ∷ 103 ∷ 114 ∷ 111 ∷ 111 ∷ 109 ∷ []) ≡ 12513859832795880374
+unfolding hash hashFrom joined mixed fold quadAt
 strongroom-hash = refl
 
-vault-hash : hash (86 ∷ 97 ∷ 117 ∷ 108 ∷ 116 ∷ []) ≡ 10239672534652100836
-unfolding hash hashFrom mixed fold quadAt
+vault-hash : hash (86 ∷ 97 ∷ 117 ∷ 108 ∷ 116 ∷ []) ≡ 16136412811578076142
+unfolding hash hashFrom joined mixed fold quadAt
 vault-hash = refl
 
-pub hash-begun : (n : Name) → hashFrom ((length n + 3 - 0) / 4) 0 0 n 0 ≡ hash n
+pub hash-begun : (n : Name) → hashFrom ((length n - 1 - 0) / 8) (length n % 4294967296) 0 n 0 ≡ hash n
 unfolding hash
-hash-begun n = let z : length n + 3 - 0 ≡ length n + 3 = omega arith in ap (λ k. hashFrom (k / 4) 0 0 n 0) z
+hash-begun n = let z : length n - 1 - 0 ≡ length n - 1 = omega arith in ap (λ k. hashFrom (k / 8) (length n % 4294967296) 0 n 0) z
 
-pub hash-done : (n : Name) (a b i : ℕ) → length n ≤ i → hashFrom ((length n + 3 - i) / 4) a b n i ≡ a + 4294967296 * b
-unfolding hashFrom
-hash-done n a b i l = let z : (length n + 3 - i) / 4 ≡ 0 = omega arith in ap (λ k. hashFrom k a b n i) z
+pub hash-done : (n : Name) (a b i p q u v x y z : ℕ) → length n ≤ i + 8 → p ≡ length n - 8 → u ≡ quadAt n p → x ≡ fold ((a + u) * 1540483477) → q ≡ length n - 4 → v ≡ quadAt n q → y ≡ fold ((b + v) * 2083697005)
+    → z ≡ fold ((x + y) * 1540483477) → z + 4294967296 * ((z + y) % 4294967296) ≡ hashFrom ((length n - 1 - i) / 8) a b n i
+unfolding hashFrom joined mixed
+hash-done n a b i p q u v x y z l e f g e' f' g' h =
+    let k : 0 ≡ (length n - 1 - i) / 8 = omega arith in
+    let x' : x ≡ fold ((a + quadAt n (length n - 8)) * 1540483477) = g ∙ ap (λ w. fold ((a + w) * 1540483477)) (f ∙ ap (quadAt n) e) in
+    let y' : y ≡ fold ((b + quadAt n (length n - 4)) * 2083697005) = g' ∙ ap (λ w. fold ((b + w) * 2083697005)) (f' ∙ ap (quadAt n) e') in
+    let z' : z ≡ fold ((fold ((a + quadAt n (length n - 8)) * 1540483477) + fold ((b + quadAt n (length n - 4)) * 2083697005)) * 1540483477) = h ∙ (λ j. fold ((x' j + y' j) * 1540483477)) in
+    (λ j. z' j + 4294967296 * ((z' j + y' j) % 4294967296)) ∙ ap (λ w. hashFrom w a b n i) k
 
 -- past the end there is nothing
 pub quad-end : (n : Name) (i x y z : ℕ) → length n ≤ i + 3 → x ≡ getD n i 0 → y ≡ getD n (i + 1) 0 → z ≡ getD n (i + 2) 0 → x + 256 * y + 65536 * z ≡ quadAt n i

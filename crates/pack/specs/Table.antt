@@ -55,7 +55,8 @@ unfoldable pub putWord : List ℕ → ℕ → ℕ → List ℕ
 putWord t i v = set (set t i (v % 256)) (i + 1) (v / 256 % 256)
 
 -- The bits by which a name goes down its tree: any function of its bytes would be right, and the better names are spread by it the
--- shorter are the paths. They are two halves of 32 bits, each of which goes into the next of the other.
+-- shorter are the paths. They come from two halves of 32 bits, into which four bytes go by turns, and at last the last four of each;
+-- these may have been there before.
 
 -- the high half of a product added to its low one
 unfoldable pub fold : ℕ → ℕ
@@ -65,18 +66,22 @@ fold x = (x + x / 4294967296) % 4294967296
 unfoldable pub quadAt : Name → ℕ → ℕ
 quadAt n i = getD n i 0 + 256 * getD n (i + 1) 0 + 65536 * getD n (i + 2) 0 + 16777216 * getD n (i + 3) 0
 
--- four bytes more in a half
-unfoldable pub mixed : ℕ → ℕ → ℕ
-mixed b x = fold ((b + x + 1) * 1540483477)
+-- four bytes more in a half, by its factor
+unfoldable pub mixed : ℕ → ℕ → ℕ → ℕ
+mixed k a x = fold ((a + x) * k)
 
--- the bits of a name in so many steps from i on, from the halves of what stands before
+-- the bits from both halves
+unfoldable pub joined : ℕ → ℕ → ℕ
+joined x y = mixed 1540483477 x y + 4294967296 * ((mixed 1540483477 x y + y) % 4294967296)
+
+-- the bits of a name with so many times eight bytes from i on before its last, from the halves of what stands before
 unfoldable pub hashFrom : ℕ → ℕ → ℕ → Name → ℕ → ℕ
-hashFrom zero a b n i = a + 4294967296 * b
-hashFrom (suc k) a b n i = hashFrom k (mixed b (quadAt n i)) ((a + mixed b (quadAt n i)) % 4294967296) n (i + 4)
+hashFrom zero a b n i = joined (mixed 1540483477 a (quadAt n (length n - 8))) (mixed 2083697005 b (quadAt n (length n - 4)))
+hashFrom (suc k) a b n i = hashFrom k (mixed 1540483477 a (quadAt n i)) (mixed 2083697005 b (quadAt n (i + 4))) n (i + 8)
 
 -- the bits of a name
 unfoldable pub hash : Name → ℕ
-hash n = hashFrom ((length n + 3) / 4) 0 0 n 0
+hash n = hashFrom ((length n - 1) / 8) (length n % 4294967296) 0 n 0
 
 -- the name whose length byte stands at p
 unfoldable pub textAt : List ℕ → ℕ → Name

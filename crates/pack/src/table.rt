@@ -73,7 +73,7 @@ fn fold(x: usize) -> usize
 
 // Four bytes of a name as one number; those past its end are 0.
 fn quad(n: &[u8], i: usize) -> usize
-    requires { ⌜ i < length (now n) ⌝ }
+    requires { ⌜ i ≤ length (now n) ⌝ }
     ensures { λ r. ⌜ (r ≡ quadAt (now (n .entry)) i) × (r < 4294967296) ⌝ }
 {
     if i + 3 < n.len() {
@@ -85,21 +85,33 @@ fn quad(n: &[u8], i: usize) -> usize
     byte_at(n, i) + 256 * byte_at(n, i + 1) + 65536 * byte_at(n, i + 2)
 }
 
-// The bits by which a name goes down its tree. b is the second half and 1: added to the bytes, the 1 would be compiled into two sums
-// after the product, for which the next step waits.
+// Where the last k of l bytes begin, or all where there are fewer.
+fn last(l: usize, k: usize) -> usize
+    ensures { λ r. ⌜ r ≡ l - k ⌝ }
+{
+    if k < l {
+        return l - k;
+    }
+    0
+}
+
+// The bits by which a name goes down its tree. The products of the two halves do not wait for each other.
 pub fn hash(n: &[u8]) -> usize
     ensures { λ r. ⌜ r ≡ hashOf (now (n .entry)) ⌝ }
 {
-    let mut a = 0;
-    let mut b = 1;
+    let l = n.len();
+    let mut a = l % 4294967296;
+    let mut b = 0;
     let mut i = 0;
-    while i < n.len() {
-        let c = fold((b + quad(n, i)) * 1540483477);
-        b = (a + c) % 4294967296 + 1;
-        a = c;
-        i += 4;
+    while i + 8 < l {
+        a = fold((a + quad(n, i)) * 1540483477);
+        b = fold((b + quad(n, i + 4)) * 2083697005);
+        i += 8;
     }
-    a + 4294967296 * (b - 1)
+    let x = fold((a + quad(n, last(l, 8))) * 1540483477);
+    let y = fold((b + quad(n, last(l, 4))) * 2083697005);
+    let z = fold((x + y) * 1540483477);
+    z + 4294967296 * ((z + y) % 4294967296)
 }
 
 // Whether the name whose length byte stands at p is n.
