@@ -7,7 +7,7 @@ use mathlib.Core.Bool.{Bool, true, false, not, cond, _||_, _&&_, and-assoc, and-
 use mathlib.Core.Logic.{⊎-elim}
 use mathlib.Core.Path.{_≡_, refl, sym, ap, _∙_}
 use lib.ListN.{length, getD, take, drop, drop-of-length-le, length-take, length-drop}
-use lib.Seq.{drop-cons}
+use lib.Seq.{drop-cons, take-all}
 use lib.Dec.{eqb, leb, ltb}
 use borrow.Author.Tests.{le-leb, le-ltb, leb-true, lt-leb, lt-ltb, ne-eqb}
 use Rattle.wire.specs.declared.answer.Read.the-variants as rd
@@ -72,6 +72,62 @@ bytes-more n i a r l e h =
 pub bytes-done : (n : List ℕ) (i : ℕ) (a : Bool) → length n ≤ i → a && nameBytes (drop i n) ≡ nameBytes n → a ≡ nameBytes n
 unfolding nameBytes
 bytes-done n i a l h = sym (and-true a) ∙ sym (ap (λ (x : List ℕ). a && nameBytes x) (drop-of-length-le n l)) ∙ h
+
+-- the bytes of a name in parts, which may overlap
+bytes-absorbed : (n : List ℕ) (j : ℕ) → nameBytes (take j n) && nameBytes n ≡ nameBytes n
+unfolding nameBytes
+bytes-absorbed [] zero = refl
+bytes-absorbed [] (suc j) = refl
+bytes-absorbed (b ∷ n) zero = refl
+bytes-absorbed (b ∷ n) (suc j) = go (nameByte b) (bytes-absorbed n j)
+  where
+    go : (x : Bool) → nameBytes (take j n) && nameBytes n ≡ nameBytes n → x && nameBytes (take j n) && (x && nameBytes n) ≡ x && nameBytes n
+    go true e = e
+    go false e = refl
+
+bytes-parts : (n : List ℕ) (i j : ℕ) → i ≤ j → nameBytes (take j n) && nameBytes (drop i n) ≡ nameBytes n
+unfolding nameBytes
+bytes-parts n zero j l = bytes-absorbed n j
+bytes-parts n (suc i) zero l = absurd (omega arith)
+bytes-parts [] (suc i) (suc j) l = refl
+bytes-parts (b ∷ n) (suc i) (suc j) l = and-assoc (nameByte b) (nameBytes (take j n)) (nameBytes (drop i n)) ∙ ap (λ (x : Bool). nameByte b && x) (bytes-parts n i j (omega arith))
+
+bytes-none : (k : ℕ) → nameBytes (take k []) ≡ true
+unfolding nameBytes
+bytes-none zero = refl
+bytes-none (suc k) = refl
+
+bytes-then : (n : List ℕ) (i k : ℕ) → nameBytes (take i n) && nameBytes (take k (drop i n)) ≡ nameBytes (take (k + i) n)
+unfolding nameBytes
+bytes-then n zero k = let m : k ≡ k + 0 = omega arith in ap (λ (x : ℕ). nameBytes (take x n)) m
+bytes-then [] (suc i) k = bytes-none k ∙ sym (bytes-none (k + suc i))
+bytes-then (b ∷ n) (suc i) k =
+    let m : suc (k + i) ≡ k + suc i = omega arith in
+    and-assoc (nameByte b) (nameBytes (take i n)) (nameBytes (take k (drop i n))) ∙ ap (λ (x : Bool). nameByte b && x) (bytes-then n i k) ∙ ap (λ (x : ℕ). nameBytes (take x (b ∷ n))) m
+
+pub bytes-last : (n : List ℕ) (b : ℕ) (r : Bool) → r ≡ nameBytes (take (length n - b) (drop b n)) → r ≡ nameBytes (drop b n)
+bytes-last n b r e = e ∙ ap nameBytes (take-all (length n - b) (drop b n) (omega (arith, length-drop b n)))
+
+pub bytes-ends : (n : List ℕ) (i j : ℕ) (x y : Bool) → x ≡ nameBytes (take j n) → y ≡ nameBytes (take (length n - i) (drop i n)) → i ≤ j → x && y ≡ nameBytes n
+bytes-ends n i j x y e f l = (λ k. e k && bytes-last n i y f k) ∙ bytes-parts n i j l
+
+pub bytes-block : (n : List ℕ) (i : ℕ) (a x z : Bool) → x ≡ nameBytes (take (i + 16 - i) (drop i n)) → a ≡ nameBytes (take i n) && z → a && x ≡ nameBytes (take (i + 16) n) && z
+bytes-block n i a x z e f =
+    let k : i + 16 - i ≡ 16 = omega arith in
+    let m : 16 + i ≡ i + 16 = omega arith in
+    (λ j. f j && (e ∙ ap (λ (y : ℕ). nameBytes (take y (drop i n))) k) j)
+    ∙ turn (nameBytes (take i n)) z (nameBytes (take 16 (drop i n)))
+    ∙ ap (λ (y : Bool). y && z) (bytes-then n i 16 ∙ ap (λ (y : ℕ). nameBytes (take y n)) m)
+  where
+    turn : (t u v : Bool) → t && u && v ≡ t && v && u
+    turn true true true = refl
+    turn true true false = refl
+    turn true false true = refl
+    turn true false false = refl
+    turn false u v = refl
+
+pub bytes-all : (n : List ℕ) (i : ℕ) (a : Bool) → length n - 16 ≤ i → a ≡ nameBytes (take i n) && nameBytes (drop (length n - 16) n) → a ≡ nameBytes n
+bytes-all n i a l e = e ∙ bytes-parts n (length n - 16) i l
 
 pub name-skip : (s : List ℕ) (at : ℕ) → skip (name s at) ≡ nextS (readOf (size s at)) (λ n p. skip (many (char s) n p))
 unfolding name

@@ -13,7 +13,7 @@ use wire::number::read_u16;
 ghost use mathlib.Core.Path.{_≡_};
 ghost use mathlib.Core.Bool.{_&&_};
 ghost use mathlib.Core.List.{[]};
-ghost use Prim.Native.Nat.{_+_, _≤_};
+ghost use Prim.Native.Nat.{_+_, _*_, _≤_};
 ghost use lib.Dec.{leb, ltb};
 ghost use lib.ListN.{length, getD, take, drop};
 ghost use Rattle.wire.specs.Answer.{many};
@@ -41,7 +41,7 @@ pub fn name_byte(b: usize) -> bool
 }
 
 // Whether all bytes of n are bytes of a name. The loop has no way out but its end, so that many bytes are looked at in one step.
-fn name_bytes(n: &[u8]) -> bool
+fn each_byte(n: &[u8]) -> bool
     ensures { λ r. ⌜ r ≡ nameBytes (now (n .entry)) ⌝ }
 {
     let mut all = true;
@@ -51,6 +51,49 @@ fn name_bytes(n: &[u8]) -> bool
         i += 1;
     }
     all
+}
+
+// The same of k to 2 * k bytes, as the first k and the last k.
+fn both_ends(n: &[u8], k: usize) -> bool
+    requires { ⌜ (k ≤ length (now n)) × (length (now n) ≤ 2 * k) ⌝ }
+    ensures { λ r. ⌜ r ≡ nameBytes (now (n .entry)) ⌝ }
+{
+    let b = n.len() - k;
+    let first = each_byte(&n[..k]);
+    let last = each_byte(&n[b..]);
+    first & last
+}
+
+// The same of 16 bytes or more, as the last 16 and those before them by 16.
+fn by_blocks(n: &[u8]) -> bool
+    requires { ⌜ 16 ≤ length (now n) ⌝ }
+    ensures { λ r. ⌜ r ≡ nameBytes (now (n .entry)) ⌝ }
+{
+    let b = n.len() - 16;
+    let mut all = each_byte(&n[b..]);
+    let mut i = 0;
+    while i < b {
+        let e = i + 16;
+        all = all & each_byte(&n[i..e]);
+        i = e;
+    }
+    all
+}
+
+// The same of any: parts of 4, 8 or 16 bytes take one step each, where a rest would be gone through byte by byte.
+fn name_bytes(n: &[u8]) -> bool
+    ensures { λ r. ⌜ r ≡ nameBytes (now (n .entry)) ⌝ }
+{
+    if n.len() < 4 {
+        return each_byte(n);
+    }
+    if n.len() < 8 {
+        return both_ends(n, 4);
+    }
+    if n.len() < 16 {
+        return both_ends(n, 8);
+    }
+    by_blocks(n)
 }
 
 pub fn skip_char(s: &[u8], at: usize) -> Skipped

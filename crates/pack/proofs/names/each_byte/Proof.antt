@@ -6,8 +6,8 @@ use lib.ListN.{length, drop}
 use borrow.Author.Needs.{needs}
 use Rattle.pack.specs.Read.{nameBytes}
 use Rattle.pack.proofs.NameLaws.{bytes-done, bytes-more}
-use Rattle.pack.proofs.names.name_bytes.Statement.{statement}
-use Rattle.pack.proofs.names.name_bytes.Tie as tie
+use Rattle.pack.proofs.names.each_byte.Statement.{statement}
+use Rattle.pack.proofs.names.each_byte.Tie as tie
 
 abbrev Inv-loop : tie.InvT-loop
 Inv-loop n all₀ i₀ all i = (i ≤ length n) × (all && nameBytes (drop i n) ≡ nameBytes n)
@@ -39,8 +39,8 @@ loop-again c = (omega arith, bytes-more (c .before .before .before .before .befo
 returns : tie.Need-returns Inv-loop μ-loop
 returns c = bytes-done (c .before .before .before .args .n .now) _ (c .before .loop .all) (c .loop-test .left) (c .before .loop .inv .1)
 
-pub name-bytes-spec : {M : Type 1} → statement M
-name-bytes-spec =
+pub each-byte-spec : {M : Type 1} → statement M
+each-byte-spec =
     tie.close
     (tie.spec
     Inv-loop
