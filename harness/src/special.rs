@@ -280,12 +280,14 @@ pub fn names_only(size: usize) -> Package {
 /// others the way down.
 pub fn index_number(name: &[u8]) -> u64 {
     let fold = |x: u64| (x + (x >> 32)) & 0xFFFF_FFFF;
-    let (a, b) = name.chunks(4).fold((0, 0), |(a, b), four| {
-        let x = four.iter().rev().fold(0, |x, byte| x << 8 | u64::from(*byte));
-        let c = fold((b + x + 1) * 1_540_483_477);
-        (c, (a + c) & 0xFFFF_FFFF)
-    });
-    a | b << 32
+    let quad = |at: usize| name[at..].iter().take(4).rev().fold(0, |x, byte| x << 8 | u64::from(*byte));
+    let first = |a: u64, at| fold((a + quad(at)) * 1_540_483_477);
+    let second = |b: u64, at| fold((b + quad(at)) * 2_083_697_005);
+    let last = name.len().saturating_sub(1) / 8 * 8;
+    let (a, b) = (0..last).step_by(8).fold((name.len() as u64, 0), |(a, b), at| (first(a, at), second(b, at + 4)));
+    let (x, y) = (first(a, name.len().saturating_sub(8)), second(b, name.len().saturating_sub(4)));
+    let z = fold((x + y) * 1_540_483_477);
+    z | ((z + y) & 0xFFFF_FFFF) << 32
 }
 
 /// Names of five letters, all with the same lowest `bits` of their numbers in the index.
@@ -415,8 +417,8 @@ mod tests {
     /// The numbers that crates/pack/proofs/TableLaws computes of the definition.
     #[test]
     fn names_have_the_library_s_numbers() {
-        assert_eq!(index_number(b"Strongroom"), 7_809_699_440_884_572_074);
-        assert_eq!(index_number(b"Vault"), 10_239_672_534_652_100_836);
+        assert_eq!(index_number(b"Strongroom"), 12_513_859_832_795_880_374);
+        assert_eq!(index_number(b"Vault"), 16_136_412_811_578_076_142);
     }
 
     #[test]

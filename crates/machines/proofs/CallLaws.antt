@@ -6,11 +6,11 @@ use mathlib.Core.Path.{_≡_, sym, ap, subst, _∙_}
 use lib.ListN.{length, drop, length-append, length-drop, length-take}
 use borrow.Author.Tests.{lt-ltb, le-ltb}
 use Rattle.wire.specs.Bytes.{two}
-use Rattle.wire.specs.Writer.{State}
+use Rattle.wire.specs.Writer.{State, overwritten}
 use Rattle.pack.specs.Names.{Name}
 use Rattle.pack.specs.Write.{Item}
 use Rattle.pack.specs.Intern.{render, table, unwritten}
-use Rattle.pack.specs.Outcome.{Gives, answered, numberOf, outputOf, overwritten, reportOf, reported, valueOf}
+use Rattle.pack.specs.Outcome.{Gives, answered, numberOf, outputOf, reportOf, reported, valueOf}
 use Rattle.pack.specs.Table.{tabled}
 use Rattle.pack.specs.declared.record.Pack.{Pack}
 use Rattle.pack.proofs.Finished.{carried}

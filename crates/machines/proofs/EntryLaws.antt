@@ -10,7 +10,7 @@ use lib.Dec.{eqb}
 use borrow.Author.Tests.{eq-eqb, ne-eqb, eqb-true, eqb-false}
 use Rattle.wire.specs.Lists.{All}
 use Rattle.pack.specs.Names.{Name}
-use Rattle.pack.specs.Outcome.{overwritten}
+use Rattle.wire.specs.Writer.{overwritten}
 use Rattle.pack.specs.RawNames.{rawName}
 use Rattle.pack.specs.Report.{entries}
 use Rattle.pack.specs.Write.{enc}

@@ -6,7 +6,8 @@ use mathlib.Core.List.{List, [], _++_, append-assoc}
 use mathlib.Core.Path.{_≡_, sym, subst, ap, _∙_}
 use lib.ListN.{length, take, drop, length-append, take-append-drop}
 use lib.Seq.{length-take-le, take-append-seam, drop-append-add, drop-drop}
-use Rattle.pack.specs.Outcome.{begins, overwritten}
+use Rattle.wire.specs.Writer.{overwritten}
+use Rattle.pack.specs.Outcome.{begins}
 
 -- at the start
 pub over-start : (xs d : List ℕ) → overwritten 0 xs d ≡ begins xs d

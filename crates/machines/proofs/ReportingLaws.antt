@@ -11,7 +11,7 @@ use borrow.Author.Tests.{eq-eqb, eqb-true, ne-eqb}
 use Rattle.wire.specs.Bytes.{two}
 use Rattle.pack.specs.Limits.{absent}
 use Rattle.pack.specs.Names.{Name}
-use Rattle.pack.specs.Outcome.{overwritten}
+use Rattle.wire.specs.Writer.{overwritten}
 use Rattle.machines.specs.declared.refusal.Called.{Called}
 use Rattle.machines.specs.declared.refusal.Judged.{Judged}
 use Rattle.machines.specs.declared.sure.Num.{Num}

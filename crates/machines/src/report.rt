@@ -4,13 +4,13 @@ use crate::refusal::Called;
 use crate::refusal::Judged;
 use crate::rows::pack_name;
 use crate::rows::part;
-use pack::finish::append;
+use wire::writer::append;
 ghost use mathlib.Core.List.{[], _∷_, _++_};
 ghost use mathlib.Core.Path.{_≡_};
 ghost use Prim.Native.Nat.{_+_, _≤_, _%_};
 ghost use lib.ListN.{length};
 ghost use Rattle.wire.specs.Bytes.{two};
-ghost use Rattle.pack.specs.Outcome.{overwritten};
+ghost use Rattle.wire.specs.Writer.{overwritten};
 ghost use Rattle.machines.specs.Laid.{prefixOf};
 ghost use Rattle.machines.specs.Entries.{calledOf, entryBytes, nameBytes, namesBytes};
 

@@ -16,7 +16,7 @@ ghost use Prim.Native.Nat.{ℕ, _+_, _<_, _≤_};
 ghost use lib.ListN.{length};
 ghost use Rattle.wire.specs.Bytes.{two};
 ghost use Rattle.pack.specs.Names.{Name};
-ghost use Rattle.pack.specs.Outcome.{overwritten};
+ghost use Rattle.wire.specs.Writer.{overwritten};
 ghost use Rattle.machines.specs.Ends.{KeptRight};
 ghost use Rattle.machines.specs.Relaid.{Long};
 ghost use Rattle.machines.specs.Reporting.{bytesT, ofRefused, refusalT, lettersT, refusedEntryT, EntersAll, RoomAt, RoomForAll};

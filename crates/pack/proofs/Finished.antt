@@ -12,21 +12,11 @@ use lib.Seq.{take-nil, paste, paste-suc, take-length, drop-drop, take-append-sea
 use borrow.Author.Tests.{lt-ltb, le-ltb}
 use Rattle.wire.specs.declared.writer.Writer.{Writer}
 use Rattle.wire.specs.Bytes.{two}
-use Rattle.wire.specs.Writer.{stateOf}
+use Rattle.wire.specs.Writer.{stateOf, overwritten}
 use Rattle.wire.proofs.Writers.{lt-or-le, take-part}
 use Rattle.pack.specs.Limits.{maxBytes}
 use Rattle.pack.specs.Table.{table, textsFrom}
-use Rattle.pack.specs.Outcome.{Outcome, answers, writes, numberOf, valueOf, outputOf, Gives, begins, overwritten, sized, packOf, answered}
-
--- one byte more of a copy
-pub paste-turn : (d s e : List ℕ) (at j o : ℕ) → o ≡ at + j → e ≡ paste d at s j → at + j < length d → j < length s
-    → set e o (getD s j 0) ≡ paste d at s (j + 1)
-paste-turn d s e at j o p q h g = rw (p, q, add-one) (paste-suc d at s j 0 h g)
-
--- a whole copy
-pub paste-whole : (d s e : List ℕ) (at j : ℕ) → j ≡ length s → e ≡ paste d at s j → e ≡ overwritten at s d
-unfolding overwritten
-paste-whole d s e at j p q = q ∙ rw (p, take-length) (append-assoc (take at d) s (drop (at + length s) d))
+use Rattle.pack.specs.Outcome.{Outcome, answers, writes, numberOf, valueOf, outputOf, Gives, begins, sized, packOf, answered}
 
 -- a copy after what the buffer begins with
 pub begins-more : (d e p s x : List ℕ) (at : ℕ) → length p ≡ at → d ≡ begins p x → e ≡ overwritten at s d → e ≡ begins (p ++ s) x

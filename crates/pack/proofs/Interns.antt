@@ -13,10 +13,9 @@ use lib.Dec.{ltb, leb, eqb}
 use borrow.Author.Tests.{lt-ltb, le-ltb, le-leb, lt-leb, eq-eqb, ne-eqb}
 use Rattle.wire.specs.declared.writer.Writer.{Writer}
 use Rattle.wire.specs.Bytes.{two}
-use Rattle.wire.specs.Writer.{State, full, st, stateOf, put, puts, swapped}
+use Rattle.wire.specs.Writer.{State, full, st, stateOf, put, puts, swapped, overwritten}
 use Rattle.wire.proofs.Writers.{lt-or-le, puts-full, puts-fit, take-part, take-capped, drop-capped}
 use Rattle.pack.specs.Limits.{maxName}
-use Rattle.pack.specs.Outcome.{overwritten}
 use Rattle.pack.specs.Names.{Name, eqName}
 use Rattle.pack.specs.Write.{Item, Found, At, Missing, enc, lookup}
 use Rattle.pack.specs.Table.{tableF, table, textsFrom, numberIn, seek, noted, enter, entered, blank, tabled}
@@ -129,23 +128,6 @@ found-number t n f e = rw e (omega (arith, lookup-number (table t) n 0, table-le
 -- the bound on an answer, of what it is
 pub number-of : (f g : Found) (k : ℕ) → f ≡ g → numberIn f ≤ k → numberIn g ≤ k
 number-of f g k e h = rw e at h
-
--- bytes put by one copy: none where the writer is full
-pub text-full : (o m xs : List ℕ) (w : Writer) → w .full ≡ true → stateOf o m w ≡ puts xs (stateOf o m w)
-unfolding stateOf
-text-full o m xs w e = rw e (sym (puts-full xs))
-
--- and all where there is room
-pub text-copied : (o k m xs : List ℕ) (w : Writer) (e : ℕ) → w .full ≡ false → w .at + length xs ≤ length o → e ≡ w .at + length xs
-    → k ≡ overwritten (w .at) xs o → stateOf k m (record { at = e; made = w .made; full = false }) ≡ puts xs (stateOf o m w)
-unfolding stateOf overwritten
-text-copied o k m xs w e f h p q =
-    let l : length (take (w .at) o) ≡ w .at = length-take-le (w .at) o (omega arith) in
-    let n : length (take (w .at) o ++ xs) ≡ e = omega (arith, length-append (take (w .at) o) xs) in
-    let j : k ≡ (take (w .at) o ++ xs) ++ drop (w .at + length xs) o = q ∙ sym (append-assoc (take (w .at) o) xs _) in
-    let z : length k ≡ length o = ap length j ∙ simp (length-append, length-drop) (omega (arith, n)) in
-    let t : take e k ≡ take (w .at) o ++ xs = ap (take e) j ∙ take-at (take (w .at) o ++ xs) _ e n in
-    rw (z, t, f, puts-fit (length o) (length m) (take (w .made) m) xs (take (w .at) o) (omega arith), le-leb (length (take (w .at) o) + length xs) (length o) (omega arith))
 
 pub entry-steps : (n : Name) (s x : State) → x ≡ notedIn n s → swapped (puts n (put (length n) (swapped x))) ≡ putEntry n s
 unfolding putEntry puts

@@ -39,10 +39,6 @@ returned o = numberOf o * 4294967296 + valueOf o
 unfoldable pub begins : List ℕ → List ℕ → List ℕ
 begins p d = p ++ drop (length p) d
 
--- a buffer with bytes put over what it held from `at` on
-unfoldable pub overwritten : ℕ → List ℕ → List ℕ → List ℕ
-overwritten at p d = take at d ++ (p ++ drop (at + length p) d)
-
 -- the output buffer: only a pack changes it
 unfoldable pub outputOf : Outcome → List ℕ → List ℕ
 outputOf (answers n v) d = d

@@ -3,6 +3,7 @@ use crate::intern::count_names;
 use crate::record::Pack;
 use crate::table::TEXTS;
 use wire::writer::Writer;
+use wire::writer::append;
 use wire::writer::capped;
 ghost use mathlib.Core.Path.{_≡_};
 ghost use mathlib.Core.List.{_++_};
@@ -10,28 +11,12 @@ ghost use Prim.Native.Nat.{_+_, _≤_, min};
 ghost use lib.ListN.{length};
 ghost use Rattle.wire.specs.Bytes.{two};
 ghost use Rattle.wire.specs.Writer.{stateOf};
-ghost use Rattle.pack.specs.Outcome.{Gives, begins, overwritten, sized, packOf, answered};
+ghost use Rattle.pack.specs.Outcome.{Gives, begins, sized, packOf, answered};
 
 // A number and a value of the table of answers.
 pub struct Outcome {
     pub number: u64,
     pub value: u64,
-}
-
-// Copies src over what dst holds from `at` on, and says where it ends.
-pub fn append(src: &[u8], dst: &mut [u8], at: usize) -> usize
-    requires { ⌜ at + length (now src) ≤ length (now dst) ⌝ }
-    ensures { λ r. ⌜ r ≡ at + length (now (src .entry)) ⌝ }
-    ensures { λ r. ⌜ now (dst .exit) ≡ overwritten at (now (src .entry)) (now (dst .entry)) ⌝ }
-{
-    let mut j = 0;
-    let mut o = at;
-    while j < src.len() {
-        dst[o] = src[j];
-        o += 1;
-        j += 1;
-    }
-    o
 }
 
 // A pack's parts, one after the other from dst's start: the count of names, the old names, the new ones, the rest.

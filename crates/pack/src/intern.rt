@@ -1,5 +1,4 @@
 // Names by number: the old names of a pack, then new ones in order of first use. A table is names, each after its length byte.
-use crate::finish::append;
 use crate::record::Pack;
 use crate::table::TEXTS;
 use crate::table::note;
@@ -95,29 +94,6 @@ pub fn start() -> Writer
     }
 }
 
-// The bytes of src, copied at once where there is room for all of them.
-fn put_text(src: &[u8], out: &mut [u8], w: Writer) -> Writer
-    ensures { λ r. ⌜ ((m : List ℕ) → stateOf (now (out .exit)) m r ≡ puts (now (src .entry)) (stateOf (now (out .entry)) m w)) ⌝ }
-{
-    let at = w.at;
-    let full = w.full;
-    if full {
-        return w;
-    }
-    if out.len() < at {
-        return put_bytes(src, out, w);
-    }
-    if out.len() - at < src.len() {
-        return put_bytes(src, out, w);
-    }
-    let end = append(src, out, at);
-    Writer {
-        at: end,
-        made: w.made,
-        full: false,
-    }
-}
-
 // A name more in the table of new names, after its length byte.
 pub fn put_entry(n: &[u8], made: &mut [u8], w: Writer) -> Writer
     requires { ⌜ length (now n) ≤ 255 ⌝ }
@@ -126,7 +102,7 @@ pub fn put_entry(n: &[u8], made: &mut [u8], w: Writer) -> Writer
     let end = capped(made.len(), 0, w.made);
     note(&mut made[..end], n);
     let a = put_byte(made, turned(w), n.len() as u8);
-    turned(put_text(n, made, a))
+    turned(put_bytes(n, made, a))
 }
 
 // The names of src entered in order.

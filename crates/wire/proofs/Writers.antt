@@ -6,15 +6,15 @@ use native.Mathlib.Omega.{arith}
 use mathlib.Core.Logic.{⊎-elim, _⊎_, inl, inr}
 use mathlib.Core.Bool.{Bool, true, false, cond}
 use mathlib.Core.Path.{_≡_, refl, sym, ap, _∙_}
-use mathlib.Core.List.{List, [], _∷_, _++_, append-nil}
+use mathlib.Core.List.{List, [], _∷_, _++_, append-nil, append-assoc}
 use lib.ListN.{length, take, drop, set, getD, length-set, drop-of-length-le, length-drop, length-append}
-use lib.Seq.{take-suc-set, length-take-le, take-all, drop-cons, drop-length, drop-drop, take-length, append-snoc}
+use lib.Seq.{take-suc-set, length-take-le, take-all, drop-cons, drop-length, drop-drop, take-length, append-snoc, paste, paste-suc, take-append-seam}
 use lib.Dec.{ltb, leb}
 use borrow.Author.Tests.{lt-ltb, le-ltb, le-leb, lt-leb, ltb-true, ltb-false}
 use Rattle.wire.specs.declared.writer.Writer.{Writer}
 use Rattle.wire.specs.Bytes.{two}
 use Rattle.wire.specs.Decimal.{digits, decimal}
-use Rattle.wire.specs.Writer.{State, full, st, stateOf, put, puts, swapped}
+use Rattle.wire.specs.Writer.{State, full, st, stateOf, put, puts, swapped, overwritten}
 
 pub lt-or-le : (a b : ℕ) → (a < b) ⊎ (b ≤ a)
 lt-or-le a b = go (ltb a b) refl
@@ -45,15 +45,6 @@ put-none out m w b e h = simp (e, take-all (w .at) out h, le-ltb (length out) (l
 pub puts-two : (k : ℕ) (s : State) → put (k / 256 % 256) (put (k % 256) s) ≡ puts (two k) s
 unfolding puts two
 puts-two k s = refl
-
--- what is left of the bytes from i on, after one more
-pub puts-drop : (s : List ℕ) (i : ℕ) (x : State) → i < length s → puts (drop i s) x ≡ puts (drop (i + 1) s) (put (getD s i 0) x)
-unfolding puts
-puts-drop s i x h = rw (add-one, drop-cons s i 0)
-
-pub puts-done : (s : List ℕ) (i : ℕ) (x : State) → length s ≤ i → puts (drop i s) x ≡ x
-unfolding puts
-puts-done s i x h = rw (drop-of-length-le s h)
 
 pub puts-full : (xs : List ℕ) → puts xs full ≡ full
 unfolding puts put
@@ -109,6 +100,49 @@ module _ (buf xs : List ℕ) (v : Writer) (e : stateOf buf [] v ≡ puts xs (st 
       let g : st (length buf) 0 (take (v .at) buf) (take (v .made) []) ≡ st (length buf) 0 xs [] = rw (f, le-leb _ _ o) at text-fit in
       (cc, o))
       (lt-or-le (length buf) (length xs))
+
+-- one byte more of a copy
+pub paste-turn : (d s e : List ℕ) (at j o : ℕ) → o ≡ at + j → e ≡ paste d at s j → at + j < length d → j < length s
+    → set e o (getD s j 0) ≡ paste d at s (j + 1)
+paste-turn d s e at j o p q h g = rw (p, q, add-one) (paste-suc d at s j 0 h g)
+
+-- a whole copy
+pub paste-whole : (d s e : List ℕ) (at j : ℕ) → j ≡ length s → e ≡ paste d at s j → e ≡ overwritten at s d
+unfolding overwritten
+paste-whole d s e at j p q = q ∙ rw (p, take-length) (append-assoc (take at d) s (drop (at + length s) d))
+
+-- A COPY AT ONCE
+
+take-min : (a : ℕ) (o : List ℕ) → take (min (0 + a) (length o)) o ≡ take a o
+take-min a o = ⊎-elim
+    (λ (g : length o < a). let e : min (0 + a) (length o) ≡ length o = omega arith in rw (e, take-length, take-all a o (omega arith)))
+    (λ (g : a ≤ length o). let e : min (0 + a) (length o) ≡ a = omega arith in rw e)
+    (lt-or-le (length o) a)
+
+pub bytes-full : (o m xs : List ℕ) (w : Writer) → w .full ≡ true → stateOf o m w ≡ puts xs (stateOf o m w)
+unfolding stateOf
+bytes-full o m xs w e = rw e (sym (puts-full xs))
+
+-- where there is no room for all of them the writer is full
+pub bytes-over : (o m xs : List ℕ) (w : Writer) (a : ℕ) → w .full ≡ false → a ≡ min (0 + w .at) (length o) → length o - a < length xs → full ≡ puts xs (stateOf o m w)
+unfolding stateOf
+bytes-over o m xs w a f e h =
+    let t : take (w .at) o ≡ take a o = sym (take-min (w .at) o) ∙ ap (λ i. take i o) (sym e) in
+    let l : length (take a o) ≡ a = length-take-le a o (omega arith) in
+    rw (f, t, puts-fit (length o) (length m) (take (w .made) m) xs (take a o) (omega arith), lt-leb (length (take a o) + length xs) (length o) (omega arith))
+
+-- and else they stand there
+pub bytes-copied : (o k m xs : List ℕ) (w : Writer) (a e : ℕ) → w .full ≡ false → a ≡ min (0 + w .at) (length o) → length xs ≤ length o - a → e ≡ a + length xs
+    → k ≡ overwritten a xs o → stateOf k m (record { at = e; made = w .made; full = false }) ≡ puts xs (stateOf o m w)
+unfolding stateOf overwritten
+bytes-copied o k m xs w a e f g h p q =
+    let u : take (w .at) o ≡ take a o = sym (take-min (w .at) o) ∙ ap (λ i. take i o) (sym g) in
+    let l : length (take a o) ≡ a = length-take-le a o (omega arith) in
+    let n : length (take a o ++ xs) ≡ e = omega (arith, length-append (take a o) xs) in
+    let j : k ≡ (take a o ++ xs) ++ drop (a + length xs) o = q ∙ sym (append-assoc (take a o) xs _) in
+    let z : length k ≡ length o = ap length j ∙ simp (length-append, length-drop) (omega (arith, n)) in
+    let t : take e k ≡ take a o ++ xs = ap (take e) j ∙ ap (λ i. take i ((take a o ++ xs) ++ drop (a + length xs) o)) (sym n) ∙ take-append-seam (take a o ++ xs) _ in
+    rw (z, t, f, u, puts-fit (length o) (length m) (take (w .made) m) xs (take a o) (omega arith), le-leb (length (take a o) + length xs) (length o) (omega arith))
 
 -- the exchange of the two places
 pub turned-is : (o m : List ℕ) (w : Writer) → stateOf m o (record { at = w .made; made = w .at; full = w .full }) ≡ swapped (stateOf o m w)

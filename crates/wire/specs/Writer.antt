@@ -1,8 +1,8 @@
 -- What a writer and its two buffers stand for, and what each step appends.
-use Prim.Native.Nat.{ℕ}
+use Prim.Native.Nat.{ℕ, _+_}
 use mathlib.Core.Bool.{cond}
 use mathlib.Core.List.{List, [], _∷_, _++_}
-use lib.ListN.{length, take}
+use lib.ListN.{length, take, drop}
 use lib.Dec.{ltb}
 use Rattle.wire.specs.declared.writer.Writer.{Writer}
 
@@ -29,3 +29,7 @@ puts (b ∷ bs) s = puts bs (put b s)
 unfoldable pub swapped : State → State
 swapped full = full
 swapped (st co cm bs md) = st cm co md bs
+
+-- a buffer with bytes put over what it held from `at` on
+unfoldable pub overwritten : ℕ → List ℕ → List ℕ → List ℕ
+overwritten at p d = take at d ++ (p ++ drop (at + length p) d)

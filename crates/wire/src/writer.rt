@@ -5,7 +5,7 @@ ghost use Prim.Native.Nat.{ℕ, _+_, _≤_, min};
 ghost use lib.ListN.{length};
 ghost use Rattle.wire.specs.Bytes.{two};
 ghost use Rattle.wire.specs.Decimal.{decimal};
-ghost use Rattle.wire.specs.Writer.{stateOf, put, puts, swapped, full as isFull, st};
+ghost use Rattle.wire.specs.Writer.{stateOf, put, puts, swapped, full as isFull, st, overwritten};
 
 // How far each buffer is written, and whether something did not fit.
 pub struct Writer {
@@ -60,17 +60,40 @@ pub fn put_u16(out: &mut [u8], w: Writer, k: usize) -> Writer
     put_byte(out, a, (k / 256 % 256) as u8)
 }
 
-// The bytes of src.
+// Copies src over what dst holds from `at` on, and says where it ends.
+pub fn append(src: &[u8], dst: &mut [u8], at: usize) -> usize
+    requires { ⌜ at + length (now src) ≤ length (now dst) ⌝ }
+    ensures { λ r. ⌜ r ≡ at + length (now (src .entry)) ⌝ }
+    ensures { λ r. ⌜ now (dst .exit) ≡ overwritten at (now (src .entry)) (now (dst .entry)) ⌝ }
+{
+    let mut j = 0;
+    let mut o = at;
+    while j < src.len() {
+        dst[o] = src[j];
+        o += 1;
+        j += 1;
+    }
+    o
+}
+
+// The bytes of src, copied at once.
 pub fn put_bytes(src: &[u8], out: &mut [u8], w: Writer) -> Writer
     ensures { λ r. ⌜ ((m : List ℕ) → stateOf (now (out .exit)) m r ≡ puts (now (src .entry)) (stateOf (now (out .entry)) m w)) ⌝ }
 {
-    let mut v = w;
-    let mut i = 0;
-    while i < src.len() {
-        v = put_byte(out, v, src[i]);
-        i += 1;
+    let full = w.full;
+    if full {
+        return w;
     }
-    v
+    let at = capped(out.len(), 0, w.at);
+    if out.len() - at < src.len() {
+        return stopped(w);
+    }
+    let end = append(src, out, at);
+    Writer {
+        at: end,
+        made: w.made,
+        full: false,
+    }
 }
 
 // The decimal digits of n.

@@ -3,7 +3,7 @@ use native.Mathlib.Omega.{arith}
 use mathlib.Core.List.{List}
 use mathlib.Core.Path.{_≡_, refl, ap, _∙_}
 use lib.ListN.{length}
-use Rattle.pack.specs.Outcome.{overwritten}
+use Rattle.wire.specs.Writer.{overwritten}
 use Rattle.machines.specs.Reporting.{bytesT}
 use Rattle.machines.proofs.ReportingLaws.{bytes-start, count-more, over-first, over-last, over-next, report-whole}
 use Rattle.activations.proofs.ReportLaws.{room-left, room-now}

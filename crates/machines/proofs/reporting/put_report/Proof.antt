@@ -4,7 +4,7 @@ use mathlib.Core.List.{List}
 use mathlib.Core.Path.{_≡_, refl, ap, _∙_}
 use lib.ListN.{length}
 use Rattle.pack.specs.Names.{Name}
-use Rattle.pack.specs.Outcome.{overwritten}
+use Rattle.wire.specs.Writer.{overwritten}
 use Rattle.machines.specs.Reporting.{EntersAll, bytesT, ofRefused}
 use Rattle.machines.proofs.RelaidLaws.{long-kept}
 use Rattle.machines.proofs.ReportingLaws.{bytes-start, count-fits, count-more, entered, over-first, over-last, over-next, report-whole, room-now, within-now}

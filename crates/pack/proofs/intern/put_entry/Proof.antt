@@ -30,8 +30,8 @@ cast-put-byte c = search needs
 put-byte-requires : tie.Need-put-byte-requires
 put-byte-requires c κs = search needs
 
-put-text-requires : tie.Need-put-text-requires
-put-text-requires c κs = search needs
+put-bytes-requires : tie.Need-put-bytes-requires
+put-bytes-requires c κs = search needs
 
 turned-requires-2 : tie.Need-turned-requires-2
 turned-requires-2 c κs = search needs
@@ -42,7 +42,7 @@ same-length c = search needs
 returns : tie.Need-returns
 returns c o =
     c .turned2 .ensures _ o
-    ∙ ap swapped (c .before .before .before .put-text .ensures o
+    ∙ ap swapped (c .before .before .before .put-bytes .ensures o
     ∙ ap (puts _) (c .before .before .before .before .before .before .before .put-byte .ensures o ∙ ap (put _) (c .before .before .before .before .before .before .before .before .turned .ensures o _)))
     ∙ entry-steps _ _ _ (noted-is o (c .before .before .before .before .before .before .before .before .before .before .before .before .before .before .before .before .before .args .made .now) _ (c .before .before .before .before .before .before .before .before .before .before .before .before .before .before .before .before .before .args .n .now) (c .before .before .before .before .before .before .before .before .before .before .before .before .before .before .before .before .before .args .w) _ (c .before .before .before .before .before .before .before .before .before .before .before .before .before .before .capped .ensures) (ap (λ (l : List ℕ). l ++ drop (c .before .before .before .before .before .before .before .before .before .before .before .before .before .before .capped .result) (c .before .before .before .before .before .before .before .before .before .before .before .before .before .before .before .before .before .args .made .now)) (c .before .before .before .before .before .before .before .before .before .before .before .before .note .ensures)))
 
@@ -57,7 +57,7 @@ put-entry-spec =
     turned-requires
     cast-put-byte
     put-byte-requires
-    put-text-requires
+    put-bytes-requires
     turned-requires-2
     same-length
     returns)

@@ -1,62 +1,43 @@
-use Prim.Native.Nat.{ℕ, _≤_, _-_}
 use native.Mathlib.Omega.{arith}
-use mathlib.Core.Path.{_≡_, _∙_, ap, sym, refl}
-use mathlib.Core.List.{List}
-use lib.ListN.{length, drop}
+use mathlib.Core.Path.{_∙_}
 use borrow.Author.Needs.{needs}
-use Rattle.wire.specs.Writer.{puts, stateOf}
-use Rattle.wire.proofs.Writers.{puts-drop, puts-done}
+use Rattle.wire.proofs.Writers.{bytes-copied, bytes-full, bytes-over}
 use Rattle.wire.proofs.writer.put_bytes.Statement.{statement}
 use Rattle.wire.proofs.writer.put_bytes.Tie as tie
 
-abbrev Inv-loop : tie.InvT-loop
-Inv-loop src out₀ v₀ i₀ out v i =
-    (i ≤ length src) × (length out ≡ length out₀)
-    × ((m : List ℕ) → puts (drop i src) (stateOf out m v) ≡ puts src (stateOf out₀ m v₀))
+returns : tie.Need-returns
+returns c m = bytes-full _ _ _ _ (c .if1 .taken)
 
-abbrev μ-loop : tie.MeasureT-loop
-μ-loop src out₀ v₀ i₀ out v i = length src - i
+capped-requires : tie.Need-capped-requires
+capped-requires c κs = search needs
 
-loop-holds : tie.Need-loop-holds Inv-loop μ-loop
-loop-holds c = (search needs, refl, λ m. refl)
+sub-if2 : tie.Need-sub-if2
+sub-if2 c = search needs
 
-shared-slice-read-put-byte : tie.Need-shared-slice-read-put-byte Inv-loop μ-loop
-shared-slice-read-put-byte c = omega arith
+stopped-requires : tie.Need-stopped-requires
+stopped-requires c κs = search needs
 
-put-byte-requires : tie.Need-put-byte-requires Inv-loop μ-loop
-put-byte-requires c κs = tt
+returns-2 : tie.Need-returns-2
+returns-2 c m = c .stopped .ensures _ m ∙ bytes-over _ m _ _ _ (c .before .before .before .if1 .left) (c .before .before .capped .ensures) (c .before .if2 .taken)
 
-add-i : tie.Need-add-i Inv-loop μ-loop
-add-i c = omega arith
+append-requires : tie.Need-append-requires
+append-requires c κs = search needs
 
-loop-less : tie.Need-loop-less Inv-loop μ-loop
-loop-less c = omega arith
+same-length : tie.Need-same-length
+same-length c = search needs
 
-loop-again : tie.Need-loop-again Inv-loop μ-loop
-loop-again c =
-    let d = c .before .before .before .before .before .before in (
-      omega arith,
-      c .before .before .put-byte .kept .0 ∙ d .loop .inv .1,
-      λ m. ap (puts _) (c .before .before .put-byte .ensures m) ∙ sym (puts-drop _ _ _ (c .before .before .before .before .before .loop-test .taken)) ∙ d .loop .inv .2 m,
-    )
-
-same-length : tie.Need-same-length Inv-loop μ-loop
-same-length c = c .before .loop .inv .1
-
-returns : tie.Need-returns Inv-loop μ-loop
-returns c m = sym (puts-done _ _ _ (c .loop-test .left)) ∙ c .before .loop .inv .2 m
+returns-3 : tie.Need-returns-3
+returns-3 c m = bytes-copied _ _ m _ (c .before .before .before .before .before .before .before .before .before .args .w) _ _ (c .before .before .before .before .before .before .if1 .left) (c .before .before .before .before .before .capped .ensures) (c .before .before .before .before .if2 .left) (c .before .before .append .ensures .0) (c .before .before .append .ensures .1)
 
 pub put-bytes-spec : {M : Type 1} → statement M
 put-bytes-spec =
     tie.close
     (tie.spec
-    Inv-loop
-    μ-loop
-    loop-holds
-    shared-slice-read-put-byte
-    put-byte-requires
-    add-i
-    loop-less
-    loop-again
+    returns
+    capped-requires
+    sub-if2
+    stopped-requires
+    returns-2
+    append-requires
     same-length
-    returns)
+    returns-3)

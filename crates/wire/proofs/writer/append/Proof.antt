@@ -3,9 +3,9 @@ use native.Mathlib.Omega.{arith}
 use mathlib.Core.Path.{_≡_, refl}
 use lib.ListN.{length, length-set}
 use lib.Seq.{paste, paste-zero}
-use Rattle.pack.proofs.Finished.{paste-turn, paste-whole}
-use Rattle.pack.proofs.finish.append.Statement.{statement}
-use Rattle.pack.proofs.finish.append.Tie as tie
+use Rattle.wire.proofs.Writers.{paste-turn, paste-whole}
+use Rattle.wire.proofs.writer.append.Statement.{statement}
+use Rattle.wire.proofs.writer.append.Tie as tie
 
 abbrev Inv-loop : tie.InvT-loop
 Inv-loop src dst₀ at j₀ o₀ dst j o = (o ≡ at + j) × (dst ≡ paste dst₀ at src j) × (j ≤ length src) × (length dst ≡ length dst₀)
