@@ -3,7 +3,7 @@ use Prim.Native.Nat.{ℕ, zero, suc, _+_, _-_, _%_, _≤_, _<_, min}
 use native.Mathlib.Numerals.{add-one}
 use native.Mathlib.Omega.{arith}
 use mathlib.Core.List.{List, [], _∷_, _++_}
-use mathlib.Core.Bool.{Bool, true, false, cond, _||_}
+use mathlib.Core.Bool.{Bool, true, false, cond, _||_, or-assoc, or-false}
 use mathlib.Core.Logic.{⊎-elim}
 use mathlib.Core.Path.{_≡_, refl, sym, ap, _∙_}
 use lib.ListN.{length, getD, set, take, drop, drop-of-length-le, length-drop, length-set}
@@ -24,7 +24,21 @@ pub mark-is : (n : Name) (h : ℕ) → h ≡ hash n → h % 4294967296 ≡ markO
 unfolding markOf
 mark-is n h e = ap (λ (x : ℕ). x % 4294967296) e
 
--- the search among marks: here, not here, not at all
+-- the search among marks, with whether it was met so far: one more, none left
+module _ (ms : List ℕ) (m i : ℕ) (hit z : Bool) where
+  pub among-more : i < length ms → hit || among m (drop i ms) ≡ z → (hit || eqb (getD ms i 0) m) || among m (drop (i + 1) ms) ≡ z
+  unfolding among
+  among-more l e =
+      or-assoc hit (eqb (getD ms i 0) m) (among m (drop (i + 1) ms))
+      ∙ ap (λ (j : ℕ). hit || (eqb (getD ms i 0) m || among m (drop j ms))) (add-one i)
+      ∙ sym (ap (λ (x : List ℕ). hit || among m x) (drop-cons ms i 0 l))
+      ∙ e
+
+  pub among-done : length ms ≤ i → hit || among m (drop i ms) ≡ z → hit ≡ z
+  unfolding among
+  among-done l e = sym (or-false hit) ∙ sym (ap (λ (x : List ℕ). hit || among m x) (drop-of-length-le ms l)) ∙ e
+
+-- the search that stops where it is met: here, not here, not at all
 module _ (ms : List ℕ) (m i : ℕ) (z : Bool) where
   pub among-here : i < length ms → getD ms i 0 ≡ m → among m (drop i ms) ≡ z → true ≡ z
   unfolding among
@@ -47,9 +61,9 @@ unfolding maybe
 maybe-within ms k m r l e = e ∙ sym (ap (λ b. cond b true (among m (take k ms))) (le-ltb (length ms) k l))
 
 -- a name whose mark is not among the marks is not among the names
-or-false : (a b : Bool) → (a || b) ≡ false → (a ≡ false) × (b ≡ false)
-or-false true b e = absurd (let y : _≡_ {A = ℕ} 1 0 = ap (λ c. cond c 1 0) e in omega arith)
-or-false false b e = (refl, e)
+or-none : (a b : Bool) → (a || b) ≡ false → (a ≡ false) × (b ≡ false)
+or-none true b e = absurd (let y : _≡_ {A = ℕ} 1 0 = ap (λ c. cond c 1 0) e in omega arith)
+or-none false b e = (refl, e)
 
 other-name : (n m : Name) → eqb (markOf m) (markOf n) ≡ false → eqName n m ≡ false
 other-name n m e = go (eqName n m) refl
@@ -62,7 +76,7 @@ unmarked : (n : Name) (ns : List Name) → among (markOf n) (marksOf ns) ≡ fal
 unfolding among marksOf member
 unmarked n [] e = refl
 unmarked n (m ∷ ms) e =
-    let o = or-false (eqb (markOf m) (markOf n)) (among (markOf n) (marksOf ms)) e in
+    let o = or-none (eqb (markOf m) (markOf n)) (among (markOf n) (marksOf ms)) e in
     ap (λ b. b || member n ms) (other-name n m (o .0)) ∙ unmarked n ms (o .1)
 
 pub unmarked-out : (t n ms : List ℕ) (k m : ℕ) (r : Bool) → (m ≡ markOf n) × Marks ms k t → r ≡ maybe ms k m → r ≡ false → false ≡ member n (table t)
@@ -70,7 +84,7 @@ unfolding maybe Marks
 unmarked-out t n ms k m r (e, h) p g = ⊎-elim (λ (l : length ms < k). over l) (λ (l : k ≤ length ms). within l) (lt-or-le (length ms) k)
   where
     over : length ms < k → false ≡ member n (table t)
-    over l = sym (or-false true (member n (table t)) (ap (λ b. cond b true (among m (take k ms))) (sym (lt-ltb (length ms) k l)) ∙ sym p ∙ g) .1)
+    over l = sym (or-none true (member n (table t)) (ap (λ b. cond b true (among m (take k ms))) (sym (lt-ltb (length ms) k l)) ∙ sym p ∙ g) .1)
 
     within : k ≤ length ms → false ≡ member n (table t)
     within l = sym (unmarked n (table t) (sym (λ j. among (e j) (h l j)) ∙ ap (λ b. cond b true (among m (take k ms))) (sym (le-ltb (length ms) k l)) ∙ sym p ∙ g))

@@ -11,18 +11,17 @@ pub fn mark(n: &[u8]) -> u32
     (hash(n) % 4294967296) as u32
 }
 
-// Whether a mark is among marks.
+// Whether a mark is among marks. The loop has no way out but its end, so that many marks are looked at in one step.
 fn among(marks: &[u32], m: u32) -> bool
     ensures { λ r. ⌜ r ≡ isAmong m (now (marks .entry)) ⌝ }
 {
+    let mut hit = false;
     let mut i = 0;
     while i < marks.len() {
-        if marks[i] == m {
-            return true;
-        }
+        hit = hit | (marks[i] == m);
         i += 1;
     }
-    false
+    hit
 }
 
 // Whether a mark may be one of k, of which only those are kept that there is room for.
