@@ -13,35 +13,36 @@ use Rattle.machines.specs.Sure.{numberIn, sureOf}
 use Rattle.machines.proofs.Reading.{state-value}
 use Rattle.machines.proofs.PackCounts.{optional-takes}
 
--- the first one does not read
-pub many-stopped : {A : Type 0} (f : ℕ → Answer A) (n p : ℕ) → ((x : A) (q : ℕ) → f p ≡ value x q → 0 < q) → endOf (f p) ≡ 0 → 0 < n → endOf (many f n p) ≡ 0
-unfolding many bind endOf
-many-stopped f zero p h e l = absurd (omega arith)
-many-stopped {A} f (suc n) p h e l = go (f p) refl
-  where
-    go : (a : Answer A) → f p ≡ a → endOf (bind a λ x q. bind (many f n q) λ xs r. value (x ∷ xs) r) ≡ 0
-    go (value x q) g = let i = h x q g in let j : q ≡ 0 = sym (ap endOf g) ∙ e in absurd (omega arith)
-    go early g = refl
-    go (illegal o) g = refl
-    go (deep o) g = refl
+module _ {A : Type 0} (f : ℕ → Answer A) where
+  -- things one by one, where what reads ends past 0: one that does not read
+  pub many-stopped : ((p : ℕ) (x : A) (q : ℕ) → f p ≡ value x q → 0 < q) → (n p e z : ℕ) → e ≡ endOf (f p) → e ≡ 0 → 0 < n → endOf (many f n p) ≡ z → 0 ≡ z
+  unfolding many bind endOf
+  many-stopped h zero p e z i j l d = absurd (omega arith)
+  many-stopped h (suc n) p e z i j l d = go (f p) refl ∙ d
+    where
+      go : (a : Answer A) → f p ≡ a → 0 ≡ endOf (bind a λ x q. bind (many f n q) λ xs r. value (x ∷ xs) r)
+      go (value x q) g = let k = h p x q g in let m : q ≡ 0 = sym (i ∙ ap endOf g) ∙ j in absurd (omega arith)
+      go early g = refl
+      go (illegal o) g = refl
+      go (deep o) g = refl
 
--- past the first one
-pub many-went : {A : Type 0} (f : ℕ → Answer A) (n p e z : ℕ) → e ≡ endOf (f p) → 0 < e → 0 < n → endOf (many f n p) ≡ z → endOf (many f (n - 1) e) ≡ z
-unfolding many bind endOf
-many-went f zero p e z i m l d = absurd (omega arith)
-many-went {A} f (suc n) p e z i m l d = let j : suc n - 1 ≡ n = omega arith in rw j (go (f p) refl ∙ d)
-  where
-    same : (x : A) (a : Answer (List A)) → endOf a ≡ endOf (bind a λ xs r. value (x ∷ xs) r)
-    same x (value xs r) = refl
-    same x early = refl
-    same x (illegal o) = refl
-    same x (deep o) = refl
+  -- one more
+  pub many-went : (n p e z : ℕ) → e ≡ endOf (f p) → (e ≡ 0 → ⊥) → 0 < n → endOf (many f n p) ≡ z → endOf (many f (n - 1) e) ≡ z
+  unfolding many bind endOf
+  many-went zero p e z i m l d = absurd (omega arith)
+  many-went (suc n) p e z i m l d = let j : suc n - 1 ≡ n = omega arith in rw j (go (f p) refl ∙ d)
+    where
+      same : (x : A) (a : Answer (List A)) → endOf a ≡ endOf (bind a λ xs r. value (x ∷ xs) r)
+      same x (value xs r) = refl
+      same x early = refl
+      same x (illegal o) = refl
+      same x (deep o) = refl
 
-    go : (a : Answer A) → f p ≡ a → endOf (many f n e) ≡ endOf (bind a λ x q. bind (many f n q) λ xs r. value (x ∷ xs) r)
-    go (value x q) g = ap (λ (y : ℕ). endOf (many f n y)) (i ∙ ap endOf g) ∙ same x (many f n q)
-    go early g = let k : e ≡ 0 = i ∙ ap endOf g in absurd (omega arith)
-    go (illegal o) g = let k : e ≡ 0 = i ∙ ap endOf g in absurd (omega arith)
-    go (deep o) g = let k : e ≡ 0 = i ∙ ap endOf g in absurd (omega arith)
+      go : (a : Answer A) → f p ≡ a → endOf (many f n e) ≡ endOf (bind a λ x q. bind (many f n q) λ xs r. value (x ∷ xs) r)
+      go (value x q) g = ap (λ (y : ℕ). endOf (many f n y)) (i ∙ ap endOf g) ∙ same x (many f n q)
+      go early g = absurd (m (i ∙ ap endOf g))
+      go (illegal o) g = absurd (m (i ∙ ap endOf g))
+      go (deep o) g = absurd (m (i ∙ ap endOf g))
 
 -- none is left
 pub many-done : {A : Type 0} (f : ℕ → Answer A) (n p z : ℕ) → n ≤ 0 → endOf (many f n p) ≡ z → p ≡ z
@@ -61,18 +62,14 @@ counted-ends f s at c e = ap (λ (y : Num). endOf (many f (y .value) (y .next)))
     go (deep o) = refl
 
 -- a state that reads ends with an optional name, past 0
-state-past : (ns : List Name) (s : List ℕ) (p : ℕ) (x : OneState) (q : ℕ) → stateAt ns s p ≡ value x q → 0 < q
+pub state-past : (ns : List Name) (s : List ℕ) (p : ℕ) (x : OneState) (q : ℕ) → stateAt ns s p ≡ value x q → 0 < q
 unfolding stateAt
 state-past ns s p x q e =
     let r = state-value ns s _ p x q e in
     let i = optional-takes ns s (r .m) (x .refines) q (r .last) in
     omega arith
 
--- so states end where looking up each one's end leads, or at 0 from the first that ends there
-pub states-stopped : (ns : List Name) (s : List ℕ) (n p e z : ℕ) → e ≡ overIn ns s p → e ≡ 0 → 0 < n → endOf (many (stateAt ns s) n p) ≡ z → 0 ≡ z
+-- where a state ends, as reading says
+pub over-end : (ns : List Name) (s : List ℕ) (p e : ℕ) → e ≡ overIn ns s p → e ≡ endOf (stateAt ns s p)
 unfolding overIn
-states-stopped ns s n p e z i j l d = sym (many-stopped (stateAt ns s) n p (state-past ns s p) (sym i ∙ j) l) ∙ d
-
-pub states-went : (ns : List Name) (s : List ℕ) (n p e z : ℕ) → e ≡ overIn ns s p → (e ≡ 0 → ⊥) → 0 < n → endOf (many (stateAt ns s) n p) ≡ z → endOf (many (stateAt ns s) (n - 1) e) ≡ z
-unfolding overIn
-states-went ns s n p e z i j l d = many-went (stateAt ns s) n p e z i (omega (arith, j)) l d
+over-end ns s p e i = i

@@ -1,8 +1,8 @@
 -- Where a state's equations and transitions end, by where each of them ends.
-use Prim.Native.Nat.{ℕ, _+_, _-_, _<_, _≤_}
+use Prim.Native.Nat.{ℕ, _<_}
 use native.Mathlib.Omega.{arith}
 use mathlib.Core.List.{List}
-use mathlib.Core.Path.{_≡_, sym, ap, _∙_}
+use mathlib.Core.Path.{_≡_, ap, _∙_}
 use lib.ListN.{length}
 use Rattle.wire.specs.Answer.{counted, many, value}
 use Rattle.wire.specs.declared.answer.Skipped.{Skipped}
@@ -19,11 +19,11 @@ use Rattle.machines.specs.Stands.{endOf}
 use Rattle.machines.specs.Sure.{numberIn}
 use Rattle.machines.proofs.SureLaws.{end-is}
 use Rattle.machines.proofs.PackCounts.{counted-takes, fwd-exprIn, fwd-name, name-takes}
-use Rattle.machines.proofs.ManyEnds.{counted-ends, many-stopped, many-went}
+use Rattle.machines.proofs.ManyEnds.{counted-ends}
 
 module _ (ns : List Name) (s : List ℕ) where
   -- what reads ends past 0
-  equation-past : (p : ℕ) (x : Equation) (q : ℕ) → equationIn ns s p ≡ value x q → 0 < q
+  pub equation-past : (p : ℕ) (x : Equation) (q : ℕ) → equationIn ns s p ≡ value x q → 0 < q
   unfolding equationIn namesIn
   equation-past p x q e =
       let b = bind-value (namesIn ns s p) _ x q e in
@@ -31,26 +31,13 @@ module _ (ns : List Name) (s : List ℕ) where
       let j = fwd-map (length s) (b .1) _ _ (fwd-exprIn ns s (b .1)) x q (b .3) .on in
       omega (arith, i, j)
 
-  transition-past : (p : ℕ) (x : Transition) (q : ℕ) → transitionIn ns s p ≡ value x q → 0 < q
+  pub transition-past : (p : ℕ) (x : Transition) (q : ℕ) → transitionIn ns s p ≡ value x q → 0 < q
   unfolding transitionIn
   transition-past p x q e =
       let b = bind-value (exprIn ns s p) _ x q e in
       let m = map-value _ _ x q (b .3) in
       let i = name-takes ns s (b .1) (m .0) q (m .1) in
       omega (arith, i)
-
-  -- equations, transitions one by one: one that does not read, one more
-  pub equations-stopped : (n p e z : ℕ) → e ≡ endOf (equationIn ns s p) → e ≡ 0 → 0 < n → endOf (many (equationIn ns s) n p) ≡ z → 0 ≡ z
-  equations-stopped n p e z i j l d = sym (many-stopped (equationIn ns s) n p (equation-past p) (sym i ∙ j) l) ∙ d
-
-  pub equations-went : (n p e z : ℕ) → e ≡ endOf (equationIn ns s p) → (e ≡ 0 → ⊥) → 0 < n → endOf (many (equationIn ns s) n p) ≡ z → endOf (many (equationIn ns s) (n - 1) e) ≡ z
-  equations-went n p e z i j l d = many-went (equationIn ns s) n p e z i (omega (arith, j)) l d
-
-  pub transitions-stopped : (n p e z : ℕ) → e ≡ endOf (transitionIn ns s p) → e ≡ 0 → 0 < n → endOf (many (transitionIn ns s) n p) ≡ z → 0 ≡ z
-  transitions-stopped n p e z i j l d = sym (many-stopped (transitionIn ns s) n p (transition-past p) (sym i ∙ j) l) ∙ d
-
-  pub transitions-went : (n p e z : ℕ) → e ≡ endOf (transitionIn ns s p) → (e ≡ 0 → ⊥) → 0 < n → endOf (many (transitionIn ns s) n p) ≡ z → endOf (many (transitionIn ns s) (n - 1) e) ≡ z
-  transitions-went n p e z i j l d = many-went (transitionIn ns s) n p e z i (omega (arith, j)) l d
 
   -- all of them, after their count
   pub equations-end : (at m : ℕ) (c : Num) → c ≡ numberIn s at → m ≡ endOf (many (equationIn ns s) (c .value) (c .next)) → m ≡ endOf (equationsIn ns s at)

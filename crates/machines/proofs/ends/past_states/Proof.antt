@@ -5,7 +5,7 @@ use Rattle.wire.specs.Answer.{many}
 use Rattle.pack.specs.Names.{Name}
 use Rattle.pack.specs.Read.{stateAt}
 use Rattle.machines.specs.Stands.{endOf}
-use Rattle.machines.proofs.ManyEnds.{counted-ends, many-done, states-stopped, states-went}
+use Rattle.machines.proofs.ManyEnds.{counted-ends, many-done, many-stopped, many-went, over-end, state-past}
 use borrow.Author.Needs.{needs}
 use Rattle.machines.proofs.ends.past_states.Statement.{statement}
 use Rattle.machines.proofs.ends.past_states.Tie as tie
@@ -26,7 +26,7 @@ past-of-requires : tie.Need-past-of-requires Inv-loop μ-loop
 past-of-requires c κs = search needs
 
 returns : tie.Need-returns Inv-loop μ-loop
-returns c = λ ns e. states-stopped ns _ _ _ _ _ (c .before .past-of .ensures ns e) (c .if1 .taken) (c .before .before .loop-test .taken) (c .before .before .before .loop .inv ns e) ∙ counted-ends (stateAt ns _) _ _ _ (c .before .before .before .before .number .ensures)
+returns c = λ ns e. many-stopped (stateAt ns _) (state-past ns _) _ _ _ _ (over-end ns _ _ _ (c .before .past-of .ensures ns e)) (c .if1 .taken) (c .before .before .loop-test .taken) (c .before .before .before .loop .inv ns e) ∙ counted-ends (stateAt ns _) _ _ _ (c .before .before .before .before .number .ensures)
 
 sub-n : tie.Need-sub-n Inv-loop μ-loop
 sub-n c = search needs
@@ -35,7 +35,7 @@ loop-less : tie.Need-loop-less Inv-loop μ-loop
 loop-less c = search needs
 
 loop-again : tie.Need-loop-again Inv-loop μ-loop
-loop-again c = λ ns e. states-went ns _ _ _ _ _ (c .before .past-of .ensures ns e) (c .if1 .left) (c .before .before .loop-test .taken) (c .before .before .before .loop .inv ns e)
+loop-again c = λ ns e. many-went (stateAt ns _) _ _ _ _ (over-end ns _ _ _ (c .before .past-of .ensures ns e)) (c .if1 .left) (c .before .before .loop-test .taken) (c .before .before .before .loop .inv ns e)
 
 returns-2 : tie.Need-returns-2 Inv-loop μ-loop
 returns-2 c = λ ns e. many-done (stateAt ns _) _ _ _ (c .loop-test .left) (c .before .loop .inv ns e) ∙ counted-ends (stateAt ns _) _ _ _ (c .before .before .number .ensures)

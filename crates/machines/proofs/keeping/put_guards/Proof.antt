@@ -7,8 +7,8 @@ use Rattle.pack.specs.Names.{Name}
 use Rattle.pack.specs.Read.{transitionIn}
 use Rattle.machines.specs.Stands.{endOf}
 use Rattle.machines.specs.Ends.{KeptRight}
-use Rattle.machines.proofs.ManyEnds.{many-done}
-use Rattle.machines.proofs.PartEnds.{transitions-stopped, transitions-went}
+use Rattle.machines.proofs.ManyEnds.{many-done, many-stopped, many-went}
+use Rattle.machines.proofs.PartEnds.{transition-past}
 use borrow.Author.Needs.{needs}
 use Rattle.machines.proofs.keeping.put_guards.Statement.{statement}
 use Rattle.machines.proofs.keeping.put_guards.Tie as tie
@@ -29,7 +29,7 @@ same-length : tie.Need-same-length Inv-loop μ-loop
 same-length c = c .before .before .before .put-guard .kept .1 .1 .0 ∙ c .before .before .before .before .before .before .loop .inv .2
 
 returns : tie.Need-returns Inv-loop μ-loop
-returns c = (λ ns e. transitions-stopped ns _ _ _ _ _ (c .before .before .before .put-guard .ensures .0 ns e) (c .if1 .taken) (c .before .before .before .before .before .loop-test .taken) (c .before .before .before .before .before .before .loop .inv .0 ns e), λ spots h. c .before .before .before .put-guard .ensures .1 spots (c .before .before .before .before .before .before .loop .inv .1 spots h))
+returns c = (λ ns e. many-stopped (transitionIn ns _) (transition-past ns _) _ _ _ _ (c .before .before .before .put-guard .ensures .0 ns e) (c .if1 .taken) (c .before .before .before .before .before .loop-test .taken) (c .before .before .before .before .before .before .loop .inv .0 ns e), λ spots h. c .before .before .before .put-guard .ensures .1 spots (c .before .before .before .before .before .before .loop .inv .1 spots h))
 
 sub-n : tie.Need-sub-n Inv-loop μ-loop
 sub-n c = search needs
@@ -38,7 +38,7 @@ loop-less : tie.Need-loop-less Inv-loop μ-loop
 loop-less c = search needs
 
 loop-again : tie.Need-loop-again Inv-loop μ-loop
-loop-again c = (λ ns e. transitions-went ns _ _ _ _ _ (c .before .before .before .put-guard .ensures .0 ns e) (c .if1 .left) (c .before .before .before .before .before .loop-test .taken) (c .before .before .before .before .before .before .loop .inv .0 ns e), λ spots h. c .before .before .before .put-guard .ensures .1 spots (c .before .before .before .before .before .before .loop .inv .1 spots h), c .before .before .before .put-guard .kept .1 .1 .0 ∙ c .before .before .before .before .before .before .loop .inv .2)
+loop-again c = (λ ns e. many-went (transitionIn ns _) _ _ _ _ (c .before .before .before .put-guard .ensures .0 ns e) (c .if1 .left) (c .before .before .before .before .before .loop-test .taken) (c .before .before .before .before .before .before .loop .inv .0 ns e), λ spots h. c .before .before .before .put-guard .ensures .1 spots (c .before .before .before .before .before .before .loop .inv .1 spots h), c .before .before .before .put-guard .kept .1 .1 .0 ∙ c .before .before .before .before .before .before .loop .inv .2)
 
 same-length-2 : tie.Need-same-length-2 Inv-loop μ-loop
 same-length-2 c = c .before .loop .inv .2
