@@ -24,6 +24,12 @@ ghost use Rattle.machines.specs.Stands.{endOf, overIn};
 ghost use Rattle.machines.specs.Lays.{movesAt, regionsAt};
 ghost use Rattle.machines.specs.Ends.{EndsRight};
 
+// Of a state: where its transitions begin; how many regions it has, and where they are.
+pub struct Inside {
+    pub moves: usize,
+    pub regions: Num,
+}
+
 // Past the equation at `at`.
 pub fn end_of(s: &[u8], names: usize, ends: &[u16], at: usize) -> usize
     requires { ⌜ (length (now s) ≤ 65536) × EndsRight (now s) names (now ends) ⌝ }
@@ -61,17 +67,20 @@ pub fn moves_of(s: &[u8], names: usize, ends: &[u16], at: usize) -> usize
     after_equations(s, names, i.next)
 }
 
-// How many regions the state at `at` has, and where they are.
-pub fn regions_of(s: &[u8], names: usize, ends: &[u16], at: usize) -> Num
+// What is inside the state at `at`, by one look.
+pub fn inside_of(s: &[u8], names: usize, ends: &[u16], at: usize) -> Inside
     requires { ⌜ (length (now s) ≤ 65536) × EndsRight (now s) names (now ends) ⌝ }
-    ensures { λ r. ⌜ ((ns : List Name) → length ns ≡ names → r ≡ regionsAt ns (now (s .entry)) at) ⌝ }
+    ensures { λ r. ⌜ ((ns : List Name) → length ns ≡ names → (r .moves ≡ movesAt ns (now (s .entry)) at) × (r .regions ≡ regionsAt ns (now (s .entry)) at)) ⌝ }
 {
     let r = kept_regions(ends, at);
     if 0 < r {
-        return number(s, r);
+        let moves = kept_moves(ends, at);
+        let regions = number(s, r);
+        return Inside { moves, regions };
     }
-    let m = moves_of(s, names, ends, at);
-    number(s, after_transitions(s, names, m))
+    let moves = moves_of(s, names, ends, at);
+    let regions = number(s, after_transitions(s, names, moves));
+    Inside { moves, regions }
 }
 
 // Past the state at `at`.

@@ -4,8 +4,7 @@ use crate::cells::cell;
 use crate::cover::both;
 use crate::empties::at_once;
 use crate::empties::open_regions;
-use crate::ends::moves_of;
-use crate::ends::regions_of;
+use crate::ends::inside_of;
 use crate::opening::Opening;
 use crate::opening::machine_as;
 use crate::spell::spell;
@@ -101,9 +100,9 @@ fn open_state(
     let i = number(s, c.next);
     let w = spell(s, spots, i.value, a, m, lets, c.letters);
     let l = sum(c.letters, 1);
-    let tr = moves_of(s, names, ends, c.next);
-    put_state_words(t, c.words, c.next, tr, l, w);
-    let n = regions_of(s, names, ends, c.next);
+    let d = inside_of(s, names, ends, c.next);
+    put_state_words(t, c.words, c.next, d.moves, l, w);
+    let n = d.regions;
     Entered {
         next: n.next,
         words: sum(c.words, 6),
