@@ -95,6 +95,7 @@ pub mod SettledTables
 pub mod TablesFilled
 pub mod PackCounts
 pub mod PartEnds
+pub mod StateEnds
 pub mod PackSettled
 pub mod SettledExample
 pub mod TablesKnown

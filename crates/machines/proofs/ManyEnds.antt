@@ -61,6 +61,9 @@ counted-ends f s at c e = ap (λ (y : Num). endOf (many f (y .value) (y .next)))
     go (illegal o) = refl
     go (deep o) = refl
 
+pub counted-done : {A : Type 0} (f : ℕ → Answer A) (s : List ℕ) (at n p : ℕ) (c : Num) → c ≡ numberIn s at → n ≤ 0 → endOf (many f n p) ≡ endOf (many f (c .value) (c .next)) → p ≡ endOf (counted f s at)
+counted-done f s at n p c e l d = many-done f n p _ l d ∙ counted-ends f s at c e
+
 -- a state that reads ends with an optional name, past 0
 pub state-past : (ns : List Name) (s : List ℕ) (p : ℕ) (x : OneState) (q : ℕ) → stateAt ns s p ≡ value x q → 0 < q
 unfolding stateAt

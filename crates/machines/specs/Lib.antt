@@ -9,6 +9,7 @@ pub mod Same
 pub mod Covers
 pub mod Laid
 pub mod Lays
+pub mod Heads
 pub mod Kept
 pub mod Drawn
 pub mod Empties

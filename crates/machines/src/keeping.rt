@@ -12,26 +12,35 @@ use crate::kept::keep_empties;
 use crate::kept::keep_state;
 use crate::sure::Num;
 use crate::sure::after_equation;
-use crate::sure::after_state;
 use crate::sure::machine;
 use crate::sure::number;
 use crate::sure::reached;
-use crate::sure::region;
 use crate::table::to_initial;
 use pack::parts::then_expr;
 use pack::parts::then_name;
+use pack::parts::then_optional;
 use pack::record::Pack;
 use wire::answer::Skipped;
+use wire::number::then_below;
 ghost use mathlib.Core.List.{List};
 ghost use mathlib.Core.Path.{_≡_};
-ghost use Prim.Native.Nat.{ℕ, _≤_};
+ghost use Prim.Native.Nat.{ℕ, _-_, _<_, _≤_};
 ghost use lib.ListN.{length};
-ghost use Rattle.wire.specs.Answer.{counted, many};
+ghost use Rattle.wire.specs.Answer.{Answer, counted, many};
+ghost use Rattle.pack.specs.Limits.{maxLevel};
 ghost use Rattle.pack.specs.Names.{Name};
-ghost use Rattle.pack.specs.Read.{equationIn, transitionIn};
-ghost use Rattle.machines.specs.Stands.{endOf};
-ghost use Rattle.machines.specs.Lays.{movesAt};
-ghost use Rattle.machines.specs.Ends.{HeadRead, KeptRight};
+ghost use Rattle.pack.specs.Read.{OneRegion, equationIn, regionAt, stateWith, transitionIn};
+ghost use Rattle.machines.specs.Stands.{endOf, overIn};
+ghost use Rattle.machines.specs.Heads.{headOf};
+ghost use Rattle.machines.specs.Ends.{KeptRight};
+
+// What is read of a state before its regions: its longest name and where that was read to, where its transitions begin, where its
+// regions' count stands.
+struct Head {
+    head: Num,
+    moves: usize,
+    regions: usize,
+}
 
 // Keeps where the equation at `at` ends, and answers it.
 fn put_end(s: &[u8], names: usize, ends: &mut [u16], at: usize) -> usize
@@ -91,38 +100,76 @@ fn put_guards(s: &[u8], names: usize, ends: &mut [u16], count: usize, from: usiz
     p
 }
 
-// Keeps what was read of the state at `at`: its head h, where its transitions are (m), where it ends (o), and where its regions'
-// count is (r). Bytes that are no state may be read past in two ways: such a state is not kept.
-fn put_state(ends: &mut [u16], at: usize, h: Num, m: usize, o: usize, r: usize)
-    ensures { λ _. ⌜ ((s : List ℕ) (names : ℕ) (spots : List ℕ) → KeptRight s names spots (now (ends .entry)) → HeadRead s names spots at h m o r → KeptRight s names spots (now (ends .exit))) ⌝ }
+// Keeps the state at `at` that ends at o (0: it does not read), with what was read before its regions. Bytes that are no state may
+// be read past in two ways: such a state is not kept.
+fn put_state(ends: &mut [u16], at: usize, h: Head, o: usize)
+    ensures { λ _. ⌜ ((s : List ℕ) (names : ℕ) (spots : List ℕ) → KeptRight s names spots (now (ends .entry)) → (0 < o → (ns : List Name) → length ns ≡ names → (h ≡ headOf ns s spots at) × (o ≡ overIn ns s at)) → KeptRight s names spots (now (ends .exit))) ⌝ }
 {
-    if h.next != r {
+    if o == 0 {
         return;
     }
-    let a = most(at, h.value);
-    let b = most(m, r);
+    let l = h.head;
+    if l.next != h.regions {
+        return;
+    }
+    let a = most(at, l.value);
+    let b = most(h.moves, h.regions);
     let c = most(a, b);
     if 65536 <= most(c, o) {
         return;
     }
-    keep_state(ends, at, h.value, m, o, r);
+    keep_state(ends, at, l.value, h.moves, o, h.regions);
 }
 
-// The equations, the guards and the head of the state at `at`; where its regions' count stands.
-fn put_head(s: &[u8], names: usize, spots: &[u16], ends: &mut [u16], at: usize) -> usize
+// Keeps the equations and the guards of the state at `at`; what is read of it before its regions.
+fn put_head(s: &[u8], names: usize, spots: &[u16], ends: &mut [u16], at: usize) -> Head
     requires { ⌜ (length (now s) ≤ 65536) × KeptRight (now s) names (now spots) (now ends) ⌝ }
-    ensures { λ r. ⌜ ((ns : List Name) → length ns ≡ names → r ≡ endOf (counted (transitionIn ns (now (s .entry))) (now (s .entry)) (movesAt ns (now (s .entry)) at))) ⌝ }
+    ensures { λ r. ⌜ ((ns : List Name) → length ns ≡ names → r ≡ headOf ns (now (s .entry)) (now (spots .entry)) at) ⌝ }
     ensures { λ _. ⌜ KeptRight (now (s .entry)) names (now (spots .entry)) (now (ends .exit)) ⌝ }
 {
     let i = number(s, at);
     let c = number(s, i.next);
-    let m = put_ends(s, names, ends, c.value, c.next);
-    let g = number(s, m);
-    let r = put_guards(s, names, ends, g.value, g.next);
-    let h = read_head(s, names, spots, ends, at, m);
-    let o = after_state(s, names, at);
-    put_state(ends, at, h, m, o, r);
-    r
+    let moves = put_ends(s, names, ends, c.value, c.next);
+    let g = number(s, moves);
+    let regions = put_guards(s, names, ends, g.value, g.next);
+    let head = read_head(s, names, spots, ends, at, moves);
+    Head {
+        head,
+        moves,
+        regions,
+    }
+}
+
+// Where the state at `at` ends, whose regions end at p; 0 where a part of it does not read.
+fn state_end(s: &[u8], names: usize, at: usize, h: Head, p: usize) -> usize
+    ensures { λ r. ⌜ ((ns : List Name) → length ns ≡ names → (spots : List ℕ) (f : ℕ → Answer OneRegion) → h ≡ headOf ns (now (s .entry)) spots at → p ≡ endOf (counted f (now (s .entry)) (h .regions)) → 0 < r → r ≡ endOf (stateWith f ns (now (s .entry)) at)) ⌝ }
+{
+    let n = reached(then_name(s, names, Skipped::To(at)));
+    if n == 0 {
+        return 0;
+    }
+    if h.moves == 0 {
+        return 0;
+    }
+    if h.regions == 0 {
+        return 0;
+    }
+    if p == 0 {
+        return 0;
+    }
+    reached(then_optional(s, names, Skipped::To(p)))
+}
+
+// How many states the region at `at` has, and where they are: they end where it does. None at 0 where its head does not read.
+fn states_in(s: &[u8], names: usize, at: usize) -> Num
+    ensures { λ r. ⌜ ((ns : List Name) → length ns ≡ names → (levels : ℕ) → (levels ≡ 0 → ⊥) → endOf (many (stateWith (regionAt (levels - 1) ns (now (s .entry))) ns (now (s .entry))) (r .value) (r .next)) ≡ endOf (regionAt levels ns (now (s .entry)) at)) ⌝ }
+{
+    let a = then_name(s, names, Skipped::To(at));
+    let b = then_below(s, 2, a);
+    let Skipped::To(p) = b else {
+        return Num { value: 0, next: 0 };
+    };
+    number(s, p)
 }
 
 // Keeps how many of n regions from `at` on have no states, where these are several; how many follow the one at `at`. Where `known`
@@ -172,7 +219,7 @@ fn put_closed(s: &[u8], names: usize, spots: &[u16], ends: &mut [u16], count: us
     }
 }
 
-// The state at `at` and the states in its regions; the offset after it.
+// The state at `at` and the states in its regions; the offset after it, 0 where it does not read.
 fn keep_in_state(
     s: &[u8],
     names: usize,
@@ -181,25 +228,30 @@ fn keep_in_state(
     levels: usize,
     at: usize,
 ) -> usize
-    requires { ⌜ (length (now s) ≤ 65536) × KeptRight (now s) names (now spots) (now ends) ⌝ }
+    requires { ⌜ (length (now s) ≤ 65536) × KeptRight (now s) names (now spots) (now ends) × (levels < maxLevel) ⌝ }
+    ensures { λ r. ⌜ ((ns : List Name) → length ns ≡ names → 0 < r → r ≡ endOf (stateWith (regionAt levels ns (now (s .entry))) ns (now (s .entry)) at)) ⌝ }
     ensures { λ _. ⌜ KeptRight (now (s .entry)) names (now (spots .entry)) (now (ends .exit)) ⌝ }
 {
-    let e = put_head(s, names, spots, ends, at);
-    let r = number(s, e);
+    let h = put_head(s, names, spots, ends, at);
+    let r = number(s, h.regions);
     let mut n = r.value;
     let mut p = r.next;
     let mut known = 0;
     while 0 < n {
-        let h = region(s, p);
+        let c = states_in(s, names, p);
         known = put_empties(s, names, spots, ends, n, known, p);
-        p = keep_in_states(s, names, spots, ends, levels, h.value, h.next);
+        p = keep_in_states(s, names, spots, ends, levels, c.value, c.next);
+        if p == 0 {
+            return 0;
+        }
         n = n - 1;
     }
-    let f = number(s, p);
-    f.next
+    let o = state_end(s, names, at, h, p);
+    put_state(ends, at, h, o);
+    o
 }
 
-// `count` states from `from` on; the offset after them.
+// `count` states from `from` on; the offset after them, 0 where one does not read.
 fn keep_in_states(
     s: &[u8],
     names: usize,
@@ -209,7 +261,8 @@ fn keep_in_states(
     count: usize,
     from: usize,
 ) -> usize
-    requires { ⌜ (length (now s) ≤ 65536) × KeptRight (now s) names (now spots) (now ends) ⌝ }
+    requires { ⌜ (length (now s) ≤ 65536) × KeptRight (now s) names (now spots) (now ends) × (levels ≤ maxLevel) ⌝ }
+    ensures { λ r. ⌜ ((ns : List Name) → length ns ≡ names → 0 < r → (levels ≡ 0 → ⊥) × (r ≡ endOf (many (stateWith (regionAt (levels - 1) ns (now (s .entry))) ns (now (s .entry))) count from))) ⌝ }
     ensures { λ _. ⌜ KeptRight (now (s .entry)) names (now (spots .entry)) (now (ends .exit)) ⌝ }
 {
     if levels == 0 {
@@ -219,6 +272,9 @@ fn keep_in_states(
     let mut p = from;
     while 0 < n {
         p = keep_in_state(s, names, spots, ends, levels - 1, p);
+        if p == 0 {
+            return 0;
+        }
         n = n - 1;
     }
     put_closed(s, names, spots, ends, count, from);

@@ -5,7 +5,7 @@ use Rattle.wire.specs.Answer.{many}
 use Rattle.pack.specs.Names.{Name}
 use Rattle.pack.specs.Read.{stateAt}
 use Rattle.machines.specs.Stands.{endOf}
-use Rattle.machines.proofs.ManyEnds.{counted-ends, many-done, many-stopped, many-went, over-end, state-past}
+use Rattle.machines.proofs.ManyEnds.{counted-done, counted-ends, many-stopped, many-went, over-end, state-past}
 use borrow.Author.Needs.{needs}
 use Rattle.machines.proofs.ends.past_states.Statement.{statement}
 use Rattle.machines.proofs.ends.past_states.Tie as tie
@@ -38,7 +38,7 @@ loop-again : tie.Need-loop-again Inv-loop μ-loop
 loop-again c = λ ns e. many-went (stateAt ns _) _ _ _ _ (over-end ns _ _ _ (c .before .past-of .ensures ns e)) (c .if1 .left) (c .before .before .loop-test .taken) (c .before .before .before .loop .inv ns e)
 
 returns-2 : tie.Need-returns-2 Inv-loop μ-loop
-returns-2 c = λ ns e. many-done (stateAt ns _) _ _ _ (c .loop-test .left) (c .before .loop .inv ns e) ∙ counted-ends (stateAt ns _) _ _ _ (c .before .before .number .ensures)
+returns-2 c = λ ns e. counted-done (stateAt ns _) _ _ _ _ _ (c .before .before .number .ensures) (c .loop-test .left) (c .before .loop .inv ns e)
 
 pub past-states-spec : {M : Type 1} → statement M
 past-states-spec =

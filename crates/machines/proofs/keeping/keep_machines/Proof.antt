@@ -3,6 +3,7 @@ use mathlib.Core.Path.{_≡_, refl, _∙_}
 use lib.ListN.{length}
 use borrow.Author.Needs.{needs}
 use Rattle.machines.specs.Ends.{KeptRight}
+use Rattle.machines.proofs.StateEnds.{all-levels}
 use Rattle.machines.proofs.keeping.keep_machines.Statement.{statement}
 use Rattle.machines.proofs.keeping.keep_machines.Tie as tie
 
@@ -28,7 +29,7 @@ machine-requires : tie.Need-machine-requires Inv-loop μ-loop
 machine-requires c κs = search needs
 
 keep-in-states-requires : tie.Need-keep-in-states-requires Inv-loop μ-loop
-keep-in-states-requires c κs = (c .before .before .before .before .before .before .before .before .before .before .pre .0, c .before .before .before .before .before .loop .inv .0)
+keep-in-states-requires c κs = (c .before .before .before .before .before .before .before .before .before .before .pre .0, c .before .before .before .before .before .loop .inv .0, all-levels)
 
 sub-n : tie.Need-sub-n Inv-loop μ-loop
 sub-n c = search needs
@@ -37,7 +38,7 @@ loop-less : tie.Need-loop-less Inv-loop μ-loop
 loop-less c = search needs
 
 loop-again : tie.Need-loop-again Inv-loop μ-loop
-loop-again c = (c .before .before .keep-in-states .ensures, c .before .before .keep-in-states .kept .1 .1 .1 .0 ∙ c .before .before .before .before .before .before .before .before .loop .inv .1)
+loop-again c = (c .before .before .keep-in-states .ensures .1, c .before .before .keep-in-states .kept .1 .1 .1 .0 ∙ c .before .before .before .before .before .before .before .before .loop .inv .1)
 
 same-length : tie.Need-same-length Inv-loop μ-loop
 same-length c = c .before .loop .inv .1

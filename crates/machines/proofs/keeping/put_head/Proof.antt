@@ -1,6 +1,6 @@
 use mathlib.Core.Path.{_∙_}
-use Rattle.machines.proofs.EndLaws.{head-read}
 use Rattle.machines.proofs.PartEnds.{equations-end, transitions-end}
+use Rattle.machines.proofs.StateEnds.{head-of}
 use borrow.Author.Needs.{needs}
 use Rattle.machines.proofs.keeping.put_head.Statement.{statement}
 use Rattle.machines.proofs.keeping.put_head.Tie as tie
@@ -23,19 +23,21 @@ put-guards-requires c κs = c .before .before .before .before .before .before .b
 read-head-requires : tie.Need-read-head-requires
 read-head-requires c κs = (c .before .before .before .before .before .before .before .before .before .before .before .before .before .before .before .pre .0, c .before .before .before .put-guards .ensures .1 _ (c .before .before .before .before .before .before .before .before .put-ends .ensures .1 _ (c .before .before .before .before .before .before .before .before .before .before .before .before .before .before .before .pre .1)) .ends)
 
-after-state-requires : tie.Need-after-state-requires
-after-state-requires c κs = c .before .before .before .before .before .before .before .before .before .before .before .before .before .before .before .before .pre .0
-
-put-state-requires : tie.Need-put-state-requires
-put-state-requires c κs = search needs
-
 same-length : tie.Need-same-length
-same-length c = c .before .before .put-state .kept .0 ∙ c .before .before .before .before .before .before .before .before .before .put-guards .kept .1 .1 .0 ∙ c .before .before .before .before .before .before .before .before .before .before .before .before .before .before .put-ends .kept .1 .1 .0
+same-length c = c .before .before .before .before .put-guards .kept .1 .1 .0 ∙ c .before .before .before .before .before .before .before .before .before .put-ends .kept .1 .1 .0
 
 returns : tie.Need-returns
-returns c =
-    let read = head-read _ _ _ _ _ _ _ _ _ (c .before .before .before .before .before .before .before .before .before .before .before .before .before .before .before .before .before .number .ensures) (λ ns n. equations-end ns _ _ _ _ (c .before .before .before .before .before .before .before .before .before .before .before .before .before .before .before .before .number2 .ensures) (c .before .before .before .before .before .before .before .before .before .before .before .before .before .before .put-ends .ensures .0 ns n)) (c .before .before .before .before .before .read-head .ensures) (c .before .before .before .before .after-state .ensures) (λ ns n. transitions-end ns _ _ _ _ (c .before .before .before .before .before .before .before .before .before .before .before .number3 .ensures) (c .before .before .before .before .before .before .before .before .before .put-guards .ensures .0 ns n)) in
-    (λ ns n. read .state ns n .regions, c .before .before .put-state .ensures _ _ _ (c .before .before .before .before .before .before .before .before .before .put-guards .ensures .1 _ (c .before .before .before .before .before .before .before .before .before .before .before .before .before .before .put-ends .ensures .1 _ (c .before .before .before .before .before .before .before .before .before .before .before .before .before .before .before .before .before .before .before .before .before .pre .1))) read)
+returns c = (λ ns n. head-of ns _ _ _ _ _ _ _ (c .before .before .before .before .before .before .before .before .before .before .before .before .number .ensures) (equations-end ns _ _ _ _ (c .before .before .before .before .before .before .before .before .before .before .before .number2 .ensures) (c .before .before .before .before .before .before .before .before .before .put-ends .ensures .0 ns n)) (c .read-head .ensures ns n) (transitions-end ns _ _ _ _ (c .before .before .before .before .before .before .number3 .ensures) (c .before .before .before .before .put-guards .ensures .0 ns n)), c .before .before .before .before .put-guards .ensures .1 _ (c .before .before .before .before .before .before .before .before .before .put-ends .ensures .1 _ (c .before .before .before .before .before .before .before .before .before .before .before .before .before .before .before .before .pre .1)))
 
 pub put-head-spec : {M : Type 1} → statement M
-put-head-spec = tie.close (tie.spec number-requires number-requires-2 put-ends-requires number-requires-3 put-guards-requires read-head-requires after-state-requires put-state-requires same-length returns)
+put-head-spec =
+    tie.close
+    (tie.spec
+    number-requires
+    number-requires-2
+    put-ends-requires
+    number-requires-3
+    put-guards-requires
+    read-head-requires
+    same-length
+    returns)
