@@ -1,5 +1,5 @@
 -- Laws for the code that passes over regions without states at once.
-use Prim.Native.Nat.{ℕ, zero, suc, _+_, _*_, _-_, _/_, _%_, _<_, _≤_}
+use Prim.Native.Nat.{ℕ, zero, suc, _+_, _*_, _-_, _/_, _<_, _≤_}
 use native.Mathlib.Omega.{arith}
 use mathlib.Core.List.{List, [], _∷_}
 use mathlib.Core.Bool.{Bool, true, false, _&&_}
@@ -12,7 +12,6 @@ use denote.Enum.Declared.{tagOf}
 use borrow.Author.Tests.{eq-eqb, ne-eqb, le-ltb, lt-ltb, eqb-true, eqb-false, ltb-true, ltb-false}
 use Rattle.pack.specs.Names.{Name}
 use Rattle.machines.proofs.walk.Walked as Walked-enum
-use Rattle.machines.specs.declared.empties.Empties.{Empties}
 use Rattle.machines.specs.declared.empties.Taken.{Taken}
 use Rattle.machines.specs.declared.lay.Lay.{Lay}
 use Rattle.machines.specs.declared.opening.Opening.{Opening}
@@ -21,13 +20,13 @@ use Rattle.machines.specs.declared.sure.Num.{Num}
 use Rattle.machines.specs.declared.walk.Walked.{Walked}
 use Rattle.machines.specs.declared.walk.Walked.the-variants as wk
 use Rattle.machines.specs.Sure.{num, regionIn, with}
-use Rattle.machines.specs.Walks.{goOn, headT, lenAt, maxOf, regionW, rounds, walk}
+use Rattle.machines.specs.Walks.{goOn, lenAt, maxOf, regionW, rounds, walk}
 use Rattle.machines.specs.Lays.{Board, board, fed, inner, layRegion, movedTo, opening, passed, regionB, regionFrom, tally}
-use Rattle.machines.specs.Kept.{emptiesIn, emptyLongest, emptyMark, markIn, ofEmpty, rowPut}
+use Rattle.machines.specs.Kept.{besideIn, keptIn, markIn, ofEmpty}
 use Rattle.machines.specs.Empties.{AtOnce, EmptyRun, emptyAt, emptyD, longestD, openedOf, taken, takenOf}
-use Rattle.machines.specs.Ends.{EndsRight, KeptRight, RowRight, StateRight}
+use Rattle.machines.specs.Ends.{EndsRight, KeptRight}
 use Rattle.machines.proofs.SureLaws.{both-true, on}
-use Rattle.machines.proofs.KeptLaws.{empties-cases, rows-put, states-put}
+use Rattle.machines.proofs.EndLaws.{row-kept}
 use Rattle.machines.proofs.LayLaws.{inner-went, region-left, region-on as laid-on}
 use Rattle.machines.proofs.WalkLaws.{most-less, most-not, region-on, rounds-stopped, rounds-went, stopped, went-on}
 
@@ -120,28 +119,26 @@ seen-all s spots from n k l p f h =
 pub one-at-once : (t : List ℕ) (n at : ℕ) → 0 < n → AtOnce t n at 1
 one-at-once t n at h = record { some = omega arith; few = omega (arith, h); small = omega arith; kept = λ l. absurd (omega (arith, l)) }
 
-pub kept-near : (t : List ℕ) (p k : ℕ) → k ≡ emptiesIn t p → 0 < k → p < 65536
-kept-near t p k e l = empties-cases (λ (x : ℕ). 0 < x → p < 65536) t p (λ z. absurd (omega (arith, z))) (λ h m z. h) (subst (λ (x : ℕ). 0 < x) e l)
+pub kept-near : (t : List ℕ) (p k : ℕ) → k ≡ keptIn t p ofEmpty → 0 < k → p < 65536
+kept-near t p k e l = row-kept (λ (x : ℕ). p < 65536) t p ofEmpty k e l (λ i z m. i)
 
 pub once-near : (t : List ℕ) (n at k : ℕ) → AtOnce t n at k → (k < 65536) × (1 < k → at < 65536)
 once-near t n at k h = (h .small, λ l. kept-near t at k (h .kept l) (omega (arith, l)))
 
 module _ (ns : List Name) (s : List ℕ) (names : ℕ) (t : List ℕ) where
-  empties-kept : length ns ≡ names → EndsRight s names t → (p k : ℕ) → k ≡ emptiesIn t p → 0 < k → emptyD s k p ≡ true
-  empties-kept n h p k e l =
-      subst (λ (x : ℕ). emptyD s x p ≡ true) (sym e) (empties-cases (λ (x : ℕ). 0 < x → emptyD s x p ≡ true) t p (λ z. absurd (omega (arith, z))) (λ i m z. h .rows ns n p i z .empty m) (subst (λ (x : ℕ). 0 < x) e l))
+  empties-kept : length ns ≡ names → EndsRight s names t → (p k : ℕ) → k ≡ keptIn t p ofEmpty → 0 < k → emptyD s k p ≡ true
+  empties-kept n h p k e l = row-kept (λ (x : ℕ). emptyD s x p ≡ true) t p ofEmpty k e l (λ i z m. h .rows ns n p i z .empty m)
 
-initials-kept : (s : List ℕ) (names : ℕ) (spots t : List ℕ) → KeptRight s names spots t → (p k : ℕ) → k ≡ emptiesIn t p → 0 < k → emptyLongest t p ≡ longestD s spots k p 0
-unfolding emptyLongest
-initials-kept s names spots t h p k e l =
-    subst (λ (x : ℕ). markIn t p / 32 ≡ longestD s spots x p 0) (sym e) (empties-cases (λ (x : ℕ). 0 < x → markIn t p / 32 ≡ longestD s spots x p 0) t p (λ z. absurd (omega (arith, z))) (λ i m z. h .empties p i z m) (subst (λ (x : ℕ). 0 < x) e l))
+initials-kept : (s : List ℕ) (names : ℕ) (spots t : List ℕ) → KeptRight s names spots t → (p k : ℕ) → k ≡ keptIn t p ofEmpty → 0 < k → besideIn t p ≡ longestD s spots k p 0
+unfolding besideIn
+initials-kept s names spots t h p k e l = row-kept (λ (x : ℕ). markIn t p / 32 ≡ longestD s spots x p 0) t p ofEmpty k e l (h .empties p)
 
 -- what is taken of them
 pub taken-one : (s spots t : List ℕ) (k at l : ℕ) (g : Num) → k < 2 → g ≡ regionIn s at → l ≡ lenAt s spots at → taken (g .value) (g .next) l ≡ takenOf s spots t k at
 unfolding takenOf
 taken-one s spots t k at l g e a b = rw (lt-ltb k 2 e) (on g _ _ _ a (ap (taken (g .value) (g .next)) b))
 
-pub taken-more : (s spots t : List ℕ) (k at l : ℕ) → 2 ≤ k → l ≡ emptyLongest t at → taken 0 (at + 5 * k) l ≡ takenOf s spots t k at
+pub taken-more : (s spots t : List ℕ) (k at l : ℕ) → 2 ≤ k → l ≡ besideIn t at → taken 0 (at + 5 * k) l ≡ takenOf s spots t k at
 unfolding takenOf
 taken-more s spots t k at l e b = rw (le-ltb k 2 e) (ap (taken 0 (at + 5 * k)) b)
 
@@ -209,7 +206,7 @@ module _ (ns : List Name) (s : List ℕ) (names : ℕ) (spots to t : List ℕ) (
   unfolding walk rounds Goes nextOf statesOf longestOf
   several zero p n k o c a q d w b g e m h x y z v = absurd (subst Goes (sym z ∙ y) tt)
   several (suc l) p n k o c a q d w b g e m h x y z v =
-      let f = x ∙ sym (taken-more s spots t k o (emptyLongest t o) (omega (arith, m)) refl) in
+      let f = x ∙ sym (taken-more s spots t k o (besideIn t o) (omega (arith, m)) refl) in
       let r : wk.Went q d w ≡ wk.Went (o + 5 * k) c 0 = sym z ∙ y ∙ (λ i. walk ns s spots to (suc l) p (f i .states) (f i .next) c) in
       let i : longestD s spots k o a ≡ b = longest-from s spots k o a ∙ sym (v ∙ (λ j. maxOf a (maxOf ((ap (λ (x : Taken). x .longest) f ∙ initials-kept s names spots t right o k (h .kept m) (omega (arith, m))) j) (ap longestOf r j))) ∙ ap (maxOf a) (max-none (longestD s spots k o 0))) in
       run-rounds ns s spots to l p k n o c a (h .few) (empties-kept ns s names t same (right .ends) o k (h .kept m) (omega (arith, m)))
@@ -243,7 +240,7 @@ module _ (ns : List Name) (s : List ℕ) (names : ℕ) (spots to t : List ℕ) (
       go zero false u y r = rounds-stopped (regionW ns s spots to (walk ns s spots to 0) p) n o c a e z (omega (arith, h .some, h .few)) v y r
       go (suc l) false u y r =
           let many : 1 < k = omega (arith, h .some, eqb-false k 1 u) in
-          let made = f ∙ sym (taken-more s spots t k o (emptyLongest t o) (omega (arith, many)) refl) in
+          let made = f ∙ sym (taken-more s spots t k o (besideIn t o) (omega (arith, many)) refl) in
           absurd (went-not e (o + 5 * k) c 0 v (y ∙ (λ i. walk ns s spots to (suc l) p (made i .states) (made i .next) c)))
 
 tally-same : (k w : ℕ) → tally k w w ≡ k
@@ -303,26 +300,3 @@ module _ (ns : List Name) (s : List ℕ) (names : ℕ) (spots to t : List ℕ) (
       → board t2 reg2 lets2 d ≡ layRegion ns s spots to l st up a m h (board t1 reg1 lets1 e) → i ≡ tally j (e .words) (d .words)
       → inner (regionB ns s spots to (layRegion ns s spots to l) st up a m) (n - k) i (board t2 reg2 lets2 d) f ≡ inner (regionB ns s spots to (layRegion ns s spots to l) st up a m) n j (board t1 reg1 lets1 e) f
   opened-on l st up a m n k j i t1 reg1 lets1 t2 reg2 lets2 e d h f o g x y v = opened-went l st up a m n k j i (board t1 reg1 lets1 e) (board t2 reg2 lets2 d) _ h f o g x y v refl
-
-meant : (p q l : ℕ) → q / 5 ≡ p / 5 → (p % 5 + 16 + 32 * l) % 32 ≡ q % 5 + 16 → p ≡ q
-meant p q l a b = omega arith
-
--- what was seen is kept
-pub empties-put : (s : List ℕ) (names : ℕ) (spots t u : List ℕ) (at n : ℕ) (e : Empties) → EmptyRun s spots n at e → u ≡ rowPut t at (emptyMark at (e .longest)) (e .count) → KeptRight s names spots t → KeptRight s names spots u
-unfolding emptyMark
-empties-put s names spots t u at n e h q k =
-    subst (KeptRight s names spots) (sym q) (record {
-      ends = record {
-        rows = λ ns g. rows-put (RowRight ns s) t at (at % 5 + 16 + 32 * e .longest) (e .count) (k .ends .rows ns g) (λ p d. record {
-          equation = λ x. absurd (omega arith);
-          guard = λ x. absurd (omega arith);
-          closed = λ x. absurd (omega arith);
-          empty = λ x. subst (λ (y : ℕ). emptyD s (e .count) y ≡ true) (meant at p (e .longest) d x) (h .none);
-        });
-        states = λ ns g. states-put (λ p l m o r. StateRight ns s p m o r) t at (at % 5 + 16 + 32 * e .longest) (e .count) (k .ends .states ns g);
-      };
-      heads = λ ns g. states-put (λ p l m o r. num l r ≡ headT ns s spots p) t at (at % 5 + 16 + 32 * e .longest) (e .count) (k .heads ns g);
-      empties = rows-put (λ p m v. m % 32 ≡ p % 5 + ofEmpty → m / 32 ≡ longestD s spots v p 0) t at (at % 5 + 16 + 32 * e .longest) (e .count) (k .empties) (λ p d x.
-          let i : (at % 5 + 16 + 32 * e .longest) / 32 ≡ e .longest = omega arith in
-          i ∙ h .longest ∙ ap (λ (y : ℕ). longestD s spots (e .count) y 0) (meant at p (e .longest) d x));
-    })

@@ -1,5 +1,5 @@
 -- Laws for the code that keeps equations, guards, regions and states, and looks them up.
-use Prim.Native.Nat.{ℕ, _+_, _-_, _/_, _%_, _<_, _≤_}
+use Prim.Native.Nat.{ℕ, _+_, _*_, _-_, _/_, _%_, _<_, _≤_}
 use native.Mathlib.Omega.{arith}
 use mathlib.Core.List.{List}
 use mathlib.Core.Bool.{Bool, false, true}
@@ -10,19 +10,20 @@ use borrow.Author.Tests.{ltb-true, ltb-false}
 use Rattle.wire.specs.Answer.{counted}
 use Rattle.pack.specs.Names.{Name}
 use Rattle.pack.specs.Read.{equationIn, equationsIn, exprIn, transitionIn}
+use Rattle.machines.specs.declared.empties.Empties.{Empties}
 use Rattle.machines.specs.declared.sure.Num.{Num}
 use Rattle.machines.specs.Stands.{endOf, overIn}
 use Rattle.machines.specs.Sure.{num, numberIn}
 use Rattle.machines.specs.Walks.{headT, maxOf}
 use Rattle.machines.specs.Lays.{movesAt, regionsAt}
 use Rattle.machines.specs.Drawn.{closedD}
-use Rattle.machines.specs.Empties.{longestD}
-use Rattle.machines.specs.Kept.{keptIn, longestIn, markIn, movesIn, ofClosed, ofEmpty, ofEquation, ofGuard, pastIn, regionsIn, rowPut, statePut, valueIn}
+use Rattle.machines.specs.Empties.{EmptyRun, longestD}
+use Rattle.machines.specs.Kept.{keptIn, longestIn, markIn, movesIn, ofClosed, ofEmpty, ofEquation, ofGuard, pastIn, regionsIn, rowMark, rowPut, statePut, valueIn}
 use Rattle.machines.specs.Ends.{Blank, EndsRight, HeadRead, KeptRight, RowRight, StateRight}
 use Rattle.machines.proofs.KeptLaws.{kept-cases, regions-none, rows-none, rows-put, rows-state, states-more, states-put}
 
 -- what is kept of a thing of the kind k is what its row says
-pub row-kept : (P : ℕ → Type 0) (t : List ℕ) (p k e : ℕ) → e ≡ keptIn t p k → 0 < e → (p < 65536 → 0 < valueIn t p → markIn t p ≡ p % 5 + k → P (valueIn t p)) → P e
+pub row-kept : (P : ℕ → Type 0) (t : List ℕ) (p k e : ℕ) → e ≡ keptIn t p k → 0 < e → (p < 65536 → 0 < valueIn t p → markIn t p % 32 ≡ p % 5 + k → P (valueIn t p)) → P e
 row-kept P t p k e q l f =
     subst P (sym q) (kept-cases (λ (x : ℕ). 0 < x → P x) t p k (λ z. absurd (omega (arith, z))) (λ i m z. f i z m) (subst (λ (x : ℕ). 0 < x) q l))
 
@@ -90,43 +91,68 @@ head-read s names spots at i h m o r e q k v w = record {
   };
 }
 
+-- whose a mark is
+kind-of : (p k x : ℕ) → k ≤ 16 → rowMark p k x % 32 ≡ p % 5 + k
+unfolding rowMark
+kind-of p k x h = omega arith
+
 -- the kinds of two things of one row are told apart by five: a mark that is right for one of them means that one
-mine : (p q k j : ℕ) → q / 5 ≡ p / 5 → k % 5 ≡ 1 → j % 5 ≡ 1 → p % 5 + k ≡ q % 5 + j → p ≡ q
-mine p q k j a b c d = omega arith
+told : (p q k j : ℕ) → q / 5 ≡ p / 5 → k % 5 ≡ 1 → j % 5 ≡ 1 → p % 5 + k ≡ q % 5 + j → p ≡ q
+told p q k j a b c d = omega arith
+
+mine : (p q k j x : ℕ) → q / 5 ≡ p / 5 → k % 5 ≡ 1 → k ≤ 16 → j % 5 ≡ 1 → rowMark p k x % 32 ≡ q % 5 + j → p ≡ q
+mine p q k j x a b c d e = told p q k j a b d (sym (kind-of p k x c) ∙ e)
 
 -- one row more, of the kind k
-pub row-put : (s : List ℕ) (names : ℕ) (t : List ℕ) (at k v : ℕ) → k % 5 ≡ 1 → k ≤ 11 → ((ns : List Name) → length ns ≡ names → RowRight ns s at (at % 5 + k) v)
-    → (u : List ℕ) → u ≡ rowPut t at (at % 5 + k) v → (spots : List ℕ) → KeptRight s names spots t → KeptRight s names spots u
-row-put s names t at k v c b r u q spots h =
+row-put : (s : List ℕ) (names : ℕ) (t : List ℕ) (at k x v : ℕ) → k % 5 ≡ 1 → k ≤ 16 → ((ns : List Name) → length ns ≡ names → RowRight ns s at (rowMark at k x) v)
+    → (u : List ℕ) → u ≡ rowPut t at (rowMark at k x) v → (spots : List ℕ) → (rowMark at k x % 32 ≡ at % 5 + ofEmpty → rowMark at k x / 32 ≡ longestD s spots v at 0)
+    → KeptRight s names spots t → KeptRight s names spots u
+row-put s names t at k x v c b r u q spots l h =
     subst (KeptRight s names spots) (sym q) (record {
       ends = record {
-        rows = λ ns n. rows-put (RowRight ns s) t at (at % 5 + k) v (h .ends .rows ns n) (λ p g. record {
-          equation = λ x. subst (λ (y : ℕ). RowRight ns s y (at % 5 + k) v) (mine at p k 1 g c refl x) (r ns n) .equation x;
-          guard = λ x. subst (λ (y : ℕ). RowRight ns s y (at % 5 + k) v) (mine at p k 6 g c refl x) (r ns n) .guard x;
-          closed = λ x. subst (λ (y : ℕ). RowRight ns s y (at % 5 + k) v) (mine at p k 11 g c refl x) (r ns n) .closed x;
-          empty = λ x. absurd (omega arith);
+        rows = λ ns n. rows-put (RowRight ns s) t at (rowMark at k x) v (h .ends .rows ns n) (λ p g. record {
+          equation = λ y. subst (λ (z : ℕ). RowRight ns s z (rowMark at k x) v) (mine at p k 1 x g c b refl y) (r ns n) .equation y;
+          guard = λ y. subst (λ (z : ℕ). RowRight ns s z (rowMark at k x) v) (mine at p k 6 x g c b refl y) (r ns n) .guard y;
+          closed = λ y. subst (λ (z : ℕ). RowRight ns s z (rowMark at k x) v) (mine at p k 11 x g c b refl y) (r ns n) .closed y;
+          empty = λ y. subst (λ (z : ℕ). RowRight ns s z (rowMark at k x) v) (mine at p k 16 x g c b refl y) (r ns n) .empty y;
         });
-        states = λ ns n. states-put (λ p l m o r. StateRight ns s p m o r) t at (at % 5 + k) v (h .ends .states ns n);
+        states = λ ns n. states-put (λ p l m o r. StateRight ns s p m o r) t at (rowMark at k x) v (h .ends .states ns n);
       };
-      heads = λ ns n. states-put (λ p l m o r. num l r ≡ headT ns s spots p) t at (at % 5 + k) v (h .heads ns n);
-      empties = rows-put (λ p m v. m % 32 ≡ p % 5 + ofEmpty → m / 32 ≡ longestD s spots v p 0) t at (at % 5 + k) v (h .empties) (λ p g x. absurd (omega arith));
+      heads = λ ns n. states-put (λ p l m o r. num l r ≡ headT ns s spots p) t at (rowMark at k x) v (h .heads ns n);
+      empties = rows-put (λ p m v. m % 32 ≡ p % 5 + ofEmpty → m / 32 ≡ longestD s spots v p 0) t at (rowMark at k x) v (h .empties) (λ p g y.
+          let e = mine at p k 16 x g c b refl y in
+          l (y ∙ ap (λ (z : ℕ). z % 5 + ofEmpty) (sym e)) ∙ ap (λ (z : ℕ). longestD s spots v z 0) e);
     })
 
-pub end-put : (s : List ℕ) (names : ℕ) (t u : List ℕ) (at e : ℕ) → ((ns : List Name) → length ns ≡ names → e ≡ endOf (equationIn ns s at)) → u ≡ rowPut t at (at % 5 + ofEquation) e
+pub end-put : (s : List ℕ) (names : ℕ) (t u : List ℕ) (at e : ℕ) → ((ns : List Name) → length ns ≡ names → e ≡ endOf (equationIn ns s at)) → u ≡ rowPut t at (rowMark at ofEquation 0) e
     → (spots : List ℕ) → KeptRight s names spots t → KeptRight s names spots u
-end-put s names t u at e r q =
-    row-put s names t at ofEquation e refl (omega arith) (λ ns n. record { equation = λ x. r ns n; guard = λ x. absurd (omega arith); closed = λ x. absurd (omega arith); empty = λ x. absurd (omega arith) }) u q
+unfolding rowMark
+end-put s names t u at e r q spots =
+    row-put s names t at ofEquation 0 e refl (omega arith) (λ ns n. record { equation = λ x. r ns n; guard = λ x. absurd (omega arith); closed = λ x. absurd (omega arith); empty = λ x. absurd (omega arith) }) u q spots
+    (λ x. absurd (omega arith))
 
-pub guard-put : (s : List ℕ) (names : ℕ) (t u : List ℕ) (at e : ℕ) → ((ns : List Name) → length ns ≡ names → e ≡ endOf (exprIn ns s at)) → u ≡ rowPut t at (at % 5 + ofGuard) e
+pub guard-put : (s : List ℕ) (names : ℕ) (t u : List ℕ) (at e : ℕ) → ((ns : List Name) → length ns ≡ names → e ≡ endOf (exprIn ns s at)) → u ≡ rowPut t at (rowMark at ofGuard 0) e
     → (spots : List ℕ) → KeptRight s names spots t → KeptRight s names spots u
-guard-put s names t u at e r q =
-    row-put s names t at ofGuard e refl (omega arith) (λ ns n. record { equation = λ x. absurd (omega arith); guard = λ x. r ns n; closed = λ x. absurd (omega arith); empty = λ x. absurd (omega arith) }) u q
+unfolding rowMark
+guard-put s names t u at e r q spots =
+    row-put s names t at ofGuard 0 e refl (omega arith) (λ ns n. record { equation = λ x. absurd (omega arith); guard = λ x. r ns n; closed = λ x. absurd (omega arith); empty = λ x. absurd (omega arith) }) u q spots
+    (λ x. absurd (omega arith))
 
-pub closed-put : (s : List ℕ) (names : ℕ) (t u : List ℕ) (f n : ℕ) → 5 ≤ f → ((ns : List Name) → length ns ≡ names → true ≡ closedD ns s n f) → u ≡ rowPut t (f - 5) ((f - 5) % 5 + ofClosed) n
+pub closed-put : (s : List ℕ) (names : ℕ) (t u : List ℕ) (f n : ℕ) → 5 ≤ f → ((ns : List Name) → length ns ≡ names → true ≡ closedD ns s n f) → u ≡ rowPut t (f - 5) (rowMark (f - 5) ofClosed 0) n
     → (spots : List ℕ) → KeptRight s names spots t → KeptRight s names spots u
-closed-put s names t u f n b r q =
+unfolding rowMark
+closed-put s names t u f n b r q spots =
     let m : f - 5 + 5 ≡ f = omega (arith, b) in
-    row-put s names t (f - 5) ofClosed n refl (omega arith) (λ ns e. record { equation = λ x. absurd (omega arith); guard = λ x. absurd (omega arith); closed = λ x. ap (closedD ns s n) m ∙ sym (r ns e); empty = λ x. absurd (omega arith) }) u q
+    row-put s names t (f - 5) ofClosed 0 n refl (omega arith) (λ ns e. record { equation = λ x. absurd (omega arith); guard = λ x. absurd (omega arith); closed = λ x. ap (closedD ns s n) m ∙ sym (r ns e); empty = λ x. absurd (omega arith) }) u q spots
+    (λ x. absurd (omega arith))
+
+pub empties-put : (s : List ℕ) (names : ℕ) (spots t u : List ℕ) (at n : ℕ) (e : Empties) → EmptyRun s spots n at e → u ≡ rowPut t at (rowMark at ofEmpty (e .longest)) (e .count)
+    → KeptRight s names spots t → KeptRight s names spots u
+unfolding rowMark
+empties-put s names spots t u at n e h q =
+    let l : (at % 5 + ofEmpty + 32 * e .longest) / 32 ≡ e .longest = omega arith in
+    row-put s names t at ofEmpty (e .longest) (e .count) refl (omega arith) (λ ns d. record { equation = λ x. absurd (omega arith); guard = λ x. absurd (omega arith); closed = λ x. absurd (omega arith); empty = λ x. h .none }) u q spots
+    (λ x. l ∙ h .longest)
 
 -- one state more
 pub state-put : (t u : List ℕ) (at : ℕ) (h : Num) (m o r : ℕ) → h .next ≡ r → u ≡ statePut t at (h .value) m o r

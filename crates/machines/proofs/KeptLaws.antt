@@ -9,36 +9,24 @@ use lib.ListN.{length, getD, set, length-set, List·getD-eq-default}
 use lib.Seq.{getD-set-other, getD-set-same}
 use lib.Dec.{eqb, ltb}
 use borrow.Author.Tests.{eq-eqb, ne-eqb, lt-ltb, le-ltb, eqb-true, eqb-false, ltb-true, ltb-false}
-use Rattle.machines.specs.Kept.{emptiesIn, emptyLongest, emptyMark, keptIn, longestIn, markIn, movesIn, ofEmpty, pastIn, regionsIn, rowPut, statePut, stateRow, valueIn}
+use Rattle.machines.specs.Kept.{besideIn, keptIn, longestIn, markIn, movesIn, pastIn, regionsIn, rowMark, rowPut, statePut, stateRow, valueIn}
 
 -- what the code does
 pub kept-far : (t : List ℕ) (p k : ℕ) → 65536 ≤ p → 0 ≡ keptIn t p k
 unfolding keptIn
 kept-far t p k h = rw (le-ltb p 65536 h)
 
-pub kept-is : (t : List ℕ) (p k m e : ℕ) → p < 65536 → m ≡ getD t (2 * (p / 5)) 0 → m ≡ p % 5 + k → e ≡ getD t (2 * (p / 5) + 1) 0 → e ≡ keptIn t p k
+pub kept-is : (t : List ℕ) (p k m e : ℕ) → p < 65536 → m ≡ getD t (2 * (p / 5)) 0 → m % 32 ≡ p % 5 + k → e ≡ getD t (2 * (p / 5) + 1) 0 → e ≡ keptIn t p k
 unfolding keptIn markIn valueIn
-kept-is t p k m e h g w v = rw (lt-ltb p 65536 h, eq-eqb (getD t (2 * (p / 5)) 0) (p % 5 + k) (sym g ∙ w)) v
+kept-is t p k m e h g w v = rw (lt-ltb p 65536 h, eq-eqb (getD t (2 * (p / 5)) 0 % 32) (p % 5 + k) (ap (λ (x : ℕ). x % 32) (sym g) ∙ w)) v
 
-pub kept-not : (t : List ℕ) (p k m : ℕ) → p < 65536 → m ≡ getD t (2 * (p / 5)) 0 → (m ≡ p % 5 + k → ⊥) → 0 ≡ keptIn t p k
+pub kept-not : (t : List ℕ) (p k m : ℕ) → p < 65536 → m ≡ getD t (2 * (p / 5)) 0 → (m % 32 ≡ p % 5 + k → ⊥) → 0 ≡ keptIn t p k
 unfolding keptIn markIn
-kept-not t p k m h g w = rw (lt-ltb p 65536 h, ne-eqb (getD t (2 * (p / 5)) 0) (p % 5 + k) (λ x. w (g ∙ x)))
+kept-not t p k m h g w = rw (lt-ltb p 65536 h, ne-eqb (getD t (2 * (p / 5)) 0 % 32) (p % 5 + k) (λ x. w (ap (λ (y : ℕ). y % 32) g ∙ x)))
 
-pub empties-far : (t : List ℕ) (p : ℕ) → 65536 ≤ p → 0 ≡ emptiesIn t p
-unfolding emptiesIn
-empties-far t p h = rw (le-ltb p 65536 h)
-
-pub empties-is : (t : List ℕ) (p m e : ℕ) → p < 65536 → m ≡ getD t (2 * (p / 5)) 0 → m % 32 ≡ p % 5 + 16 → e ≡ getD t (2 * (p / 5) + 1) 0 → e ≡ emptiesIn t p
-unfolding emptiesIn markIn valueIn
-empties-is t p m e h g w v = rw (lt-ltb p 65536 h, eq-eqb (getD t (2 * (p / 5)) 0 % 32) (p % 5 + 16) (ap (λ (x : ℕ). x % 32) (sym g) ∙ w)) v
-
-pub empties-not : (t : List ℕ) (p m : ℕ) → p < 65536 → m ≡ getD t (2 * (p / 5)) 0 → (m % 32 ≡ p % 5 + 16 → ⊥) → 0 ≡ emptiesIn t p
-unfolding emptiesIn markIn
-empties-not t p m h g w = rw (lt-ltb p 65536 h, ne-eqb (getD t (2 * (p / 5)) 0 % 32) (p % 5 + 16) (λ x. w (ap (λ (y : ℕ). y % 32) g ∙ x)))
-
-pub empty-longest-is : (t : List ℕ) (p m r : ℕ) → m ≡ getD t (2 * (p / 5)) 0 → r ≡ m / 32 → r ≡ emptyLongest t p
-unfolding emptyLongest markIn
-empty-longest-is t p m r h g = g ∙ ap (λ (x : ℕ). x / 32) h
+pub beside-is : (t : List ℕ) (p m r : ℕ) → m ≡ getD t (2 * (p / 5)) 0 → r ≡ m / 32 → r ≡ besideIn t p
+unfolding besideIn markIn
+beside-is t p m r h g = g ∙ ap (λ (x : ℕ). x / 32) h
 
 pub row-far : (t : List ℕ) (p m v : ℕ) → 65536 ≤ p → t ≡ rowPut t p m v
 unfolding rowPut
@@ -58,9 +46,9 @@ row-is t u w p m v f g h x y =
     rw (lt-ltb p 65536 f, lt-ltb m 65536 g, lt-ltb v 65536 h)
     (y ∙ (λ i. set (x i) (2 * (p / 5) + 1) (mod-eq-of-lt h i)) ∙ (λ i. set (set t (2 * (p / 5)) (mod-eq-of-lt g i)) (2 * (p / 5) + 1) v))
 
-pub empty-mark-is : (t u : List ℕ) (p l n : ℕ) → u ≡ rowPut t p (p % 5 + 16 + 32 * l) n → u ≡ rowPut t p (emptyMark p l) n
-unfolding emptyMark
-empty-mark-is t u p l n h = h
+pub mark-is : (t u : List ℕ) (p k x v : ℕ) → u ≡ rowPut t p (p % 5 + k + 32 * x) v → u ≡ rowPut t p (rowMark p k x) v
+unfolding rowMark
+mark-is t u p k x v h = h
 
 pub state-row-is : (p r : ℕ) → r ≡ 26216 + 5 * (p / 10) → r ≡ stateRow p
 unfolding stateRow
@@ -118,21 +106,12 @@ row-cases P t p m v x y = go (ltb p 65536) refl
     go true h = rw h (on (ltb m 65536 && ltb v 65536) (ltb-true p 65536 h))
     go false h = rw h x
 
-pub kept-cases : (P : ℕ → Type 0) (t : List ℕ) (p k : ℕ) → P 0 → (p < 65536 → markIn t p ≡ p % 5 + k → P (valueIn t p)) → P (keptIn t p k)
+pub kept-cases : (P : ℕ → Type 0) (t : List ℕ) (p k : ℕ) → P 0 → (p < 65536 → markIn t p % 32 ≡ p % 5 + k → P (valueIn t p)) → P (keptIn t p k)
 unfolding keptIn
-kept-cases P t p k x y = go (ltb p 65536) (eqb (markIn t p) (p % 5 + k)) refl refl
+kept-cases P t p k x y = go (ltb p 65536) (eqb (markIn t p % 32) (p % 5 + k)) refl refl
   where
-    go : (b c : Bool) → ltb p 65536 ≡ b → eqb (markIn t p) (p % 5 + k) ≡ c → P (cond (ltb p 65536) (cond (eqb (markIn t p) (p % 5 + k)) (valueIn t p) 0) 0)
-    go true true h g = rw (h, g) (y (ltb-true p 65536 h) (eqb-true (markIn t p) (p % 5 + k) g))
-    go true false h g = rw (h, g) x
-    go false c h g = rw h x
-
-pub empties-cases : (P : ℕ → Type 0) (t : List ℕ) (p : ℕ) → P 0 → (p < 65536 → markIn t p % 32 ≡ p % 5 + ofEmpty → P (valueIn t p)) → P (emptiesIn t p)
-unfolding emptiesIn
-empties-cases P t p x y = go (ltb p 65536) (eqb (markIn t p % 32) (p % 5 + 16)) refl refl
-  where
-    go : (b c : Bool) → ltb p 65536 ≡ b → eqb (markIn t p % 32) (p % 5 + 16) ≡ c → P (cond (ltb p 65536) (cond (eqb (markIn t p % 32) (p % 5 + 16)) (valueIn t p) 0) 0)
-    go true true h g = rw (h, g) (y (ltb-true p 65536 h) (eqb-true (markIn t p % 32) (p % 5 + 16) g))
+    go : (b c : Bool) → ltb p 65536 ≡ b → eqb (markIn t p % 32) (p % 5 + k) ≡ c → P (cond (ltb p 65536) (cond (eqb (markIn t p % 32) (p % 5 + k)) (valueIn t p) 0) 0)
+    go true true h g = rw (h, g) (y (ltb-true p 65536 h) (eqb-true (markIn t p % 32) (p % 5 + k) g))
     go true false h g = rw (h, g) x
     go false c h g = rw h x
 

@@ -11,7 +11,7 @@ use Rattle.machines.specs.declared.sure.Num.{Num}
 use Rattle.machines.specs.Sure.{regionIn, with}
 use Rattle.machines.specs.Walks.{lenAt, maxOf}
 use Rattle.machines.specs.Lays.{opening, regionFrom}
-use Rattle.machines.specs.Kept.{emptiesIn, emptyLongest}
+use Rattle.machines.specs.Kept.{besideIn, keptIn, ofEmpty}
 
 -- a region that begins at `at` and was read as g has no states, and so takes five bytes
 unfoldable pub emptyAt : ℕ → Num → Bool
@@ -38,14 +38,14 @@ pub record AtOnce (t : List ℕ) (n at r : ℕ) : Type 0 where
   pub some : 0 < r
   pub few : r ≤ n
   pub small : r < 65536
-  pub kept : 1 < r → r ≡ emptiesIn t at
+  pub kept : 1 < r → r ≡ keptIn t at ofEmpty
 
 -- k regions from `at` on as resolving takes them: how many states they have and where those are, the longest initial state's name
 abbrev pub taken : ℕ → ℕ → ℕ → Taken
 taken n q l = record { states = n; next = q; longest = l }
 
 unfoldable pub takenOf : List ℕ → List ℕ → List ℕ → ℕ → ℕ → Taken
-takenOf s spots t k at = cond (ltb k 2) (with (regionIn s at) λ n q. taken n q (lenAt s spots at)) (taken 0 (at + 5 * k) (emptyLongest t at))
+takenOf s spots t k at = cond (ltb k 2) (with (regionIn s at) λ n q. taken n q (lenAt s spots at)) (taken 0 (at + 5 * k) (besideIn t at))
 
 -- and as laying out opens them
 unfoldable pub openedOf : List ℕ → ℕ → ℕ → Opening

@@ -18,9 +18,9 @@ use Rattle.machines.specs.Kept.{longestIn, markIn, movesIn, ofClosed, of
 
 -- what a row of the mark m and the value v says of the equation, the guard or the region at p
 pub record RowRight (ns : List Name) (s : List ℕ) (p m v : ℕ) : Type 0 where
-  pub equation : m ≡ p % 5 + ofEquation → v ≡ endOf (equationIn ns s p)
-  pub guard : m ≡ p % 5 + ofGuard → v ≡ endOf (exprIn ns s p)
-  pub closed : m ≡ p % 5 + ofClosed → closedD ns s v (p + 5) ≡ true
+  pub equation : m % 32 ≡ p % 5 + ofEquation → v ≡ endOf (equationIn ns s p)
+  pub guard : m % 32 ≡ p % 5 + ofGuard → v ≡ endOf (exprIn ns s p)
+  pub closed : m % 32 ≡ p % 5 + ofClosed → closedD ns s v (p + 5) ≡ true
   pub empty : m % 32 ≡ p % 5 + ofEmpty → emptyD s v p ≡ true
 
 -- what a state's row says of the state at p: where its transitions begin, where it ends, where the count of its regions stands

@@ -7,7 +7,7 @@ use mathlib.Core.Bool.{cond, _&&_}
 use lib.ListN.{getD, set}
 use lib.Dec.{eqb, ltb}
 
--- a row of two cells: a mark, which tells whose it is, and a value
+-- a row of two cells: a mark, which tells whose it is and may hold one number more, and a value
 unfoldable pub markIn : List ℕ → ℕ → ℕ
 markIn t p = getD t (2 * (p / 5)) 0
 
@@ -19,7 +19,8 @@ unfoldable pub rowPut : List ℕ → ℕ → ℕ → ℕ → List ℕ
 rowPut t p m v = cond (ltb p 65536 && (ltb m 65536 && ltb v 65536)) (set (set t (2 * (p / 5)) m) (2 * (p / 5) + 1) v) t
 
 -- the kinds of rows: an equation, by where it ends; a guard, by where it ends; a region whose transitions all lead to its own
--- states, by how many those are; regions without states that follow one another, by how many
+-- states, by how many those are; regions without states that follow one another, by how many, with the longest name of their
+-- initial states
 abbrev pub ofEquation : ℕ
 ofEquation = 1
 
@@ -32,19 +33,17 @@ ofClosed = 11
 abbrev pub ofEmpty : ℕ
 ofEmpty = 16
 
+-- the mark of the thing of the kind k at p, with the number x
+unfoldable pub rowMark : ℕ → ℕ → ℕ → ℕ
+rowMark p k x = p % 5 + k + 32 * x
+
 -- the value that is kept of the thing of the kind k at p; 0 where none is
 unfoldable pub keptIn : List ℕ → ℕ → ℕ → ℕ
-keptIn t p k = cond (ltb p 65536) (cond (eqb (markIn t p) (p % 5 + k)) (valueIn t p) 0) 0
+keptIn t p k = cond (ltb p 65536) (cond (eqb (markIn t p % 32) (p % 5 + k)) (valueIn t p) 0) 0
 
--- of regions without states the mark also has the longest name of their initial states
-unfoldable pub emptiesIn : List ℕ → ℕ → ℕ
-emptiesIn t p = cond (ltb p 65536) (cond (eqb (markIn t p % 32) (p % 5 + ofEmpty)) (valueIn t p) 0) 0
-
-unfoldable pub emptyLongest : List ℕ → ℕ → ℕ
-emptyLongest t p = markIn t p / 32
-
-unfoldable pub emptyMark : ℕ → ℕ → ℕ
-emptyMark p l = p % 5 + ofEmpty + 32 * l
+-- and the number that its mark holds
+unfoldable pub besideIn : List ℕ → ℕ → ℕ
+besideIn t p = markIn t p / 32
 
 -- a state's row: its offset, its head's longest name, where its transitions begin, where it ends, where its regions' count stands.
 -- The rows stand after the others.

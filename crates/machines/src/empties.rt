@@ -2,8 +2,9 @@
 use crate::cover::both;
 use crate::heads::len_at;
 use crate::heads::most;
-use crate::kept::kept_empties;
-use crate::kept::kept_initials;
+use crate::kept::EMPTY;
+use crate::kept::kept;
+use crate::kept::kept_beside;
 use crate::opening::Opening;
 use crate::opening::region_from;
 use crate::sure::Num;
@@ -60,7 +61,7 @@ pub fn at_once(ends: &[u16], n: usize, at: usize) -> usize
     requires { ⌜ 0 < n ⌝ }
     ensures { λ r. ⌜ AtOnce (now (ends .entry)) n at r ⌝ }
 {
-    let k = kept_empties(ends, at);
+    let k = kept(ends, at, EMPTY);
     if k < 2 {
         return 1;
     }
@@ -89,7 +90,7 @@ pub fn take_regions(s: &[u8], spots: &[u16], ends: &[u16], k: usize, at: usize) 
     Taken {
         states: 0,
         next: at + 5 * k,
-        longest: kept_initials(ends, at),
+        longest: kept_beside(ends, at),
     }
 }
 

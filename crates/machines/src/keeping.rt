@@ -5,10 +5,10 @@ use crate::empties::empties_from;
 use crate::heads::most;
 use crate::heads::read_head;
 use crate::kept::CLOSED;
+use crate::kept::EMPTY;
 use crate::kept::EQUATION;
 use crate::kept::GUARD;
 use crate::kept::keep;
-use crate::kept::keep_empties;
 use crate::kept::keep_state;
 use crate::sure::Num;
 use crate::sure::after_equation;
@@ -49,7 +49,7 @@ fn put_end(s: &[u8], names: usize, ends: &mut [u16], at: usize) -> usize
     ensures { λ _. ⌜ ((spots : List ℕ) → KeptRight (now (s .entry)) names spots (now (ends .entry)) → KeptRight (now (s .entry)) names spots (now (ends .exit))) ⌝ }
 {
     let e = after_equation(s, names, at);
-    keep(ends, at, EQUATION, e);
+    keep(ends, at, EQUATION, 0, e);
     e
 }
 
@@ -78,7 +78,7 @@ fn put_guard(s: &[u8], names: usize, ends: &mut [u16], at: usize) -> usize
     ensures { λ _. ⌜ ((spots : List ℕ) → KeptRight (now (s .entry)) names spots (now (ends .entry)) → KeptRight (now (s .entry)) names spots (now (ends .exit))) ⌝ }
 {
     let g = then_expr(s, names, Skipped::To(at));
-    keep(ends, at, GUARD, reached(g));
+    keep(ends, at, GUARD, 0, reached(g));
     reached(then_name(s, names, g))
 }
 
@@ -198,7 +198,7 @@ fn put_empties(
     if 65536 <= l {
         return 0;
     }
-    keep_empties(ends, at, l, k);
+    keep(ends, at, EMPTY, l, k);
     k - 1
 }
 
@@ -215,7 +215,7 @@ fn put_closed(s: &[u8], names: usize, spots: &[u16], ends: &mut [u16], count: us
         return;
     }
     if drawn_closed(s, names, ends, count, from) {
-        keep(ends, from - 5, CLOSED, count);
+        keep(ends, from - 5, CLOSED, 0, count);
     }
 }
 

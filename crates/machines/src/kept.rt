@@ -4,7 +4,7 @@ use crate::cells::cell;
 use crate::cells::put_cell;
 ghost use mathlib.Core.Path.{_≡_};
 ghost use Prim.Native.Nat.{_+_, _%_, _<_, _≤_};
-ghost use Rattle.machines.specs.Kept.{keptIn, rowPut, emptiesIn, emptyLongest, emptyMark, stateRow, longestIn, movesIn, pastIn, regionsIn, statePut};
+ghost use Rattle.machines.specs.Kept.{besideIn, keptIn, rowMark, rowPut, stateRow, longestIn, movesIn, pastIn, regionsIn, statePut};
 
 // The kinds of things that have rows of two cells (specs/Kept).
 pub const EQUATION: usize = 1;
@@ -13,19 +13,29 @@ pub const GUARD: usize = 6;
 
 pub const CLOSED: usize = 11;
 
+pub const EMPTY: usize = 16;
+
 // The value that is kept of the thing of the kind k at p; 0 where none is.
 pub fn kept(ends: &[u16], p: usize, k: usize) -> usize
-    requires { ⌜ k ≤ 11 ⌝ }
+    requires { ⌜ k ≤ 16 ⌝ }
     ensures { λ r. ⌜ r ≡ keptIn (now (ends .entry)) p k ⌝ }
 {
     if 65536 <= p {
         return 0;
     }
     let b = 2 * (p / 5);
-    if cell(ends, b) == p % 5 + k {
+    if cell(ends, b) % 32 == p % 5 + k {
         return cell(ends, b + 1);
     }
     0
+}
+
+// And the number that its mark holds.
+pub fn kept_beside(ends: &[u16], p: usize) -> usize
+    ensures { λ r. ⌜ r ≡ besideIn (now (ends .entry)) p ⌝ }
+{
+    let b = 2 * (p / 5);
+    cell(ends, b) / 32
 }
 
 // A row of the mark m and the value v, where all fits a cell.
@@ -46,42 +56,12 @@ fn put_row(ends: &mut [u16], p: usize, m: usize, v: usize)
     put_cell(ends, b + 1, v);
 }
 
-// Keeps the value v of the thing of the kind k at p.
-pub fn keep(ends: &mut [u16], p: usize, k: usize, v: usize)
-    requires { ⌜ k ≤ 11 ⌝ }
-    ensures { λ _. ⌜ now (ends .exit) ≡ rowPut (now (ends .entry)) p (p % 5 + k) v ⌝ }
+// Keeps the value v of the thing of the kind k at p, and the number x beside it.
+pub fn keep(ends: &mut [u16], p: usize, k: usize, x: usize, v: usize)
+    requires { ⌜ (k ≤ 16) × (x < 65536) ⌝ }
+    ensures { λ _. ⌜ now (ends .exit) ≡ rowPut (now (ends .entry)) p (rowMark p k x) v ⌝ }
 {
-    put_row(ends, p, p % 5 + k, v);
-}
-
-// How many regions without states follow one another from p on; 0 where that is not kept.
-pub fn kept_empties(ends: &[u16], p: usize) -> usize
-    ensures { λ r. ⌜ r ≡ emptiesIn (now (ends .entry)) p ⌝ }
-{
-    if 65536 <= p {
-        return 0;
-    }
-    let b = 2 * (p / 5);
-    if cell(ends, b) % 32 == p % 5 + 16 {
-        return cell(ends, b + 1);
-    }
-    0
-}
-
-// And the longest name of their initial states.
-pub fn kept_initials(ends: &[u16], p: usize) -> usize
-    ensures { λ r. ⌜ r ≡ emptyLongest (now (ends .entry)) p ⌝ }
-{
-    let b = 2 * (p / 5);
-    cell(ends, b) / 32
-}
-
-// Keeps that there are n, and that the longest such name has l letters.
-pub fn keep_empties(ends: &mut [u16], p: usize, l: usize, n: usize)
-    requires { ⌜ l < 65536 ⌝ }
-    ensures { λ _. ⌜ now (ends .exit) ≡ rowPut (now (ends .entry)) p (emptyMark p l) n ⌝ }
-{
-    put_row(ends, p, p % 5 + 16 + 32 * l, n);
+    put_row(ends, p, p % 5 + k + 32 * x, v);
 }
 
 // Where the row of the state at p begins.

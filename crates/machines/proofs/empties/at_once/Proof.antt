@@ -4,8 +4,8 @@ use borrow.Author.Needs.{needs}
 use Rattle.machines.proofs.empties.at_once.Statement.{statement}
 use Rattle.machines.proofs.empties.at_once.Tie as tie
 
-kept-empties-requires : tie.Need-kept-empties-requires
-kept-empties-requires c κs = search needs
+kept-requires : tie.Need-kept-requires
+kept-requires c κs = search needs
 
 returns : tie.Need-returns
 returns c = one-at-once _ _ _ (c .before .before .before .pre)
@@ -17,7 +17,7 @@ returns-3 : tie.Need-returns-3
 returns-3 c = one-at-once _ _ _ (c .before .before .before .before .before .pre)
 
 returns-4 : tie.Need-returns-4
-returns-4 c = record { some = omega (arith, c .before .before .if1 .left); few = c .before .if2 .left; small = c .if3 .left; kept = λ l. c .before .before .before .kept-empties .ensures }
+returns-4 c = record { some = omega (arith, c .before .before .if1 .left); few = c .before .if2 .left; small = c .if3 .left; kept = λ l. c .before .before .before .kept .ensures }
 
 pub at-once-spec : {M : Type 1} → statement M
-at-once-spec = tie.close (tie.spec kept-empties-requires returns returns-2 returns-3 returns-4)
+at-once-spec = tie.close (tie.spec kept-requires returns returns-2 returns-3 returns-4)

@@ -19,11 +19,11 @@ mul-t9 c = search needs
 add-t10 : tie.Need-add-t10
 add-t10 c = omega (arith, c .before .before .before .before .pre .0, c .before .before .before .before .pre .1 (omega (arith, c .if1 .left)))
 
-kept-initials-requires : tie.Need-kept-initials-requires
-kept-initials-requires c κs = search needs
+kept-beside-requires : tie.Need-kept-beside-requires
+kept-beside-requires c κs = search needs
 
 returns-2 : tie.Need-returns-2
-returns-2 c = taken-more _ _ _ _ _ _ (c .before .if1 .left) (c .kept-initials .ensures)
+returns-2 c = taken-more _ _ _ _ _ _ (c .before .if1 .left) (c .kept-beside .ensures)
 
 pub take-regions-spec : {M : Type 1} → statement M
-take-regions-spec = tie.close (tie.spec region-requires len-at-requires returns mul-t9 add-t10 kept-initials-requires returns-2)
+take-regions-spec = tie.close (tie.spec region-requires len-at-requires returns mul-t9 add-t10 kept-beside-requires returns-2)

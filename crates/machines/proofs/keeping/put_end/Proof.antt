@@ -8,7 +8,7 @@ after-equation-requires : tie.Need-after-equation-requires
 after-equation-requires c κs = search needs
 
 keep-requires : tie.Need-keep-requires
-keep-requires c κs = omega arith
+keep-requires c κs = (omega arith, omega arith)
 
 same-length : tie.Need-same-length
 same-length c = search needs

@@ -14,7 +14,7 @@ reached-requires : tie.Need-reached-requires
 reached-requires c κs = search needs
 
 keep-requires : tie.Need-keep-requires
-keep-requires c κs = omega arith
+keep-requires c κs = (omega arith, omega arith)
 
 then-name-requires : tie.Need-then-name-requires
 then-name-requires c κs = search needs
