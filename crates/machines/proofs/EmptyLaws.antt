@@ -119,7 +119,7 @@ seen-all s spots from n k l p f h =
 pub one-at-once : (t : List ℕ) (n at : ℕ) → 0 < n → AtOnce t n at 1
 one-at-once t n at h = record { some = omega arith; few = omega (arith, h); small = omega arith; kept = λ l. absurd (omega (arith, l)) }
 
-pub kept-near : (t : List ℕ) (p k : ℕ) → k ≡ keptIn t p ofEmpty → 0 < k → p < 65536
+kept-near : (t : List ℕ) (p k : ℕ) → k ≡ keptIn t p ofEmpty → 0 < k → p < 65536
 kept-near t p k e l = row-kept (λ (x : ℕ). p < 65536) t p ofEmpty k e l (λ i z m. i)
 
 pub once-near : (t : List ℕ) (n at k : ℕ) → AtOnce t n at k → (k < 65536) × (1 < k → at < 65536)

@@ -11,14 +11,15 @@ use Rattle.wire.specs.Answer.{counted}
 use Rattle.pack.specs.Names.{Name}
 use Rattle.pack.specs.Read.{equationIn, equationsIn, exprIn, transitionIn}
 use Rattle.machines.specs.declared.empties.Empties.{Empties}
+use Rattle.machines.specs.declared.strays.Strays.{Strays}
 use Rattle.machines.specs.declared.sure.Num.{Num}
 use Rattle.machines.specs.Stands.{endOf, overIn}
 use Rattle.machines.specs.Sure.{num, numberIn}
 use Rattle.machines.specs.Walks.{headT, maxOf}
 use Rattle.machines.specs.Lays.{movesAt, regionsAt}
-use Rattle.machines.specs.Drawn.{closedD}
+use Rattle.machines.specs.Drawn.{strays, straysD}
 use Rattle.machines.specs.Empties.{EmptyRun, longestD}
-use Rattle.machines.specs.Kept.{keptIn, longestIn, markIn, movesIn, ofClosed, ofEmpty, ofEquation, ofGuard, pastIn, regionsIn, rowMark, rowPut, statePut, valueIn}
+use Rattle.machines.specs.Kept.{besideIn, keptIn, longestIn, markIn, movesIn, ofEmpty, ofEquation, ofGuard, ofStrays, pastIn, regionsIn, rowMark, rowPut, statePut, valueIn}
 use Rattle.machines.specs.Ends.{Blank, EndsRight, HeadRead, KeptRight, RowRight, StateRight}
 use Rattle.machines.proofs.KeptLaws.{kept-cases, regions-none, rows-none, rows-put, rows-state, states-more, states-put}
 
@@ -35,11 +36,15 @@ pub guard-kept : (s : List ℕ) (names : ℕ) (t : List ℕ) (at e : ℕ) → En
     → (ns : List Name) → length ns ≡ names → e ≡ endOf (exprIn ns s at)
 guard-kept s names t at e h q l ns n = row-kept (λ (x : ℕ). x ≡ endOf (exprIn ns s at)) t at ofGuard e q l (λ i z m. h .rows ns n at i z .guard m)
 
-pub closed-kept : (s : List ℕ) (names : ℕ) (t : List ℕ) (f n : ℕ) → EndsRight s names t → 5 ≤ f → n ≡ keptIn t (f - 5) ofClosed → 0 < n
-    → (ns : List Name) → length ns ≡ names → closedD ns s n f ≡ true
-closed-kept s names t f n h b q l ns e =
-    let m : f - 5 + 5 ≡ f = omega (arith, b) in
-    ap (closedD ns s n) (sym m) ∙ row-kept (λ (x : ℕ). closedD ns s x (f - 5 + 5) ≡ true) t (f - 5) ofClosed n q l (λ i z k. h .rows ns e (f - 5) i z .closed k)
+pub strays-kept : (s : List ℕ) (names : ℕ) (t : List ℕ) (f v x n : ℕ) (c : Num) → EndsRight s names t → 5 ≤ f → v ≡ keptIn t (f - 5) ofStrays → 0 < v → x ≡ besideIn t (f - 5) → c ≡ numberIn s (f - 2) → c .value ≡ n
+    → (ns : List Name) → length ns ≡ names → straysD ns s n f ≡ strays x (v - 1)
+unfolding besideIn
+strays-kept s names t f v x n c h b q l g d w ns e =
+    let m : f ≡ f - 5 + 5 = omega (arith, b) in
+    let o : f - 2 ≡ f - 5 + 3 = omega (arith, b) in
+    (λ i. straysD ns s ((sym w ∙ ap (λ (y : Num). y .value) (d ∙ ap (numberIn s) o)) i) (m i))
+    ∙ row-kept (λ (y : ℕ). straysD ns s (numberIn s (f - 5 + 3) .value) (f - 5 + 5) ≡ strays (markIn t (f - 5) / 32) (y - 1)) t (f - 5) ofStrays v q l (λ i z k. h .rows ns e (f - 5) i z .stray k)
+    ∙ ap (λ (y : ℕ). strays y (v - 1)) (sym g)
 
 -- what stands there of a state
 state-kept : (s : List ℕ) (names : ℕ) (t : List ℕ) (at r : ℕ) → EndsRight s names t → r ≡ regionsIn t at → 0 < r
@@ -76,21 +81,6 @@ pub regions-read : (ns : List Name) (s : List ℕ) (at m r : ℕ) (c : Num) → 
 unfolding regionsAt
 regions-read ns s at m r c e q w = w ∙ ap (numberIn s) (q ∙ ap (λ (x : ℕ). endOf (counted (transitionIn ns s) s x)) e)
 
-pub head-read : (s : List ℕ) (names : ℕ) (spots : List ℕ) (at : ℕ) (i h : Num) (m o r : ℕ) → i ≡ numberIn s at
-    → ((ns : List Name) → length ns ≡ names → m ≡ endOf (equationsIn ns s (i .next)))
-    → ((ns : List Name) → length ns ≡ names → m ≡ movesAt ns s at → h ≡ headT ns s spots at)
-    → ((ns : List Name) → length ns ≡ names → o ≡ overIn ns s at)
-    → ((ns : List Name) → length ns ≡ names → r ≡ endOf (counted (transitionIn ns s) s m))
-    → HeadRead s names spots at h m o r
-head-read s names spots at i h m o r e q k v w = record {
-  head = λ ns n. k ns n (moves-read ns s at m i e (q ns n));
-  state = λ ns n. record {
-    moves = moves-read ns s at m i e (q ns n);
-    past = v ns n;
-    regions = w ns n ∙ ap (λ (x : ℕ). endOf (counted (transitionIn ns s) s x)) (moves-read ns s at m i e (q ns n));
-  };
-}
-
 -- whose a mark is
 kind-of : (p k x : ℕ) → k ≤ 16 → rowMark p k x % 32 ≡ p % 5 + k
 unfolding rowMark
@@ -113,7 +103,7 @@ row-put s names t at k x v c b r u q spots l h =
         rows = λ ns n. rows-put (RowRight ns s) t at (rowMark at k x) v (h .ends .rows ns n) (λ p g. record {
           equation = λ y. subst (λ (z : ℕ). RowRight ns s z (rowMark at k x) v) (mine at p k 1 x g c b refl y) (r ns n) .equation y;
           guard = λ y. subst (λ (z : ℕ). RowRight ns s z (rowMark at k x) v) (mine at p k 6 x g c b refl y) (r ns n) .guard y;
-          closed = λ y. subst (λ (z : ℕ). RowRight ns s z (rowMark at k x) v) (mine at p k 11 x g c b refl y) (r ns n) .closed y;
+          stray = λ y. subst (λ (z : ℕ). RowRight ns s z (rowMark at k x) v) (mine at p k 11 x g c b refl y) (r ns n) .stray y;
           empty = λ y. subst (λ (z : ℕ). RowRight ns s z (rowMark at k x) v) (mine at p k 16 x g c b refl y) (r ns n) .empty y;
         });
         states = λ ns n. states-put (λ p l m o r. StateRight ns s p m o r) t at (rowMark at k x) v (h .ends .states ns n);
@@ -128,30 +118,38 @@ pub end-put : (s : List ℕ) (names : ℕ) (t u : List ℕ) (at e : ℕ) → ((n
     → (spots : List ℕ) → KeptRight s names spots t → KeptRight s names spots u
 unfolding rowMark
 end-put s names t u at e r q spots =
-    row-put s names t at ofEquation 0 e refl (omega arith) (λ ns n. record { equation = λ x. r ns n; guard = λ x. absurd (omega arith); closed = λ x. absurd (omega arith); empty = λ x. absurd (omega arith) }) u q spots
+    row-put s names t at ofEquation 0 e refl (omega arith) (λ ns n. record { equation = λ x. r ns n; guard = λ x. absurd (omega arith); stray = λ x. absurd (omega arith); empty = λ x. absurd (omega arith) }) u q spots
     (λ x. absurd (omega arith))
 
 pub guard-put : (s : List ℕ) (names : ℕ) (t u : List ℕ) (at e : ℕ) → ((ns : List Name) → length ns ≡ names → e ≡ endOf (exprIn ns s at)) → u ≡ rowPut t at (rowMark at ofGuard 0) e
     → (spots : List ℕ) → KeptRight s names spots t → KeptRight s names spots u
 unfolding rowMark
 guard-put s names t u at e r q spots =
-    row-put s names t at ofGuard 0 e refl (omega arith) (λ ns n. record { equation = λ x. absurd (omega arith); guard = λ x. r ns n; closed = λ x. absurd (omega arith); empty = λ x. absurd (omega arith) }) u q spots
+    row-put s names t at ofGuard 0 e refl (omega arith) (λ ns n. record { equation = λ x. absurd (omega arith); guard = λ x. r ns n; stray = λ x. absurd (omega arith); empty = λ x. absurd (omega arith) }) u q spots
     (λ x. absurd (omega arith))
 
-pub closed-put : (s : List ℕ) (names : ℕ) (t u : List ℕ) (f n : ℕ) → 5 ≤ f → ((ns : List Name) → length ns ≡ names → true ≡ closedD ns s n f) → u ≡ rowPut t (f - 5) (rowMark (f - 5) ofClosed 0) n
-    → (spots : List ℕ) → KeptRight s names spots t → KeptRight s names spots u
+pub strays-put : (s : List ℕ) (names : ℕ) (t u : List ℕ) (f : ℕ) (c : Num) (r : Strays) → 5 ≤ f → c ≡ numberIn s (f - 2) → ((ns : List Name) → length ns ≡ names → r ≡ straysD ns s (c .value) f)
+    → u ≡ rowPut t (f - 5) (rowMark (f - 5) ofStrays (r .fine)) (r .name + 1) → (spots : List ℕ) → KeptRight s names spots t → KeptRight s names spots u
 unfolding rowMark
-closed-put s names t u f n b r q spots =
+strays-put s names t u f c r b d g q spots =
     let m : f - 5 + 5 ≡ f = omega (arith, b) in
-    row-put s names t (f - 5) ofClosed 0 n refl (omega arith) (λ ns e. record { equation = λ x. absurd (omega arith); guard = λ x. absurd (omega arith); closed = λ x. ap (closedD ns s n) m ∙ sym (r ns e); empty = λ x. absurd (omega arith) }) u q spots
-    (λ x. absurd (omega arith))
+    let o : f - 5 + 3 ≡ f - 2 = omega (arith, b) in
+    let x : r .fine ≡ ((f - 5) % 5 + ofStrays + 32 * r .fine) / 32 = omega arith in
+    let y : r .name ≡ r .name + 1 - 1 = omega arith in
+    row-put s names t (f - 5) ofStrays (r .fine) (r .name + 1) refl (omega arith) (λ ns e. record {
+      equation = λ z. absurd (omega arith);
+      guard = λ z. absurd (omega arith);
+      stray = λ z. (λ i. straysD ns s (ap (λ (w : Num). w .value) (ap (numberIn s) o ∙ sym d) i) (m i)) ∙ sym (g ns e) ∙ (λ i. strays (x i) (y i));
+      empty = λ z. absurd (omega arith);
+    }) u q spots
+    (λ z. absurd (omega arith))
 
 pub empties-put : (s : List ℕ) (names : ℕ) (spots t u : List ℕ) (at n : ℕ) (e : Empties) → EmptyRun s spots n at e → u ≡ rowPut t at (rowMark at ofEmpty (e .longest)) (e .count)
     → KeptRight s names spots t → KeptRight s names spots u
 unfolding rowMark
 empties-put s names spots t u at n e h q =
     let l : (at % 5 + ofEmpty + 32 * e .longest) / 32 ≡ e .longest = omega arith in
-    row-put s names t at ofEmpty (e .longest) (e .count) refl (omega arith) (λ ns d. record { equation = λ x. absurd (omega arith); guard = λ x. absurd (omega arith); closed = λ x. absurd (omega arith); empty = λ x. h .none }) u q spots
+    row-put s names t at ofEmpty (e .longest) (e .count) refl (omega arith) (λ ns d. record { equation = λ x. absurd (omega arith); guard = λ x. absurd (omega arith); stray = λ x. absurd (omega arith); empty = λ x. h .none }) u q spots
     (λ x. l ∙ h .longest)
 
 -- one state more

@@ -4,7 +4,7 @@ pub mod SureLaws
 pub mod TableLaws
 pub mod KeptLaws
 pub mod EndLaws
-pub mod ClosedLaws
+pub mod StrayLaws
 pub mod WalkLaws
 pub mod CoverLaws
 pub mod ToldLaws
@@ -29,7 +29,7 @@ pub mod Refused
 pub mod SectionExample
 pub mod RowLaws
 pub mod ValidLaws
-pub mod ClosedRows
+pub mod ForeseenRows
 pub mod RepeatLaws
 pub mod ManyEnds
 pub mod MarkLaws

@@ -1,5 +1,5 @@
 -- What is kept of equations, guards, regions and states is right wherever there is something.
-use Prim.Native.Nat.{ℕ, _+_, _/_, _%_, _<_}
+use Prim.Native.Nat.{ℕ, _+_, _-_, _/_, _%_, _<_}
 use mathlib.Core.List.{List}
 use mathlib.Core.Bool.{true}
 use mathlib.Core.Path.{_≡_}
@@ -9,18 +9,19 @@ use Rattle.pack.specs.Names.{Name}
 use Rattle.pack.specs.Read.{equationIn, exprIn, transitionIn}
 use Rattle.machines.specs.declared.sure.Num.{Num}
 use Rattle.machines.specs.Stands.{endOf, overIn}
-use Rattle.machines.specs.Sure.{num}
+use Rattle.machines.specs.Sure.{num, numberIn}
 use Rattle.machines.specs.Walks.{headT}
 use Rattle.machines.specs.Lays.{movesAt}
-use Rattle.machines.specs.Drawn.{closedD}
+use Rattle.machines.specs.Drawn.{strays, straysD}
 use Rattle.machines.specs.Empties.{emptyD, longestD}
-use Rattle.machines.specs.Kept.{longestIn, markIn, movesIn, ofClosed, ofEmpty, ofEquation, ofGuard, pastIn, regionsIn, valueIn}
+use Rattle.machines.specs.Kept.{longestIn, markIn, movesIn, ofEmpty, ofEquation, ofGuard, ofStrays, pastIn, regionsIn, valueIn}
 
--- what a row of the mark m and the value v says of the equation, the guard or the region at p
+-- what a row of the mark m and the value v says of the equation, the guard or the region at p, whose states begin at p + 5 after
+-- their count
 pub record RowRight (ns : List Name) (s : List ℕ) (p m v : ℕ) : Type 0 where
   pub equation : m % 32 ≡ p % 5 + ofEquation → v ≡ endOf (equationIn ns s p)
   pub guard : m % 32 ≡ p % 5 + ofGuard → v ≡ endOf (exprIn ns s p)
-  pub closed : m % 32 ≡ p % 5 + ofClosed → closedD ns s v (p + 5) ≡ true
+  pub stray : m % 32 ≡ p % 5 + ofStrays → straysD ns s (numberIn s (p + 3) .value) (p + 5) ≡ strays (m / 32) (v - 1)
   pub empty : m % 32 ≡ p % 5 + ofEmpty → emptyD s v p ≡ true
 
 -- what a state's row says of the state at p: where its transitions begin, where it ends, where the count of its regions stands

@@ -18,17 +18,17 @@ valueIn t p = getD t (2 * (p / 5) + 1) 0
 unfoldable pub rowPut : List ℕ → ℕ → ℕ → ℕ → List ℕ
 rowPut t p m v = cond (ltb p 65536 && (ltb m 65536 && ltb v 65536)) (set (set t (2 * (p / 5)) m) (2 * (p / 5) + 1) v) t
 
--- the kinds of rows: an equation, by where it ends; a guard, by where it ends; a region whose transitions all lead to its own
--- states, by how many those are; regions without states that follow one another, by how many, with the longest name of their
--- initial states
+-- the kinds of rows: an equation, by where it ends; a guard, by where it ends; the bytes before a region's states, by the first
+-- target that is none of them (its name's index, and 1), with how many states come before the one that has it; regions without states
+-- that follow one another, by how many, with the longest name of their initial states
 abbrev pub ofEquation : ℕ
 ofEquation = 1
 
 abbrev pub ofGuard : ℕ
 ofGuard = 6
 
-abbrev pub ofClosed : ℕ
-ofClosed = 11
+abbrev pub ofStrays : ℕ
+ofStrays = 11
 
 abbrev pub ofEmpty : ℕ
 ofEmpty = 16

@@ -1,5 +1,5 @@
 -- The checks of initial states and targets on the layout: what the code does, structural on the levels left.
-use Prim.Native.Nat.{ℕ, zero, suc, _+_}
+use Prim.Native.Nat.{ℕ, zero, suc, _+_, _-_}
 use mathlib.Core.List.{List}
 use mathlib.Core.Bool.{Bool, true, false, cond, _&&_, _||_}
 use mathlib.Core.Path.{_≡_}
@@ -9,6 +9,7 @@ use Rattle.pack.specs.Names.{Name}
 use Rattle.pack.specs.Read.{exprIn}
 use Rattle.machines.specs.declared.valid.Checked.{Checked}
 use Rattle.machines.specs.declared.valid.Checked.the-variants as ck
+use Rattle.machines.specs.declared.valid.Foreseen.{Foreseen}
 use Rattle.machines.specs.Stands.{endOf, overIn}
 use Rattle.machines.specs.Sure.{numberIn, with}
 use Rattle.machines.specs.Lays.{movesAt}
@@ -18,6 +19,22 @@ unfoldable pub orThen : Checked → Checked → Checked
 orThen ck.Fine c = c
 orThen (ck.Initial q) c = ck.Initial q
 orThen (ck.Target p q x) c = ck.Target p q x
+
+-- what is foreseen of the targets of a region's states from one on: the next `fine` ones have none that is wrong, the one after
+-- them has one, with this name. Where nothing is known, this says nothing.
+abbrev pub foreseen : Bool → ℕ → ℕ → Foreseen
+foreseen k n x = record { known = k; fine = n; name = x }
+
+abbrev pub unknown : Foreseen
+unknown = foreseen false 0 0
+
+-- of the states after that one
+unfoldable pub onward : Foreseen → Foreseen
+onward v = cond (eqb (v .fine) 0) unknown (foreseen (v .known) (v .fine - 1) (v .name))
+
+-- what checking the targets of that one comes to, if it is at the word p in the region at the word q
+unfoldable pub foretold : Foreseen → ℕ → ℕ → Checked
+foretold v q p = cond (eqb (v .fine) 0) (ck.Target p q (v .name)) ck.Fine
 
 -- n rows from the word p on, each with the word after it at its fifth
 unfoldable pub eachRow : List ℕ → (ℕ → Checked) → ℕ → ℕ → Checked
@@ -67,14 +84,14 @@ module _ (ns : List Name) (s t : List ℕ) where
   rowsDrawn zero p at = true
   rowsDrawn (suc n) p at = rowDrawn p at && rowsDrawn n (getD t (p + 4) 0) (overIn ns s at)
 
-  -- nothing is wrong with the targets of n states from the word p on, in the region at the word q
-  unfoldable pub AllFine : ℕ → ℕ → ℕ → Type 0
-  AllFine q zero p = Unit {0}
-  AllFine q (suc n) p = (targetsT q p ≡ ck.Fine) × AllFine q n (getD t (p + 4) 0)
+  -- what is foreseen of the targets of n states from the word p on, in the region at the word q, is so
+  unfoldable pub AsForeseen : Foreseen → ℕ → ℕ → ℕ → Type 0
+  AsForeseen v q zero p = Unit {0}
+  AsForeseen v q (suc n) p = (v .known ≡ true → targetsT q p ≡ foretold v q p) × AsForeseen (onward v) q n (getD t (p + 4) 0)
 
--- what is known of one state's targets, and of n states' targets, where `closed` is true
-abbrev pub FineWhere : List ℕ → ℕ → List ℕ → Bool → ℕ → ℕ → Type 0
-FineWhere s names t closed q p = (ns : List Name) → length ns ≡ names → closed ≡ true → targetsT ns s t q p ≡ ck.Fine
+-- the same of one state, and of n states, whatever the names are
+abbrev pub OneForeseen : List ℕ → ℕ → List ℕ → Foreseen → ℕ → ℕ → Type 0
+OneForeseen s names t v q p = (ns : List Name) → length ns ≡ names → v .known ≡ true → targetsT ns s t q p ≡ foretold v q p
 
-abbrev pub AllFineWhere : List ℕ → ℕ → List ℕ → Bool → ℕ → ℕ → ℕ → Type 0
-AllFineWhere s names t closed q n p = (ns : List Name) → length ns ≡ names → closed ≡ true → AllFine ns s t q n p
+abbrev pub AllForeseen : List ℕ → ℕ → List ℕ → Foreseen → ℕ → ℕ → ℕ → Type 0
+AllForeseen s names t v q n p = (ns : List Name) → length ns ≡ names → AsForeseen ns s t v q n p

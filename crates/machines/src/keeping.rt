@@ -1,15 +1,15 @@
 // What walking, laying out, checking and looking for outputs need of the drawn states, read once a call and kept. Where it does not
 // fit, nothing is kept.
-use crate::closed::drawn_closed;
 use crate::empties::empties_from;
 use crate::heads::most;
 use crate::heads::read_head;
-use crate::kept::CLOSED;
 use crate::kept::EMPTY;
 use crate::kept::EQUATION;
 use crate::kept::GUARD;
+use crate::kept::STRAYS;
 use crate::kept::keep;
 use crate::kept::keep_state;
+use crate::strays::drawn_strays;
 use crate::sure::Num;
 use crate::sure::after_equation;
 use crate::sure::machine;
@@ -202,21 +202,24 @@ fn put_empties(
     k - 1
 }
 
-// Keeps that the transitions of the `count` states from `from` on stay among them, where they do. The row is that of the bytes
-// before the states, where no equation and no guard begins.
-fn put_closed(s: &[u8], names: usize, spots: &[u16], ends: &mut [u16], count: usize, from: usize)
+// Keeps which of the states from `from` on, whose count stands before them, is the first that strays. The row is that of the bytes
+// before the states, where no equation and no guard begins; without states it is left to regions that have none.
+fn put_strays(s: &[u8], names: usize, spots: &[u16], ends: &mut [u16], from: usize)
     requires { ⌜ (length (now s) ≤ 65536) × KeptRight (now s) names (now spots) (now ends) ⌝ }
     ensures { λ _. ⌜ KeptRight (now (s .entry)) names (now (spots .entry)) (now (ends .exit)) ⌝ }
 {
-    if count == 0 {
-        return;
-    }
     if from < 5 {
         return;
     }
-    if drawn_closed(s, names, ends, count, from) {
-        keep(ends, from - 5, CLOSED, 0, count);
+    let c = number(s, from - 2);
+    if c.value == 0 {
+        return;
     }
+    let r = drawn_strays(s, names, ends, c.value, from);
+    if 65535 <= most(r.fine, r.name) {
+        return;
+    }
+    keep(ends, from - 5, STRAYS, r.fine, r.name + 1);
 }
 
 // The state at `at` and the states in its regions; the offset after it, 0 where it does not read.
@@ -277,7 +280,7 @@ fn keep_in_states(
         }
         n = n - 1;
     }
-    put_closed(s, names, spots, ends, count, from);
+    put_strays(s, names, spots, ends, from);
     p
 }
 

@@ -11,7 +11,7 @@ pub const EQUATION: usize = 1;
 
 pub const GUARD: usize = 6;
 
-pub const CLOSED: usize = 11;
+pub const STRAYS: usize = 11;
 
 pub const EMPTY: usize = 16;
 

@@ -5,7 +5,7 @@ pub mod table; // names and machines by name index
 pub mod path; // the machines on the way from the top
 pub mod kept; // what is kept of equations, guards, regions and states
 pub mod ends; // looked up where it is kept, read where it is not
-pub mod closed; // whether a drawn region's transitions stay in it
+pub mod strays; // the first transition that leads out of a drawn region
 pub mod heads; // what resolving needs of a state
 pub mod empties; // regions without states, passed over at once
 pub mod walk; // resolving, which counts states and makes no tree

@@ -1,12 +1,13 @@
 // The checks of a machine that is laid out: its states' names, each region's initial state, and targets.
-// A region's states share their prefix, so that names within it are compared as indexes. Where a drawn region is kept as closed,
-// its targets are not looked at again.
+// A region's states share their prefix, so that names within it are compared as indexes. Where it is kept which state of a drawn
+// region is the first that strays, targets are not looked at again.
 use crate::cover::both;
 use crate::ends::guard_end;
 use crate::ends::moves_of;
 use crate::ends::past_of;
-use crate::kept::CLOSED;
+use crate::kept::STRAYS;
 use crate::kept::kept;
+use crate::kept::kept_beside;
 use crate::rows::first;
 use crate::rows::inner;
 use crate::rows::is;
@@ -20,7 +21,7 @@ ghost use lib.ListN.{length, getD};
 ghost use Rattle.pack.specs.Names.{Name};
 ghost use Rattle.machines.specs.Known.{Known};
 ghost use Rattle.machines.specs.Ends.{EndsRight};
-ghost use Rattle.machines.specs.Valid.{amongT, hasT, targetsT, checkedState, checkedRegion, rowDrawn, rowsDrawn, Has, FineWhere, AllFineWhere};
+ghost use Rattle.machines.specs.Valid.{amongT, hasT, targetsT, checkedState, checkedRegion, foretold as foretoldOf, onward as onwardOf, rowDrawn, rowsDrawn, unknown, Has, OneForeseen, AllForeseen};
 
 // What checking came to: nothing wrong, a region (by its word) whose initial state is not among its states,
 // or a state's transition to a name that is not.
@@ -32,6 +33,14 @@ pub enum Checked {
         region: usize,
         name: usize,
     },
+}
+
+// What is foreseen of the targets of a region's states from one on: the next `fine` ones have none that is wrong, the one after
+// them has one, with this name. Where nothing is known, this says nothing.
+struct Foreseen {
+    known: bool,
+    fine: usize,
+    name: usize,
 }
 
 // Whether one of `count` states from the word `from` on has the pack's name x.
@@ -139,41 +148,86 @@ fn rows_drawn(
     true
 }
 
-// Whether the states of the region at the word q are those of a drawn region whose transitions are known to stay in it.
-fn closed_rows(s: &[u8], names: usize, ends: &[u16], t: &[usize], q: usize) -> bool
+// Where nothing is known.
+fn nothing_known() -> Foreseen
+    ensures { λ r. ⌜ r ≡ unknown ⌝ }
+{
+    Foreseen {
+        known: false,
+        fine: 0,
+        name: 0,
+    }
+}
+
+// What is kept of the states of the region at the word q, where they are those of a drawn region.
+fn foresee(s: &[u8], names: usize, ends: &[u16], t: &[usize], q: usize) -> Foreseen
     requires { ⌜ (length (now s) ≤ 65536) × EndsRight (now s) names (now ends) ⌝ }
-    ensures { λ r. ⌜ AllFineWhere (now (s .entry)) names (now (t .entry)) r q (getD (now (t .entry)) (q + 6) 0) (q + 9) ⌝ }
+    ensures { λ r. ⌜ AllForeseen (now (s .entry)) names (now (t .entry)) r q (getD (now (t .entry)) (q + 6) 0) (q + 9) ⌝ }
 {
     let n = word(t, q, 6);
-    if n == 0 {
-        return false;
-    }
     let p = first(t, q);
     let f = entry(t, p);
     if f < 5 {
-        return false;
+        return nothing_known();
     }
-    if kept(ends, f - 5, CLOSED) == n {
-        return rows_drawn(s, names, ends, t, n, p, f);
+    let x = kept(ends, f - 5, STRAYS);
+    if x == 0 {
+        return nothing_known();
     }
-    false
+    let c = number(s, f - 2);
+    if c.value == n {
+        return Foreseen {
+            known: rows_drawn(s, names, ends, t, n, p, f),
+            fine: kept_beside(ends, f - 5),
+            name: x - 1,
+        };
+    }
+    nothing_known()
 }
 
-// The targets of the state at the word p, in the region at the word q, where they are not known to be fine.
+// What is foreseen of the states after one.
+fn onward(v: Foreseen) -> Foreseen
+    ensures { λ r. ⌜ r ≡ onwardOf v ⌝ }
+{
+    if v.fine == 0 {
+        return nothing_known();
+    }
+    Foreseen {
+        known: v.known,
+        fine: v.fine - 1,
+        name: v.name,
+    }
+}
+
+// What is foreseen of the state at the word p, in the region at the word q.
+fn foretold(v: Foreseen, q: usize, p: usize) -> Checked
+    ensures { λ r. ⌜ r ≡ foretoldOf v q p ⌝ }
+{
+    if v.fine == 0 {
+        return Checked::Target {
+            state: p,
+            region: q,
+            name: v.name,
+        };
+    }
+    Checked::Fine
+}
+
+// The targets of the state at the word p, in the region at the word q, looked at where nothing is known.
 fn check_moves(
     s: &[u8],
     names: usize,
     ends: &[u16],
     t: &[usize],
-    closed: bool,
+    v: Foreseen,
     q: usize,
     p: usize,
 ) -> Checked
-    requires { ⌜ (length (now s) ≤ 65536) × EndsRight (now s) names (now ends) × FineWhere (now s) names (now t) closed q p ⌝ }
+    requires { ⌜ (length (now s) ≤ 65536) × EndsRight (now s) names (now ends) × OneForeseen (now s) names (now t) v q p ⌝ }
     ensures { λ r. ⌜ ((ns : List Name) → length ns ≡ names → r ≡ targetsT ns (now (s .entry)) (now (t .entry)) q p) ⌝ }
 {
-    if closed {
-        return Checked::Fine;
+    if v.known {
+        return foretold(v, q, p);
     }
     check_targets(s, names, ends, t, q, p)
 }
@@ -185,14 +239,14 @@ fn check_state(
     ends: &[u16],
     t: &[usize],
     levels: usize,
-    closed: bool,
+    v: Foreseen,
     q: usize,
     p: usize,
 ) -> Checked
-    requires { ⌜ (length (now s) ≤ 65536) × EndsRight (now s) names (now ends) × FineWhere (now s) names (now t) closed q p ⌝ }
+    requires { ⌜ (length (now s) ≤ 65536) × EndsRight (now s) names (now ends) × OneForeseen (now s) names (now t) v q p ⌝ }
     ensures { λ r. ⌜ ((ns : List Name) → length ns ≡ names → r ≡ checkedState ns (now (s .entry)) (now (t .entry)) (checkedRegion ns (now (s .entry)) (now (t .entry)) levels) q p) ⌝ }
 {
-    let c = check_moves(s, names, ends, t, closed, q, p);
+    let c = check_moves(s, names, ends, t, v, q, p);
     let Checked::Fine = c else {
         return c;
     };
@@ -225,14 +279,15 @@ pub fn check_region(
         return Checked::Fine;
     }
     if has_state(s, t, q, entry(t, q)) {
-        let closed = closed_rows(s, names, ends, t, q);
+        let mut v = foresee(s, names, ends, t, q);
         let mut n = word(t, q, 6);
         let mut p = first(t, q);
         while 0 < n {
-            let r = check_state(s, names, ends, t, levels - 1, closed, q, p);
+            let r = check_state(s, names, ends, t, levels - 1, v, q, p);
             let Checked::Fine = r else {
                 return r;
             };
+            v = onward(v);
             p = word(t, p, 4);
             n = n - 1;
         }

@@ -19,10 +19,10 @@ use Rattle.machines.proofs.keeping.+keep_in_state+keep_in_states.Lts-ke
 use Rattle.machines.proofs.keeping.keep_in_states.Reads as keep-in-states
 use Rattle.machines.proofs.keeping.keep_in_states.Kinds as keep-in-states-kinds
 use Rattle.machines.proofs.keeping.+keep_in_state+keep_in_states.Lts-keep_in_states as keep-in-states-lts
-use Rattle.machines.proofs.keeping.put_closed.Reads as put-closed-reads
 use Rattle.machines.proofs.keeping.put_empties.Reads as put-empties-reads
 use Rattle.machines.proofs.keeping.put_head.Reads as put-head-reads
 use Rattle.machines.proofs.keeping.put_state.Reads as put-state-reads
+use Rattle.machines.proofs.keeping.put_strays.Reads as put-strays-reads
 use Rattle.machines.proofs.keeping.state_end.Reads as state-end-reads
 use Rattle.machines.proofs.keeping.states_in.Reads as states-in-reads
 use Rattle.machines.proofs.sure.number.Reads as number-reads
@@ -118,7 +118,7 @@ keep-in-state-returns-2 : (t : ℕ) → keep-in-state-lts.Need-returns-2 (keep-i
 keep-in-state-returns-2 t c = (λ ns e l. c .before .before .before .before .state-end .ensures ns e _ (regionAt _ ns _) (c .before .before .before .before .before .before .before .before .before .before .put-head .ensures .0 ns e) (counted-done (regionAt _ ns _) _ _ _ _ _ (c .before .before .before .before .before .before .before .number .ensures) (c .before .before .before .before .before .loop-test .left) (c .before .before .before .before .before .before .loop .inv .0 ns e)) l, c .before .before .put-state .ensures _ _ _ (c .before .before .before .before .before .before .loop .inv .1) (λ l ns e. (c .before .before .before .before .before .before .before .before .before .before .put-head .ensures .0 ns e, state-over ns _ _ _ _ (c .before .before .before .before .before .before .before .before .before .before .before .before .before .before .before .pre .1 .2) (c .before .before .before .before .state-end .ensures ns e _ (regionAt _ ns _) (c .before .before .before .before .before .before .before .before .before .before .put-head .ensures .0 ns e) (counted-done (regionAt _ ns _) _ _ _ _ _ (c .before .before .before .before .before .before .before .number .ensures) (c .before .before .before .before .before .loop-test .left) (c .before .before .before .before .before .before .loop .inv .0 ns e)) l) l)))
 
 abbrev keep-in-states-calls : ℕ → keep-in-states-lts.Claims
-keep-in-states-calls t = (keep-in-state-below t, keep-in-state.Post, put-closed-reads.Asked, put-closed-reads.Learnt)
+keep-in-states-calls t = (keep-in-state-below t, keep-in-state.Post, put-strays-reads.Asked, put-strays-reads.Learnt)
 
 abbrev keep-in-states-Inv-loop : keep-in-states-lts.InvT-loop
 keep-in-states-Inv-loop s names spots ends₀ levels count from n₀ p₀ ends n p = ((ns : List Name) → length ns ≡ names → endOf (many (stateWith (regionAt (levels - 1) ns s) ns s) n p) ≡ endOf (many (stateWith (regionAt (levels - 1) ns s) ns s) count from)) × KeptRight s names spots ends × (length {A = ℕ} ends ≡ length {A = ℕ} ends₀)
@@ -153,14 +153,14 @@ keep-in-states-loop-less t c = search needs
 keep-in-states-loop-again : (t : ℕ) → keep-in-states-lts.Need-loop-again (keep-in-states-calls t) (keep-in-states-at t) keep-in-states.Post keep-in-states-Inv-loop keep-in-states-μ-loop
 keep-in-states-loop-again t c = (λ ns e. many-went (stateWith (regionAt _ ns _) ns _) _ _ _ _ (c .before .before .before .keep-in-state .ensures .0 ns e (omega (arith, c .if2 .left))) (c .if2 .left) (c .before .before .before .before .before .loop-test .taken) (c .before .before .before .before .before .before .loop .inv .0 ns e), c .before .before .before .keep-in-state .ensures .1, c .before .before .before .keep-in-state .kept .1 .1 .1 .0 ∙ c .before .before .before .before .before .before .loop .inv .2)
 
-keep-in-states-put-closed-requires : (t : ℕ) → keep-in-states-lts.Need-put-closed-requires (keep-in-states-calls t) (keep-in-states-at t) keep-in-states.Post keep-in-states-Inv-loop keep-in-states-μ-loop
-keep-in-states-put-closed-requires t c κs = (c .before .before .before .before .before .before .before .pre .1 .0, c .before .before .loop .inv .1)
+keep-in-states-put-strays-requires : (t : ℕ) → keep-in-states-lts.Need-put-strays-requires (keep-in-states-calls t) (keep-in-states-at t) keep-in-states.Post keep-in-states-Inv-loop keep-in-states-μ-loop
+keep-in-states-put-strays-requires t c κs = (c .before .before .before .before .before .before .before .pre .1 .0, c .before .before .loop .inv .1)
 
 keep-in-states-same-length-2 : (t : ℕ) → keep-in-states-lts.Need-same-length-2 (keep-in-states-calls t) (keep-in-states-at t) keep-in-states.Post keep-in-states-Inv-loop keep-in-states-μ-loop
-keep-in-states-same-length-2 t c = c .before .before .put-closed .kept .1 .1 .1 .0 ∙ c .before .before .before .before .before .loop .inv .2
+keep-in-states-same-length-2 t c = c .before .before .put-strays .kept .1 .1 .1 .0 ∙ c .before .before .before .before .before .loop .inv .2
 
 keep-in-states-returns-3 : (t : ℕ) → keep-in-states-lts.Need-returns-3 (keep-in-states-calls t) (keep-in-states-at t) keep-in-states.Post keep-in-states-Inv-loop keep-in-states-μ-loop
-keep-in-states-returns-3 t c = (λ ns e l. (c .before .before .before .before .before .before .if1 .left, many-done (stateWith (regionAt _ ns _) ns _) _ _ _ (c .before .before .before .before .loop-test .left) (c .before .before .before .before .before .loop .inv .0 ns e)), c .before .before .put-closed .ensures)
+keep-in-states-returns-3 t c = (λ ns e l. (c .before .before .before .before .before .before .if1 .left, many-done (stateWith (regionAt _ ns _) ns _) _ _ _ (c .before .before .before .before .loop-test .left) (c .before .before .before .before .before .loop .inv .0 ns e)), c .before .before .put-strays .ensures)
 
 pub +keep-in-state+keep-in-states-spec : {M : Type 1} → statement M
 +keep-in-state+keep-in-states-spec =
@@ -185,7 +185,7 @@ pub +keep-in-state+keep-in-states-spec : {M : Type 1} → statement M
     (keep-in-state-same-length-2 t)
     (keep-in-state-returns-2 t))
     λ t. keep-in-states-lts.spec
-    (keep-in-state-below t, keep-in-state.Post, put-closed-reads.Asked, put-closed-reads.Learnt)
+    (keep-in-state-below t, keep-in-state.Post, put-strays-reads.Asked, put-strays-reads.Learnt)
     (keep-in-states-at t)
     keep-in-states.Post
     keep-in-states-Inv-loop
@@ -199,6 +199,6 @@ pub +keep-in-state+keep-in-states-spec : {M : Type 1} → statement M
     (keep-in-states-sub-n t)
     (keep-in-states-loop-less t)
     (keep-in-states-loop-again t)
-    (keep-in-states-put-closed-requires t)
+    (keep-in-states-put-strays-requires t)
     (keep-in-states-same-length-2 t)
     (keep-in-states-returns-3 t)

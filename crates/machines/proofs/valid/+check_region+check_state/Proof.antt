@@ -5,9 +5,9 @@ use mathlib.Core.Path.{_≡_, sym, _∙_}
 use lib.ListN.{length, getD}
 use borrow.Author.Needs.{needs}
 use Rattle.pack.specs.Names.{Name}
-use Rattle.machines.specs.Valid.{AllFineWhere, checkedRegion, checkedState, eachRow}
+use Rattle.machines.specs.Valid.{AllForeseen, checkedRegion, checkedState, eachRow}
 use Rattle.machines.proofs.ValidLaws.{region-goes, region-initial, region-none, rows-done, rows-from, rows-stop, rows-went, state-goes, state-stops, stops}
-use Rattle.machines.proofs.ClosedRows.{fine-from, fine-one, fine-went}
+use Rattle.machines.proofs.ForeseenRows.{foreseen-from, foreseen-one, foreseen-went}
 use Prim.Native.Nat.{ℕ, _<_}
 use borrow.Fn.Kinds.{In}
 use borrow.Fn.PlainCycle.{Measures, is, falls, and}
@@ -22,8 +22,9 @@ use Rattle.machines.proofs.rows.inner.Reads as inner-reads
 use Rattle.machines.proofs.rows.word.Reads as word-reads
 use Rattle.machines.proofs.table.entry.Reads as entry-reads
 use Rattle.machines.proofs.valid.check_moves.Reads as check-moves-reads
-use Rattle.machines.proofs.valid.closed_rows.Reads as closed-rows-reads
+use Rattle.machines.proofs.valid.foresee.Reads as foresee-reads
 use Rattle.machines.proofs.valid.has_state.Reads as has-state-reads
+use Rattle.machines.proofs.valid.onward.Reads as onward-reads
 use Rattle.machines.proofs.valid.+check_region+check_state.{statement}
 use Rattle.machines.proofs.valid.+check_region+check_state.Tie.{close}
 
@@ -54,15 +55,15 @@ check-state-below t =
     and 3 check-state-kinds.ps (falls 3 check-state-kinds.ps _<_ μ-check-state t) check-state.Pre
 
 abbrev check-region-calls : ℕ → check-region-lts.Claims
-check-region-calls t = (entry-reads.Asked, entry-reads.Learnt, has-state-reads.Asked, has-state-reads.Learnt, closed-rows-reads.Asked, closed-rows-reads.Learnt, word-reads.Asked, word-reads.Learnt, first-reads.Asked, first-reads.Learnt, check-state-below t, check-state.Post)
+check-region-calls t = (entry-reads.Asked, entry-reads.Learnt, has-state-reads.Asked, has-state-reads.Learnt, foresee-reads.Asked, foresee-reads.Learnt, word-reads.Asked, word-reads.Learnt, first-reads.Asked, first-reads.Learnt, check-state-below t, check-state.Post, onward-reads.Asked, onward-reads.Learnt)
 
 abbrev check-region-Inv-loop : check-region-lts.InvT-loop
-check-region-Inv-loop s names ends t levels q closed n₀ p₀ n p =
+check-region-Inv-loop s names ends t levels q v₀ n₀ p₀ v n p =
     ((ns : List Name) → length ns ≡ names → eachRow t (checkedState ns s t (checkedRegion ns s t (levels - 1)) q) n p ≡ eachRow t (checkedState ns s t (checkedRegion ns s t (levels - 1)) q) (getD t (q + 6) 0) (q + 9))
-    × AllFineWhere s names t closed q n p
+    × AllForeseen s names t v q n p
 
 abbrev check-region-μ-loop : check-region-lts.MeasureT-loop
-check-region-μ-loop s names ends t levels q closed n₀ p₀ n p = n
+check-region-μ-loop s names ends t levels q v₀ n₀ p₀ v n p = n
 
 check-region-returns : (t : ℕ) → check-region-lts.Need-returns (check-region-calls t) (check-region-at t) check-region.Post check-region-Inv-loop check-region-μ-loop
 check-region-returns t c = λ ns e. region-none ns _ _ _ _ (c .if1 .taken)
@@ -73,8 +74,8 @@ check-region-entry-requires t c κs = search needs
 check-region-has-state-requires : (t : ℕ) → check-region-lts.Need-has-state-requires (check-region-calls t) (check-region-at t) check-region.Post check-region-Inv-loop check-region-μ-loop
 check-region-has-state-requires t c κs = search needs
 
-check-region-closed-rows-requires : (t : ℕ) → check-region-lts.Need-closed-rows-requires (check-region-calls t) (check-region-at t) check-region.Post check-region-Inv-loop check-region-μ-loop
-check-region-closed-rows-requires t c κs = c .before .before .before .before .before .before .before .pre .1
+check-region-foresee-requires : (t : ℕ) → check-region-lts.Need-foresee-requires (check-region-calls t) (check-region-at t) check-region.Post check-region-Inv-loop check-region-μ-loop
+check-region-foresee-requires t c κs = c .before .before .before .before .before .before .before .pre .1
 
 check-region-word-requires : (t : ℕ) → check-region-lts.Need-word-requires (check-region-calls t) (check-region-at t) check-region.Post check-region-Inv-loop check-region-μ-loop
 check-region-word-requires t c κs = search needs
@@ -83,19 +84,22 @@ check-region-first-requires : (t : ℕ) → check-region-lts.Need-first-requires
 check-region-first-requires t c κs = search needs
 
 check-region-loop-holds : (t : ℕ) → check-region-lts.Need-loop-holds (check-region-calls t) (check-region-at t) check-region.Post check-region-Inv-loop check-region-μ-loop
-check-region-loop-holds t c = (λ ns e. rows-from _ _ _ _ _ _ (c .before .word .ensures) (c .first .ensures), λ ns e x. fine-from ns _ _ _ _ _ _ _ (c .before .word .ensures) (c .first .ensures) (c .before .before .closed-rows .ensures ns e x))
+check-region-loop-holds t c = (λ ns e. rows-from _ _ _ _ _ _ (c .before .word .ensures) (c .first .ensures), λ ns e. foreseen-from ns _ _ _ _ _ _ _ _ (c .before .word .ensures) (c .first .ensures) (c .before .before .foresee .ensures ns e))
 
 check-region-sub-check-state : (t : ℕ) → check-region-lts.Need-sub-check-state (check-region-calls t) (check-region-at t) check-region.Post check-region-Inv-loop check-region-μ-loop
 check-region-sub-check-state t c = omega (arith, c .before .before .before .before .before .before .before .before .if1 .left)
 
 check-region-check-state-requires : (t : ℕ) → check-region-lts.Need-check-state-requires (check-region-calls t) (check-region-at t) check-region.Post check-region-Inv-loop check-region-μ-loop
-check-region-check-state-requires t c κs = (omega (arith, c .before .before .before .before .before .before .before .before .if1 .left, c .before .before .before .before .before .before .before .before .before .before .before .before .pre .0), (c .before .before .before .before .before .before .before .before .before .before .before .before .pre .1 .0, c .before .before .before .before .before .before .before .before .before .before .before .before .pre .1 .1, λ ns e x. fine-one ns _ _ _ _ _ (c .loop-test .taken) (c .before .loop .inv .1 ns e x)))
+check-region-check-state-requires t c κs = (omega (arith, c .before .before .before .before .before .before .before .before .if1 .left, c .before .before .before .before .before .before .before .before .before .before .before .before .pre .0), (c .before .before .before .before .before .before .before .before .before .before .before .before .pre .1 .0, c .before .before .before .before .before .before .before .before .before .before .before .before .pre .1 .1, λ ns e. foreseen-one ns _ _ _ _ _ _ (c .loop-test .taken) (c .before .loop .inv .1 ns e)))
 
 check-region-enum-told : (t : ℕ) → check-region-lts.Need-enum-told (check-region-calls t) (check-region-at t) check-region.Post check-region-Inv-loop check-region-μ-loop
 check-region-enum-told t c = search needs
 
 check-region-returns-2 : (t : ℕ) → check-region-lts.Need-returns-2 (check-region-calls t) (check-region-at t) check-region.Post check-region-Inv-loop check-region-μ-loop
 check-region-returns-2 t c = λ ns e. region-goes ns _ _ _ _ _ _ (c .before .before .before .before .before .before .before .before .before .before .if1 .left) (c .before .before .before .before .before .before .before .before .before .entry .ensures) (sym (c .before .before .before .before .before .before .before .if2 .taken) ∙ c .before .before .before .before .before .before .before .before .has-state .ensures) (rows-stop _ _ _ _ _ _ (c .before .before .loop-test .taken) (c .before .check-state .ensures ns e) (stops _ (c .match .keys2)) (c .before .before .before .loop .inv .0 ns e))
+
+check-region-onward-requires : (t : ℕ) → check-region-lts.Need-onward-requires (check-region-calls t) (check-region-at t) check-region.Post check-region-Inv-loop check-region-μ-loop
+check-region-onward-requires t c κs = search needs
 
 check-region-word-requires-2 : (t : ℕ) → check-region-lts.Need-word-requires-2 (check-region-calls t) (check-region-at t) check-region.Post check-region-Inv-loop check-region-μ-loop
 check-region-word-requires-2 t c κs = search needs
@@ -107,7 +111,7 @@ check-region-loop-less : (t : ℕ) → check-region-lts.Need-loop-less (check-re
 check-region-loop-less t c = search needs
 
 check-region-loop-again : (t : ℕ) → check-region-lts.Need-loop-again (check-region-calls t) (check-region-at t) check-region.Post check-region-Inv-loop check-region-μ-loop
-check-region-loop-again t c = (λ ns e. rows-went _ _ _ _ _ _ _ (c .before .before .before .before .loop-test .taken) (c .before .before .before .check-state .ensures ns e) (c .before .enum-told .given .1) (c .word2 .ensures) (c .before .before .before .before .before .loop .inv .0 ns e), λ ns e x. fine-went ns _ _ _ _ _ _ (c .before .before .before .before .loop-test .taken) (c .word2 .ensures) (c .before .before .before .before .before .loop .inv .1 ns e x))
+check-region-loop-again t c = (λ ns e. rows-went _ _ _ _ _ _ _ (c .before .before .before .before .before .loop-test .taken) (c .before .before .before .before .check-state .ensures ns e) (c .before .before .enum-told .given .1) (c .word2 .ensures) (c .before .before .before .before .before .before .loop .inv .0 ns e), λ ns e. foreseen-went ns _ _ _ _ _ _ _ _ (c .before .before .before .before .before .loop-test .taken) (c .before .onward .ensures) (c .word2 .ensures) (c .before .before .before .before .before .before .loop .inv .1 ns e))
 
 check-region-returns-3 : (t : ℕ) → check-region-lts.Need-returns-3 (check-region-calls t) (check-region-at t) check-region.Post check-region-Inv-loop check-region-μ-loop
 check-region-returns-3 t c = λ ns e. region-goes ns _ _ _ _ _ _ (c .before .before .before .before .before .before .before .before .if1 .left) (c .before .before .before .before .before .before .before .entry .ensures) (sym (c .before .before .before .before .before .if2 .taken) ∙ c .before .before .before .before .before .before .has-state .ensures) (rows-done _ _ _ _ _ (c .loop-test .left) (c .before .loop .inv .0 ns e))
@@ -119,10 +123,10 @@ abbrev check-state-calls : ℕ → check-state-lts.Claims
 check-state-calls t = (check-moves-reads.Asked, check-moves-reads.Learnt, word-reads.Asked, word-reads.Learnt, inner-reads.Asked, inner-reads.Learnt, check-region-below t, check-region.Post)
 
 abbrev check-state-Inv-loop : check-state-lts.InvT-loop
-check-state-Inv-loop s names ends t levels closed q p n₀ g₀ n g = (ns : List Name) → length ns ≡ names → eachRow t (checkedRegion ns s t levels) n g ≡ eachRow t (checkedRegion ns s t levels) (getD t (p + 5) 0) (p + 6)
+check-state-Inv-loop s names ends t levels q p n₀ g₀ n g = (ns : List Name) → length ns ≡ names → eachRow t (checkedRegion ns s t levels) n g ≡ eachRow t (checkedRegion ns s t levels) (getD t (p + 5) 0) (p + 6)
 
 abbrev check-state-μ-loop : check-state-lts.MeasureT-loop
-check-state-μ-loop s names ends t levels closed q p n₀ g₀ n g = n
+check-state-μ-loop s names ends t levels q p n₀ g₀ n g = n
 
 check-state-check-moves-requires : (t : ℕ) → check-state-lts.Need-check-moves-requires (check-state-calls t) (check-state-at t) check-state.Post check-state-Inv-loop check-state-μ-loop
 check-state-check-moves-requires t c κs = c .before .before .before .pre .1
@@ -175,7 +179,7 @@ pub +check-region+check-state-spec : {M : Type 1} → statement M
     (check-region-returns t)
     (check-region-entry-requires t)
     (check-region-has-state-requires t)
-    (check-region-closed-rows-requires t)
+    (check-region-foresee-requires t)
     (check-region-word-requires t)
     (check-region-first-requires t)
     (check-region-loop-holds t)
@@ -183,6 +187,7 @@ pub +check-region+check-state-spec : {M : Type 1} → statement M
     (check-region-check-state-requires t)
     (check-region-enum-told t)
     (check-region-returns-2 t)
+    (check-region-onward-requires t)
     (check-region-word-requires-2 t)
     (check-region-sub-n t)
     (check-region-loop-less t)

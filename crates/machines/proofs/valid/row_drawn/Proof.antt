@@ -1,4 +1,4 @@
-use Rattle.machines.proofs.ClosedRows.{row-drawn-is, row-drawn-not}
+use Rattle.machines.proofs.ForeseenRows.{row-drawn-is, row-drawn-not}
 use borrow.Author.Needs.{needs}
 use Rattle.machines.proofs.valid.row_drawn.Statement.{statement}
 use Rattle.machines.proofs.valid.row_drawn.Tie as tie

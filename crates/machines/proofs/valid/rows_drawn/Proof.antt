@@ -3,7 +3,7 @@ use mathlib.Core.Path.{_≡_, refl, sym, _∙_}
 use lib.ListN.{length}
 use Rattle.pack.specs.Names.{Name}
 use Rattle.machines.specs.Valid.{rowsDrawn}
-use Rattle.machines.proofs.ClosedRows.{rows-drawn-done, rows-drawn-stop, rows-drawn-went}
+use Rattle.machines.proofs.ForeseenRows.{rows-drawn-done, rows-drawn-stop, rows-drawn-went}
 use borrow.Author.Needs.{needs}
 use Rattle.machines.proofs.valid.rows_drawn.Statement.{statement}
 use Rattle.machines.proofs.valid.rows_drawn.Tie as tie

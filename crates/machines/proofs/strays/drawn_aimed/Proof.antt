@@ -4,11 +4,11 @@ use lib.ListN.{length}
 use Rattle.pack.specs.Names.{Name}
 use Rattle.machines.specs.Drawn.{Among, aimedD}
 use Rattle.machines.specs.Known.{Known}
-use Rattle.machines.proofs.ClosedLaws.{aimed-done, aimed-stop, aimed-went, among-now}
+use Rattle.machines.proofs.StrayLaws.{aimed-done, aimed-stop, aimed-went, among-now}
 use Rattle.machines.proofs.SureLaws.{known-none, known-now}
 use borrow.Author.Needs.{needs}
-use Rattle.machines.proofs.closed.drawn_aimed.Statement.{statement}
-use Rattle.machines.proofs.closed.drawn_aimed.Tie as tie
+use Rattle.machines.proofs.strays.drawn_aimed.Statement.{statement}
+use Rattle.machines.proofs.strays.drawn_aimed.Tie as tie
 
 abbrev Inv-loop : tie.InvT-loop
 Inv-loop s names ends n f count from k₀ o₀ known₀ last₀ k o known last = ((ns : List Name) → length ns ≡ names → aimedD ns s n f k o ≡ aimedD ns s n f count from) × Known known (Among s names n f) last

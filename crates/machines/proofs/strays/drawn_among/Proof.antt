@@ -3,10 +3,10 @@ use mathlib.Core.Path.{_≡_, refl}
 use lib.ListN.{length}
 use Rattle.pack.specs.Names.{Name}
 use Rattle.machines.specs.Drawn.{amongD}
-use Rattle.machines.proofs.ClosedLaws.{drawn-done, drawn-found, drawn-went}
+use Rattle.machines.proofs.StrayLaws.{drawn-done, drawn-found, drawn-went}
 use borrow.Author.Needs.{needs}
-use Rattle.machines.proofs.closed.drawn_among.Statement.{statement}
-use Rattle.machines.proofs.closed.drawn_among.Tie as tie
+use Rattle.machines.proofs.strays.drawn_among.Statement.{statement}
+use Rattle.machines.proofs.strays.drawn_among.Tie as tie
 
 abbrev Inv-loop : tie.InvT-loop
 Inv-loop s names ends x count from n₀ p₀ n p = (ns : List Name) → length ns ≡ names → amongD ns s x n p ≡ amongD ns s x count from

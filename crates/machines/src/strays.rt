@@ -1,4 +1,5 @@
-// Whether a drawn region's transitions stay in it: said of what is drawn, so that it is looked at once, however often it is shown.
+// The first transition of a drawn region's states that leads to none of them: said of what is drawn, so that it is looked for once,
+// however often it is shown.
 use crate::cover::both;
 use crate::ends::guard_end;
 use crate::ends::moves_of;
@@ -9,9 +10,21 @@ ghost use mathlib.Core.Path.{_≡_};
 ghost use Prim.Native.Nat.{_≤_};
 ghost use lib.ListN.{length};
 ghost use Rattle.pack.specs.Names.{Name};
-ghost use Rattle.machines.specs.Drawn.{Among, amongD, aimedD, closedD};
+ghost use Rattle.machines.specs.Drawn.{Among, amongD, aimedD, straysD};
 ghost use Rattle.machines.specs.Known.{Known};
 ghost use Rattle.machines.specs.Ends.{EndsRight};
+
+// What a state's transitions do: all lead to states of its region, or the first that does not leads to this name.
+pub enum Aim {
+    All,
+    Stray(usize),
+}
+
+// How many states come before the first one that strays, and the name to which it does; all and 0 where none does.
+pub struct Strays {
+    pub fine: usize,
+    pub name: usize,
+}
 
 // Whether one of `count` states drawn from `from` on has the pack's name x.
 fn drawn_among(s: &[u8], names: usize, ends: &[u16], x: usize, count: usize, from: usize) -> bool
@@ -52,7 +65,7 @@ fn drawn_known(
     drawn_among(s, names, ends, x, n, f)
 }
 
-// Whether `count` transitions from `from` on lead to names of the n states drawn from f on.
+// What `count` transitions from `from` on do, of a state of the n states drawn from f on.
 fn drawn_aimed(
     s: &[u8],
     names: usize,
@@ -61,7 +74,7 @@ fn drawn_aimed(
     f: usize,
     count: usize,
     from: usize,
-) -> bool
+) -> Aim
     requires { ⌜ (length (now s) ≤ 65536) × EndsRight (now s) names (now ends) ⌝ }
     ensures { λ r. ⌜ ((ns : List Name) → length ns ≡ names → r ≡ aimedD ns (now (s .entry)) n f count from) ⌝ }
 {
@@ -77,27 +90,27 @@ fn drawn_aimed(
             known = true;
             last = x.value;
         } else {
-            return false;
+            return Aim::Stray(x.value);
         }
     }
-    true
+    Aim::All
 }
 
-// Whether those of the n states drawn from f on do.
-pub fn drawn_closed(s: &[u8], names: usize, ends: &[u16], n: usize, f: usize) -> bool
+// The first of the n states drawn from f on that strays.
+pub fn drawn_strays(s: &[u8], names: usize, ends: &[u16], n: usize, f: usize) -> Strays
     requires { ⌜ (length (now s) ≤ 65536) × EndsRight (now s) names (now ends) ⌝ }
-    ensures { λ r. ⌜ ((ns : List Name) → length ns ≡ names → r ≡ closedD ns (now (s .entry)) n f) ⌝ }
+    ensures { λ r. ⌜ ((ns : List Name) → length ns ≡ names → r ≡ straysD ns (now (s .entry)) n f) ⌝ }
 {
-    let mut m = n;
+    let mut fine = 0;
     let mut p = f;
-    while 0 < m {
+    while fine < n {
         let c = number(s, moves_of(s, names, ends, p));
-        if drawn_aimed(s, names, ends, n, f, c.value, c.next) {
-            p = past_of(s, names, ends, p);
-            m = m - 1;
-        } else {
-            return false;
+        let a = drawn_aimed(s, names, ends, n, f, c.value, c.next);
+        if let Aim::Stray(name) = a {
+            return Strays { fine, name };
         }
+        p = past_of(s, names, ends, p);
+        fine += 1;
     }
-    true
+    Strays { fine, name: 0 }
 }

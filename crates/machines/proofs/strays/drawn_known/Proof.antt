@@ -1,8 +1,8 @@
-use Rattle.machines.proofs.ClosedLaws.{among-told}
+use Rattle.machines.proofs.StrayLaws.{among-told}
 use Rattle.machines.proofs.SureLaws.{known-again}
 use borrow.Author.Needs.{needs}
-use Rattle.machines.proofs.closed.drawn_known.Statement.{statement}
-use Rattle.machines.proofs.closed.drawn_known.Tie as tie
+use Rattle.machines.proofs.strays.drawn_known.Statement.{statement}
+use Rattle.machines.proofs.strays.drawn_known.Tie as tie
 
 both-requires : tie.Need-both-requires
 both-requires c κs = search needs
