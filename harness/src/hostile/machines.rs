@@ -333,6 +333,7 @@ pub fn vast() -> Vec<Hostile> {
         ("3,000 regions, visited 75,000 times", revisited_regions(3_000, 300)),
         ("3,000 equations, visited 75,000 times", revisited_output(3_000, 300)),
         ("5,000 transitions, refined 700 times", refined_transitions(500, 5_000, 700, false)),
+        ("5,000 transitions, refined 700 times, refused", refined_transitions(500, 5_000, 700, true)),
     ])
 }
 
