@@ -84,20 +84,19 @@ take-drop-swap (suc n) (suc m) [] = take-nil (suc m - suc n)
 take-drop-swap (suc n) (suc m) (x ∷ t) = let z : suc m - suc n ≡ m - n = omega arith in ap (λ k. take k (drop n t)) z ∙ take-drop-swap n m t
 
 -- the names of a table that ends at m
-texts-part : (t : List ℕ) (m b : ℕ) → m ≤ length t → b ≡ min (0 + 112642) m → take (m - b) (drop b t) ≡ drop textsFrom (take m t)
-unfolding textsFrom
+texts-part : (t : List ℕ) (m b : ℕ) → m ≤ length t → b ≡ min (0 + textsFrom) m → take (m - b) (drop b t) ≡ drop textsFrom (take m t)
 texts-part t m b l r = ⊎-elim
-    (λ (g : m < 112642).
+    (λ (g : m < textsFrom).
     let z : b ≡ m = omega arith in
     let y : m - b ≡ 0 = omega arith in
-    ap (λ k. take k (drop b t)) y ∙ sym (drop-of-length-le (take m t) {i = 112642} (omega (arith, length-take m t))))
-    (λ (g : 112642 ≤ m).
-    let z : b ≡ 112642 = omega arith in
-    ap (λ k. take (m - k) (drop k t)) z ∙ take-drop-swap 112642 m t)
-    (lt-or-le m 112642)
+    ap (λ k. take k (drop b t)) y ∙ sym (drop-of-length-le (take m t) {i = textsFrom} (omega (arith, length-take m t))))
+    (λ (g : textsFrom ≤ m).
+    let z : b ≡ textsFrom = omega arith in
+    ap (λ k. take (m - k) (drop k t)) z ∙ take-drop-swap textsFrom m t)
+    (lt-or-le m textsFrom)
 
 pub answered-part : (room : ℕ) (old out made : List ℕ) (w : Writer) (m n b : ℕ) → w .full ≡ false → m ≡ min (0 + w .made) (length made)
-    → n ≡ min (0 + w .at) (length out) → b ≡ min (0 + 112642) m
+    → n ≡ min (0 + w .at) (length out) → b ≡ min (0 + textsFrom) m
     → sized room (packOf old (take (m - b) (drop b made)) (take n out)) ≡ answered room old (stateOf out made w)
 unfolding answered stateOf
 answered-part room old out made w m n b e p q r =

@@ -18,11 +18,11 @@ use Rattle.wire.proofs.Writers.{lt-or-le, puts-full, puts-fit, take-part, take-
 use Rattle.pack.specs.Limits.{maxName}
 use Rattle.pack.specs.Names.{Name, eqName}
 use Rattle.pack.specs.Write.{Item, Found, At, Missing, enc, lookup}
-use Rattle.pack.specs.Table.{tableF, table, textsFrom, numberIn, seek, noted, enter, entered, blank, tabled}
+use Rattle.pack.specs.Table.{tableF, table, textsFrom, tableRoom, numberIn, seek, noted, enter, entered, blank, tabled}
 use Rattle.pack.specs.Intern.{notedIn, putEntry, putEntries, putAdded, putNew, putFound, putName, putBuilt, putItem, render, started}
 use Rattle.pack.proofs.TableIndex.{enter-length, noted-length, blank-length}
 
-and-false : (t : Bool) {u : Bool} → u ≡ false → t && u ≡ false
+pub and-false : (t : Bool) {u : Bool} → u ≡ false → t && u ≡ false
 and-false true e = e
 and-false false e = refl
 
@@ -303,11 +303,11 @@ pub started-blank : (o : List ℕ) (k : ℕ) → started o (replicate (textsFrom
 unfolding started blank
 started-blank o k = rw (length-replicate {A = ℕ} (textsFrom + k) 0, take-replicate textsFrom (textsFrom + k) (omega arith))
 
-pub buffer-size : 178178 ≡ textsFrom + 65536
+pub buffer-size : tableRoom ≡ textsFrom + 65536
 unfolding textsFrom
 buffer-size = refl
 
-laid-state : (names m : List ℕ) → length names ≤ 65536 → m ≡ replicate 178178 0
+laid-state : (names m : List ℕ) → length names ≤ 65536 → m ≡ replicate tableRoom 0
     → putEntries (table names) (started [] m) ≡ st 0 (textsFrom + 65536) [] (tabled (table names))
 unfolding table tabled
 laid-state names m h b =
@@ -316,7 +316,7 @@ laid-state names m h b =
     ∙ entries-fit (tableF (length names) names) 0 (textsFrom + 65536) [] blank (omega (arith, tableF-most (length names) names, blank-length))
 
 -- the table of names in a buffer that was blank
-pub laid-is : (names m k : List ℕ) (w : Writer) (e : ℕ) → length names ≤ 65536 → m ≡ replicate 178178 0
+pub laid-is : (names m k : List ℕ) (w : Writer) (e : ℕ) → length names ≤ 65536 → m ≡ replicate tableRoom 0
     → stateOf [] k w ≡ putEntries (table names) (started [] m) → e ≡ min (0 + w .made) (length k) → take e k ≡ tabled (table names)
 unfolding stateOf
 laid-is names m k w e h b r p = take-part k (w .made) e p ∙ go (w .full) (r ∙ laid-state names m h b)

@@ -6,15 +6,15 @@ use mathlib.Core.Logic.{_⊎_, inl, inr, ⊎-elim}
 use mathlib.Core.Path.{_≡_, refl, sym, ap, subst, _∙_}
 use mathlib.Core.List.{List, [], _∷_, _++_, append-nil, append-assoc}
 use lib.ListN.{length, drop, getD, set, replicate, length-append, length-drop, length-set, length-replicate, getD-replicate, List·getD-append, drop-of-length-le}
-use lib.Seq.{append-snoc, getD-append-seam, getD-set-same, getD-set-other, drop-set-lt, drop-append-le, take-append-seam, drop-append-seam, drop-drop, getD-drop}
-use lib.Dec.{eqb}
+use lib.Seq.{append-snoc, getD-append-seam, set-append-left, getD-set-same, getD-set-other, drop-set-lt, drop-append-le, take-append-seam, drop-append-seam, drop-drop, getD-drop}
+use lib.Dec.{eqb, ltb}
 use borrow.Author.Tests.{lt-ltb, le-ltb, ltb-true, leb-true, eqb-true, eqb-false}
 use Rattle.wire.proofs.Writers.{lt-or-le}
 use Rattle.pack.specs.Names.{Name, eqName}
 use Rattle.pack.specs.Write.{enc, Found, At, Missing, lookup}
 use Rattle.pack.specs.declared.table.Place.{Place}
 use Rattle.pack.specs.declared.table.Place.the-variants as pl
-use Rattle.pack.specs.Table.{tableF, table, rowsMost, textsFrom, cellAt, spotAt, below, word, putWord, hash, textAt, textOf, placeFrom, placeOf, foundIn, seek, numberIn, isMissing, isFree, spare, cellFor, hasRow, linked, unindexed, linkedAt, noted, enter, blank, entered, tabled}
+use Rattle.pack.specs.Table.{tableF, table, rowsMost, heads, cells, spotsFrom, textsFrom, cellAt, spotAt, below, word, putWord, hash, textAt, textOf, placeFrom, placeOf, foundIn, seek, numberIn, isMissing, isFree, spare, inIndex, cellFor, hasRow, linked, unindexed, linkedAt, noted, enter, blank, entered, tabled}
 use Rattle.pack.proofs.Tables.{enc-append, eqName-refl, eqName-true}
 
 -- NAMES, EACH AFTER ITS LENGTH BYTE
@@ -51,6 +51,13 @@ word-put t i v h l =
     let b : getD (set (set t i (v % 256)) (i + 1) (v / 256 % 256)) (i + 1) 0 ≡ v / 256 % 256
     = getD-set-same (set t i (v % 256)) (i + 1) (v / 256 % 256) 0 (omega (arith, length-set t i (v % 256))) in
     rw (a, b) (omega arith)
+
+-- a word of the first of two lists
+put-front : (t x : List ℕ) (i v : ℕ) → i + 1 < length t → putWord (t ++ x) i v ≡ putWord t i v ++ x
+unfolding putWord
+put-front t x i v h =
+    ap (λ (l : List ℕ). set l (i + 1) (v / 256 % 256)) (set-append-left t x i (v % 256) (omega arith))
+    ∙ set-append-left (set t i (v % 256)) x (i + 1) (v / 256 % 256) (omega (arith, length-set t i (v % 256)))
 
 -- bytes apart from a word stay
 put-getD : (t : List ℕ) (i v j : ℕ) → (j ≡ i → ⊥) → (j ≡ i + 1 → ⊥) → getD (putWord t i v) j 0 ≡ getD t j 0
@@ -144,7 +151,7 @@ lookup-there (y ∷ ns) (suc k) s j l e = go (eqName y (getD ns k [])) (lookup-t
 pub record Indexed (t : List ℕ) (ns : List Name) : Type 0 where
   pub count : word t 0 ≡ length ns
   pub few : length ns ≤ rowsMost
-  pub low : (i : ℕ) → i < 38912 → word t (cellAt i) ≤ length ns
+  pub low : (i : ℕ) → i < cells → word t (cellAt i) ≤ length ns
   pub rows : (k : ℕ) → k < length ns → RowOf t k (getD ns k [])
   pub finds : (n : Name) (j : ℕ) → lookup ns n 0 ≡ At j → placeOf t n ≡ pl.Taken j
 
@@ -154,7 +161,7 @@ pub record Right (t : List ℕ) (ns : List Name) : Type 0 where
   pub texts : drop textsFrom t ≡ enc ns
   pub index : (rowsMost < word t 0) ⊎ Indexed t ns
 
-pub texts-is : textsFrom ≡ 112642
+pub texts-is : textsFrom ≡ spotsFrom + 2 * 17408
 unfolding textsFrom
 texts-is = refl
 
@@ -175,8 +182,8 @@ which (pl.Taken k) = 0
 which (pl.Free i) = 1
 which pl.Lost = 2
 
-module _ (t : List ℕ) (n : Name) (c : ℕ) (few : c ≤ rowsMost) (low : (i : ℕ) → i < 38912 → word t (cellAt i) ≤ c) where
-  below-less : (k h : ℕ) → k < c → below k h < 38912
+module _ (t : List ℕ) (n : Name) (c : ℕ) (few : c ≤ rowsMost) (low : (i : ℕ) → i < cells → word t (cellAt i) ≤ c) where
+  below-less : (k h : ℕ) → k < c → below k h < cells
   below-less k h l = omega (arith, few, rows-is)
 
   -- what is found is the number of a name, and that name
@@ -192,28 +199,28 @@ module _ (t : List ℕ) (n : Name) (c : ℕ) (few : c ≤ rowsMost) (low : (i : 
       go true q ih g = let z : m ≡ k = ap its-number g in (omega arith, subst (λ (y : ℕ). eqName (textOf t y) n ≡ true) z q)
       go false q ih g = ih g
 
-  -- a cell that is free is one of those, and holds 0
-  free-word : (f h i w j : ℕ) → i < 38912 → w ≡ word t (cellAt i) → placeFrom f t n h i w ≡ pl.Free j → (j < 38912) × (word t (cellAt j) ≡ 0)
+  -- a cell that is free holds 0
+  free-word : (f h i w j : ℕ) → i < cells → w ≡ word t (cellAt i) → placeFrom f t n h i w ≡ pl.Free j → word t (cellAt j) ≡ 0
   unfolding placeFrom which its-number
   free-word zero h i w j l q e = absurd (let z : _≡_ {A = ℕ} 2 1 = ap which e in omega arith)
-  free-word (suc f) h i zero j l q e = let z : i ≡ j = ap its-number e in (omega arith, subst (λ (y : ℕ). word t (cellAt y) ≡ 0) z (sym q))
+  free-word (suc f) h i zero j l q e = let z : i ≡ j = ap its-number e in subst (λ (y : ℕ). word t (cellAt y) ≡ 0) z (sym q)
   free-word (suc f) h i (suc m) j l q e =
       go (eqName (textOf t m) n) (free-word f (h / 2) (below m h) _ j (below-less m h (omega (arith, low i l))) refl) e
     where
       go : (b : Bool)
-          → (placeFrom f t n (h / 2) (below m h) (word t (cellAt (below m h))) ≡ pl.Free j → (j < 38912) × (word t (cellAt j) ≡ 0))
-          → cond b (pl.Taken m) (placeFrom f t n (h / 2) (below m h) (word t (cellAt (below m h)))) ≡ pl.Free j → (j < 38912) × (word t (cellAt j) ≡ 0)
+          → (placeFrom f t n (h / 2) (below m h) (word t (cellAt (below m h))) ≡ pl.Free j → word t (cellAt j) ≡ 0)
+          → cond b (pl.Taken m) (placeFrom f t n (h / 2) (below m h) (word t (cellAt (below m h)))) ≡ pl.Free j → word t (cellAt j) ≡ 0
       go true ih g = absurd (let z : _≡_ {A = ℕ} 0 1 = ap which g in omega arith)
       go false ih g = ih g
 
-head-less : (n : Name) → hash n % 4096 < 38912
+head-less : (n : Name) → hash n % heads < cells
 head-less n = omega arith
 
 -- what is found is there
 taken-there : (t : List ℕ) (ns : List Name) → Indexed t ns → (n : Name) (j k : ℕ) → lookup ns n 0 ≡ Missing j → placeOf t n ≡ pl.Taken k → ⊥
 unfolding placeOf
 taken-there t ns x n j k e q =
-    let g = taken-text t n (length ns) (x .few) (x .low) 17409 (hash n / 4096) (hash n % 4096) _ k (x .low (hash n % 4096) (head-less n)) q in
+    let g = taken-text t n (length ns) (x .few) (x .low) 17409 (hash n / heads) (hash n % heads) _ k (x .low (hash n % heads) (head-less n)) q in
     let m : getD ns k [] ≡ n = sym (row-text t k (getD ns k []) (x .rows k (g .0))) ∙ eqName-true (textOf t k) n (g .1) in
     lookup-there ns k 0 j (g .0) (ap (λ (y : Name). lookup ns y 0) m ∙ e)
 
@@ -250,6 +257,7 @@ pub record Rowed (t : List ℕ) (n : Name) : Type 0 where
   pub short : length t < textsFrom + 65536
   pub cell : ℕ
   pub free : placeOf t n ≡ pl.Free cell
+  pub inside : cell < cells
   pub new : isMissing (seek t n) ≡ true
 
 -- a name that has a cell is not found
@@ -263,102 +271,131 @@ free-is (pl.Taken k) e R g = absurd (let z : _≡_ {A = ℕ} 0 1 = cc in omega a
 free-is (pl.Free i) e R g = g i refl
 free-is pl.Lost e R g = absurd (let z : _≡_ {A = ℕ} 0 1 = cc in omega arith)
 
+-- a cell that the index has
+in-index : (p : Place) (i : ℕ) → inIndex p ≡ pl.Free i → (p ≡ pl.Free i) × (i < cells)
+unfolding inIndex which its-number
+in-index (pl.Taken k) i e = absurd (let z : _≡_ {A = ℕ} 0 1 = ap which e in omega arith)
+in-index (pl.Free j) i e = go (ltb j cells) refl e
+  where
+    go : (b : Bool) → ltb j cells ≡ b → cond b (pl.Free j) pl.Lost ≡ pl.Free i → (pl.Free j ≡ pl.Free i) × (i < cells)
+    go true q g = let z : j ≡ i = ap its-number g in (g, omega (arith, ltb-true j cells q))
+    go false q g = absurd (let z : _≡_ {A = ℕ} 2 1 = ap which g in omega arith)
+in-index pl.Lost i e = absurd (let z : _≡_ {A = ℕ} 2 1 = ap which e in omega arith)
+
 -- with room for one more
-spare-row : (t : List ℕ) (n : Name) → spare t ≡ true → (i : ℕ) → placeOf t n ≡ pl.Free i → Rowed t n
+spare-row : (t : List ℕ) (n : Name) → spare t ≡ true → (i : ℕ) → inIndex (placeOf t n) ≡ pl.Free i → Rowed t n
 unfolding spare
 spare-row t n e i z =
     let a = and-eq-true-iff _ _ .0 e in
     let b = and-eq-true-iff _ _ .0 (a .1) in
     let l = ltb-true _ _ (a .0) in
-    record { few = l; long = leb-true _ _ (b .0); short = ltb-true _ _ (b .1); cell = i; free = z; new = free-missing t n i l z }
+    let g = in-index (placeOf t n) i z in
+    record { few = l; long = leb-true _ _ (b .0); short = ltb-true _ _ (b .1); cell = i; free = g .0; inside = g .1; new = free-missing t n i l (g .0) }
 
 pub rowed : (t : List ℕ) (n : Name) → hasRow t n ≡ true → Rowed t n
 unfolding hasRow cellFor isFree
 rowed t n e = go (spare t) refl e
   where
-    go : (b : Bool) → spare t ≡ b → isFree (cond b (placeOf t n) pl.Lost) ≡ true → Rowed t n
+    go : (b : Bool) → spare t ≡ b → isFree (cond b (inIndex (placeOf t n)) pl.Lost) ≡ true → Rowed t n
     go false q g = absurd (let z : _≡_ {A = ℕ} 0 1 = cc in omega arith)
-    go true q g = free-is (placeOf t n) g (Rowed t n) (λ i z. spare-row t n q i z)
+    go true q g = free-is (inIndex (placeOf t n)) g (Rowed t n) (λ i z. spare-row t n q i z)
+
+-- what is known of a cell for a name
+cell-inside : (t : List ℕ) (n : Name) (i : ℕ) → cellFor t n ≡ pl.Free i → (word t 0 < rowsMost) × (i < cells)
+unfolding cellFor spare which
+cell-inside t n i e = go (spare t) refl e
+  where
+    go : (b : Bool) → spare t ≡ b → cond b (inIndex (placeOf t n)) pl.Lost ≡ pl.Free i → (word t 0 < rowsMost) × (i < cells)
+    go false q g = absurd (let z : _≡_ {A = ℕ} 2 1 = ap which g in omega arith)
+    go true q g = (ltb-true _ _ (and-eq-true-iff _ _ .0 q .0), in-index (placeOf t n) i g .1)
 
 -- the three words of a row: the spot, the cell and the count
-module _ (t : List ℕ) (c i : ℕ) where
+module _ (t : List ℕ) (c i p : ℕ) where
   abbrev withSpot : List ℕ
-  withSpot = putWord t (spotAt c) (length t - textsFrom)
+  withSpot = putWord t (spotAt c) p
 
   abbrev withCell : List ℕ
   withCell = putWord withSpot (cellAt i) (c + 1)
 
   spot-length : length withSpot ≡ length t
-  spot-length = put-length t (spotAt c) (length t - textsFrom)
+  spot-length = put-length t (spotAt c) p
 
   cell-length : length withCell ≡ length t
   cell-length = put-length withSpot (cellAt i) (c + 1) ∙ spot-length
 
-  linked-length : length (linked c i t) ≡ length t
+  linked-length : length (linked c i p t) ≡ length t
   unfolding linked
   linked-length = put-length withCell 0 (c + 1) ∙ cell-length
 
-  module _ (few : c < rowsMost) (inside : i < 38912) where
-    linked-drop : (p : ℕ) → textsFrom ≤ p → drop p (linked c i t) ≡ drop p t
+  module _ (few : c < rowsMost) (inside : i < cells) where
+    linked-drop : (d : ℕ) → textsFrom ≤ d → drop d (linked c i p t) ≡ drop d t
     unfolding linked
-    linked-drop p g =
-        put-drop withCell 0 (c + 1) p (omega (arith, texts-is))
-        ∙ put-drop withSpot (cellAt i) (c + 1) p (omega (arith, texts-is))
-        ∙ put-drop t (spotAt c) (length t - textsFrom) p (omega (arith, texts-is, rows-is))
+    linked-drop d g =
+        put-drop withCell 0 (c + 1) d (omega (arith, texts-is))
+        ∙ put-drop withSpot (cellAt i) (c + 1) d (omega (arith, texts-is))
+        ∙ put-drop t (spotAt c) p d (omega (arith, texts-is, rows-is))
 
     -- words that are none of the three
-    linked-spots : (k : ℕ) → k < c → word (linked c i t) (spotAt k) ≡ word t (spotAt k)
+    linked-spots : (k : ℕ) → k < c → word (linked c i p t) (spotAt k) ≡ word t (spotAt k)
     unfolding linked
     linked-spots k l =
         word-above withCell 0 (c + 1) (spotAt k) (omega arith)
         ∙ word-above withSpot (cellAt i) (c + 1) (spotAt k) (omega arith)
-        ∙ word-below t (spotAt c) (length t - textsFrom) (spotAt k) (omega arith)
+        ∙ word-below t (spotAt c) p (spotAt k) (omega arith)
 
-    linked-before : (j : ℕ) → j < i → word (linked c i t) (cellAt j) ≡ word t (cellAt j)
+    linked-before : (j : ℕ) → j < i → word (linked c i p t) (cellAt j) ≡ word t (cellAt j)
     unfolding linked
     linked-before j l =
         word-above withCell 0 (c + 1) (cellAt j) (omega arith)
         ∙ word-below withSpot (cellAt i) (c + 1) (cellAt j) (omega arith)
-        ∙ word-below t (spotAt c) (length t - textsFrom) (cellAt j) (omega arith)
+        ∙ word-below t (spotAt c) p (cellAt j) (omega arith)
 
-    linked-after : (j : ℕ) → i < j → j < 38912 → word (linked c i t) (cellAt j) ≡ word t (cellAt j)
+    linked-after : (j : ℕ) → i < j → j < cells → word (linked c i p t) (cellAt j) ≡ word t (cellAt j)
     unfolding linked
     linked-after j l m =
         word-above withCell 0 (c + 1) (cellAt j) (omega arith)
         ∙ word-above withSpot (cellAt i) (c + 1) (cellAt j) (omega arith)
-        ∙ word-below t (spotAt c) (length t - textsFrom) (cellAt j) (omega arith)
+        ∙ word-below t (spotAt c) p (cellAt j) (omega arith)
 
-    linked-others : (j : ℕ) → j < 38912 → (j ≡ i → ⊥) → word (linked c i t) (cellAt j) ≡ word t (cellAt j)
+    linked-others : (j : ℕ) → j < cells → (j ≡ i → ⊥) → word (linked c i p t) (cellAt j) ≡ word t (cellAt j)
     linked-others j l n = ⊎-elim
         (linked-before j)
         (λ (g : i ≤ j). ⊎-elim (λ (m : i < j). linked-after j m l) (λ (m : j ≤ i). absurd (n (omega arith))) (lt-or-le i j))
         (lt-or-le j i)
 
     module _ (long : textsFrom ≤ length t) where
-      linked-count : word (linked c i t) 0 ≡ c + 1
+      linked-count : word (linked c i p t) 0 ≡ c + 1
       unfolding linked
       linked-count = word-put withCell 0 (c + 1) (omega (arith, cell-length, texts-is)) (omega (arith, rows-is))
 
-      linked-cell : word (linked c i t) (cellAt i) ≡ c + 1
+      linked-cell : word (linked c i p t) (cellAt i) ≡ c + 1
       unfolding linked
       linked-cell =
           word-above withCell 0 (c + 1) (cellAt i) (omega arith)
           ∙ word-put withSpot (cellAt i) (c + 1) (omega (arith, spot-length, texts-is)) (omega (arith, rows-is))
 
-      linked-spot : length t < textsFrom + 65536 → word (linked c i t) (spotAt c) ≡ length t - textsFrom
+      linked-spot : p < 65536 → word (linked c i p t) (spotAt c) ≡ p
       unfolding linked
       linked-spot s =
           word-above withCell 0 (c + 1) (spotAt c) (omega arith)
           ∙ word-above withSpot (cellAt i) (c + 1) (spotAt c) (omega arith)
-          ∙ word-put t (spotAt c) (length t - textsFrom) (omega (arith, texts-is, rows-is)) (omega arith)
+          ∙ word-put t (spotAt c) p (omega (arith, texts-is, rows-is)) s
+
+-- a row that is put into an index which stands apart from the names
+linked-front : (t x : List ℕ) (c i p : ℕ) → length t ≡ textsFrom → c < rowsMost → i < cells → linked c i p (t ++ x) ≡ linked c i p t ++ x
+unfolding linked
+linked-front t x c i p l few inside =
+    ap (λ (u : List ℕ). putWord (putWord u (cellAt i) (c + 1)) 0 (c + 1)) (put-front t x (spotAt c) p (omega (arith, texts-is, rows-is)))
+    ∙ ap (λ (u : List ℕ). putWord u 0 (c + 1)) (put-front (withSpot t c i p) x (cellAt i) (c + 1) (omega (arith, spot-length t c i p, texts-is)))
+    ∙ put-front (withCell t c i p) x 0 (c + 1) (omega (arith, cell-length t c i p, texts-is))
 
 -- two tables, where u has the name n as the number c in the cell i, which is free in t
-module _ (t u : List ℕ) (n : Name) (c i : ℕ) (few : c ≤ rowsMost) (low : (j : ℕ) → j < 38912 → word t (cellAt j) ≤ c)
+module _ (t u : List ℕ) (n : Name) (c i : ℕ) (few : c ≤ rowsMost) (low : (j : ℕ) → j < cells → word t (cellAt j) ≤ c)
     (free : word t (cellAt i) ≡ 0) (cell : word u (cellAt i) ≡ suc c) (text : textOf u c ≡ n)
-    (cells : (j : ℕ) → j < 38912 → (j ≡ i → ⊥) → word u (cellAt j) ≡ word t (cellAt j)) (texts : (k : ℕ) → k < c → textOf u k ≡ textOf t k) where
+    (others : (j : ℕ) → j < cells → (j ≡ i → ⊥) → word u (cellAt j) ≡ word t (cellAt j)) (texts : (k : ℕ) → k < c → textOf u k ≡ textOf t k) where
   -- a cell that is not free stays
-  cell-stays : (j m : ℕ) → j < 38912 → word t (cellAt j) ≡ suc m → word u (cellAt j) ≡ suc m
-  cell-stays j m l e = cells j l (λ q. omega (arith, free, e, ap (λ y. word t (cellAt y)) q)) ∙ e
+  cell-stays : (j m : ℕ) → j < cells → word t (cellAt j) ≡ suc m → word u (cellAt j) ≡ suc m
+  cell-stays j m l e = others j l (λ q. omega (arith, free, e, ap (λ y. word t (cellAt y)) q)) ∙ e
 
   step-same : (f : ℕ) (x : Name) (h j m : ℕ) → m < c
       → placeFrom (suc f) u x h j (suc m) ≡ cond (eqName (textOf t m) x) (pl.Taken m) (placeFrom f u x (h / 2) (below m h) (word u (cellAt (below m h))))
@@ -367,7 +404,7 @@ module _ (t u : List ℕ) (n : Name) (c i : ℕ) (few : c ≤ rowsMost) (low : (
       ap (λ (y : Name). cond (eqName y x) (pl.Taken m) (placeFrom f u x (h / 2) (below m h) (word u (cellAt (below m h))))) (texts m l)
 
   -- what was found is found
-  taken-stays : (x : Name) (f h j w k : ℕ) → j < 38912 → w ≡ word t (cellAt j) → placeFrom f t x h j w ≡ pl.Taken k
+  taken-stays : (x : Name) (f h j w k : ℕ) → j < cells → w ≡ word t (cellAt j) → placeFrom f t x h j w ≡ pl.Taken k
       → placeFrom f u x h j (word u (cellAt j)) ≡ pl.Taken k
   unfolding placeFrom which
   taken-stays x zero h j w k l q e = absurd (let z : _≡_ {A = ℕ} 2 0 = ap which e in omega arith)
@@ -386,7 +423,7 @@ module _ (t u : List ℕ) (n : Name) (c i : ℕ) (few : c ≤ rowsMost) (low : (
       go false ih g = ih g
 
   -- the new name is found
-  free-taken : (f h j w : ℕ) → j < 38912 → w ≡ word t (cellAt j) → placeFrom f t n h j w ≡ pl.Free i
+  free-taken : (f h j w : ℕ) → j < cells → w ≡ word t (cellAt j) → placeFrom f t n h j w ≡ pl.Free i
       → placeFrom f u n h j (word u (cellAt j)) ≡ pl.Taken c
   unfolding placeFrom which its-number
   free-taken zero h j w l q e = absurd (let z : _≡_ {A = ℕ} 2 1 = ap which e in omega arith)
@@ -409,50 +446,53 @@ module _ (t u : List ℕ) (n : Name) (c i : ℕ) (few : c ≤ rowsMost) (low : (
 
 -- the index with a row more
 module _ (t : List ℕ) (ns : List Name) (n : Name) (x : Indexed t ns) (o : Rowed t n) where
+  abbrev spot : ℕ
+  spot = length t - textsFrom
+
   abbrev more : List ℕ
-  more = linked (length ns) (o .cell) t ++ (length n ∷ n)
+  more = linked (length ns) (o .cell) spot t ++ (length n ∷ n)
 
   few-rows : length ns < rowsMost
   few-rows = omega (arith, x .count, o .few)
 
-  cell-free : (o .cell < 38912) × (word t (cellAt (o .cell)) ≡ 0)
+  cell-free : word t (cellAt (o .cell)) ≡ 0
   unfolding placeOf
-  cell-free = free-word t n (length ns) (x .few) (x .low) 17409 (hash n / 4096) (hash n % 4096) _ (o .cell) (head-less n) refl (o .free)
+  cell-free = free-word t n (length ns) (x .few) (x .low) 17409 (hash n / heads) (hash n % heads) _ (o .cell) (head-less n) refl (o .free)
 
-  more-word : (i : ℕ) → i + 1 < textsFrom → word more i ≡ word (linked (length ns) (o .cell) t) i
-  more-word i h = word-append _ (length n ∷ n) i (omega (arith, linked-length t (length ns) (o .cell), o .long))
+  more-word : (i : ℕ) → i + 1 < textsFrom → word more i ≡ word (linked (length ns) (o .cell) spot t) i
+  more-word i h = word-append _ (length n ∷ n) i (omega (arith, linked-length t (length ns) (o .cell) spot, o .long))
 
   more-drop : (p : ℕ) → textsFrom ≤ p → p ≤ length t → drop p more ≡ drop p t ++ (length n ∷ n)
   more-drop p g h =
-      drop-append-le p _ (length n ∷ n) (omega (arith, linked-length t (length ns) (o .cell)))
-      ∙ ap (λ (y : List ℕ). y ++ (length n ∷ n)) (linked-drop t (length ns) (o .cell) few-rows (cell-free .0) p g)
+      drop-append-le p _ (length n ∷ n) (omega (arith, linked-length t (length ns) (o .cell) spot))
+      ∙ ap (λ (y : List ℕ). y ++ (length n ∷ n)) (linked-drop t (length ns) (o .cell) spot few-rows (o .inside) p g)
 
   more-cell : word more (cellAt (o .cell)) ≡ suc (length ns)
   more-cell =
-      more-word (cellAt (o .cell)) (omega (arith, cell-free .0, texts-is))
-      ∙ linked-cell t (length ns) (o .cell) few-rows (cell-free .0) (o .long)
+      more-word (cellAt (o .cell)) (omega (arith, o .inside, texts-is))
+      ∙ linked-cell t (length ns) (o .cell) spot few-rows (o .inside) (o .long)
       ∙ (let z : length ns + 1 ≡ suc (length ns) = omega arith in z)
 
-  more-others : (j : ℕ) → j < 38912 → (j ≡ o .cell → ⊥) → word more (cellAt j) ≡ word t (cellAt j)
-  more-others j l d = more-word (cellAt j) (omega (arith, texts-is)) ∙ linked-others t (length ns) (o .cell) few-rows (cell-free .0) j l d
+  more-others : (j : ℕ) → j < cells → (j ≡ o .cell → ⊥) → word more (cellAt j) ≡ word t (cellAt j)
+  more-others j l d = more-word (cellAt j) (omega (arith, texts-is)) ∙ linked-others t (length ns) (o .cell) spot few-rows (o .inside) j l d
 
   -- the new name
   more-row : RowOf more (length ns) n
   more-row =
       let c = length ns in
-      let w : word more (spotAt c) ≡ length t - textsFrom =
-      more-word (spotAt c) (omega (arith, few-rows, texts-is, rows-is)) ∙ linked-spot t c (o .cell) few-rows (cell-free .0) (o .long) (o .short) in
-      let p : textsFrom + word more (spotAt c) ≡ length (linked c (o .cell) t) = omega (arith, w, linked-length t c (o .cell), o .long) in
+      let w : word more (spotAt c) ≡ spot =
+      more-word (spotAt c) (omega (arith, few-rows, texts-is, rows-is)) ∙ linked-spot t c (o .cell) spot few-rows (o .inside) (o .long) (omega (arith, o .short)) in
+      let p : textsFrom + word more (spotAt c) ≡ length (linked c (o .cell) spot t) = omega (arith, w, linked-length t c (o .cell) spot, o .long) in
       record {
         rest = [];
-        stands = ap (λ y. drop y more) p ∙ drop-append-seam (linked c (o .cell) t) (length n ∷ n) ∙ ap (λ (y : List ℕ). length n ∷ y) (sym (append-nil n));
+        stands = ap (λ y. drop y more) p ∙ drop-append-seam (linked c (o .cell) spot t) (length n ∷ n) ∙ ap (λ (y : List ℕ). length n ∷ y) (sym (append-nil n));
       }
 
   -- those before it
   keep-row : (k : ℕ) → k < length ns → (m : Name) → RowOf t k m → RowOf more k m
   keep-row k l m r =
       let v : word more (spotAt k) ≡ word t (spotAt k) =
-      more-word (spotAt k) (omega (arith, few-rows, texts-is, rows-is)) ∙ linked-spots t (length ns) (o .cell) few-rows (cell-free .0) k l in
+      more-word (spotAt k) (omega (arith, few-rows, texts-is, rows-is)) ∙ linked-spots t (length ns) (o .cell) spot few-rows (o .inside) k l in
       let p = textsFrom + word t (spotAt k) in
       let g : p ≤ length t = let e = ap length (r .stands) in omega (arith, length-drop p t) in
       record {
@@ -474,7 +514,7 @@ module _ (t : List ℕ) (ns : List Name) (n : Name) (x : Indexed t ns) (o : Rowe
   more-texts : (k : ℕ) → k < length ns → textOf more k ≡ textOf t k
   more-texts k l = row-text more k _ (keep-row k l _ (x .rows k l)) ∙ sym (row-text t k _ (x .rows k l))
 
-  more-low : (i : ℕ) → i < 38912 → word more (cellAt i) ≤ length (ns ++ (n ∷ []))
+  more-low : (i : ℕ) → i < cells → word more (cellAt i) ≤ length (ns ++ (n ∷ []))
   more-low i l = go (eqb i (o .cell)) refl
     where
       go : (b : Bool) → eqb i (o .cell) ≡ b → word more (cellAt i) ≤ length (ns ++ (n ∷ []))
@@ -486,24 +526,24 @@ module _ (t : List ℕ) (ns : List Name) (n : Name) (x : Indexed t ns) (o : Rowe
   more-finds y j e = go (lookup ns y 0) refl (sym (lookup-snoc ns n y 0) ∙ e)
     where
       new : (k : ℕ) → lookup ns y 0 ≡ Missing k → (b : Bool) → eqName n y ≡ b → cond b (At k) (Missing (k + 1)) ≡ At j
-          → placeFrom 17409 more y (hash y / 4096) (hash y % 4096) (word more (cellAt (hash y % 4096))) ≡ pl.Taken j
+          → placeFrom 17409 more y (hash y / heads) (hash y % heads) (word more (cellAt (hash y % heads))) ≡ pl.Taken j
       new k p false q g = absurd (let z : _≡_ {A = ℕ} 0 1 = cc in omega arith)
       new k p true q g =
           let a : k ≡ j = ap numberIn g in
           let z : length ns ≡ j = let h = lookup-none ns y 0 k p in omega arith in
-          subst (λ (v : Name). placeFrom 17409 more v (hash v / 4096) (hash v % 4096) (word more (cellAt (hash v % 4096))) ≡ pl.Taken j) (eqName-true n y q)
-          (free-taken t more n (length ns) (o .cell) (x .few) (x .low) (cell-free .1) more-cell (row-text more (length ns) n more-row) more-others more-texts 17409 (hash n / 4096) (hash n % 4096) _ (head-less n) refl (o .free)
+          subst (λ (v : Name). placeFrom 17409 more v (hash v / heads) (hash v % heads) (word more (cellAt (hash v % heads))) ≡ pl.Taken j) (eqName-true n y q)
+          (free-taken t more n (length ns) (o .cell) (x .few) (x .low) cell-free more-cell (row-text more (length ns) n more-row) more-others more-texts 17409 (hash n / heads) (hash n % heads) _ (head-less n) refl (o .free)
           ∙ ap pl.Taken z)
 
       go : (f : Found) → lookup ns y 0 ≡ f → onto f n y ≡ At j
-          → placeFrom 17409 more y (hash y / 4096) (hash y % 4096) (word more (cellAt (hash y % 4096))) ≡ pl.Taken j
-      go (At k) p g = taken-stays t more n (length ns) (o .cell) (x .few) (x .low) (cell-free .1) more-cell (row-text more (length ns) n more-row) more-others more-texts y 17409 (hash y / 4096) (hash y % 4096) _ j (head-less y) refl (x .finds y j (p ∙ g))
+          → placeFrom 17409 more y (hash y / heads) (hash y % heads) (word more (cellAt (hash y % heads))) ≡ pl.Taken j
+      go (At k) p g = taken-stays t more n (length ns) (o .cell) (x .few) (x .low) cell-free more-cell (row-text more (length ns) n more-row) more-others more-texts y 17409 (hash y / heads) (hash y % heads) _ j (head-less y) refl (x .finds y j (p ∙ g))
       go (Missing k) p g = new k p (eqName n y) refl g
 
   indexed-more : Indexed more (ns ++ (n ∷ []))
   indexed-more = record {
     count = more-word 0 (omega (arith, texts-is))
-        ∙ linked-count t (length ns) (o .cell) few-rows (cell-free .0) (o .long)
+        ∙ linked-count t (length ns) (o .cell) spot few-rows (o .inside) (o .long)
         ∙ sym (length-append ns (n ∷ []));
     few = omega (arith, few-rows, length-append ns (n ∷ []));
     low = more-low;
@@ -511,47 +551,65 @@ module _ (t : List ℕ) (ns : List Name) (n : Name) (x : Indexed t ns) (o : Rowe
     finds = more-finds;
   }
 
-noted-row : (t : List ℕ) (n : Name) (o : Rowed t n) → hasRow t n ≡ true → noted n t ≡ linked (word t 0) (o .cell) t
-unfolding noted hasRow cellFor linkedAt isFree
+noted-row : (t : List ℕ) (n : Name) (o : Rowed t n) → hasRow t n ≡ true → noted n t ≡ linked (word t 0) (o .cell) (length t - textsFrom) t
+unfolding noted hasRow cellFor linkedAt inIndex isFree
 noted-row t n o e = go (spare t) e
   where
-    go : (b : Bool) → isFree (cond b (placeOf t n) pl.Lost) ≡ true → linkedAt (cond b (placeOf t n) pl.Lost) t ≡ linked (word t 0) (o .cell) t
+    go : (b : Bool) → isFree (cond b (inIndex (placeOf t n)) pl.Lost) ≡ true → linkedAt (cond b (inIndex (placeOf t n)) pl.Lost) (length t - textsFrom) t ≡ linked (word t 0) (o .cell) (length t - textsFrom) t
     go false g = absurd (let z : _≡_ {A = ℕ} 0 1 = cc in omega arith)
-    go true g = ap (λ (y : Place). linkedAt y t) (o .free)
+    go true g = rw (o .free, lt-ltb (o .cell) cells (o .inside))
+
+pub linked-none : (cell : Place) (p : ℕ) (t : List ℕ) → isFree cell ≡ false → unindexed t ≡ linkedAt cell p t
+unfolding linkedAt isFree
+linked-none (pl.Taken k) p t e = refl
+linked-none (pl.Free i) p t e = absurd (let z : _≡_ {A = ℕ} 0 1 = cc in omega arith)
+linked-none pl.Lost p t e = refl
 
 noted-none : (t : List ℕ) (n : Name) → hasRow t n ≡ false → noted n t ≡ putWord t 0 (rowsMost + 1)
-unfolding noted hasRow linkedAt unindexed isFree
-noted-none t n e = go (cellFor t n) e
-  where
-    go : (p : Place) → isFree p ≡ false → linkedAt p t ≡ putWord t 0 (rowsMost + 1)
-    go (pl.Taken k) g = refl
-    go (pl.Free i) g = absurd (let z : _≡_ {A = ℕ} 0 1 = cc in omega arith)
-    go pl.Lost g = refl
+unfolding noted hasRow unindexed
+noted-none t n e = sym (linked-none (cellFor t n) (length t - textsFrom) t e)
 
 pub noted-length : (t : List ℕ) (n : Name) → length (noted n t) ≡ length t
 noted-length t n = go (hasRow t n) refl
   where
     go : (b : Bool) → hasRow t n ≡ b → length (noted n t) ≡ length t
-    go true e = let o = rowed t n e in ap length (noted-row t n o e) ∙ linked-length t (word t 0) (o .cell)
+    go true e = let o = rowed t n e in ap length (noted-row t n o e) ∙ linked-length t (word t 0) (o .cell) (length t - textsFrom)
     go false e = ap length (noted-none t n e) ∙ put-length t 0 (rowsMost + 1)
 
-pub enter-plain : (t : List ℕ) (n : Name) → textsFrom ≤ length t → hasRow t n ≡ false → rowsMost < word (enter n t) 0
+enter-plain : (t : List ℕ) (n : Name) → textsFrom ≤ length t → hasRow t n ≡ false → rowsMost < word (enter n t) 0
 unfolding enter
 enter-plain t n l e =
     let a : word (noted n t ++ (length n ∷ n)) 0 ≡ word (noted n t) 0 = word-append (noted n t) (length n ∷ n) 0 (omega (arith, noted-length t n, texts-is)) in
     let b : word (noted n t) 0 ≡ rowsMost + 1 = ap (λ (y : List ℕ). word y 0) (noted-none t n e) ∙ word-put t 0 (rowsMost + 1) (omega (arith, texts-is)) (omega (arith, rows-is)) in
     omega (arith, a ∙ b)
 
--- the names before it stay
-noted-drop : (t : List ℕ) (ns : List Name) (n : Name) → Right t ns → drop textsFrom (noted n t) ≡ drop textsFrom t
-noted-drop t ns n r = go (hasRow t n) refl (r .index)
+-- the row of a name where the index stands apart from the names
+pub noted-front : (t x : List ℕ) (n : Name) (p : Place) → length t ≡ textsFrom → p ≡ cellFor (t ++ x) n → linkedAt p (length x) t ++ x ≡ noted n (t ++ x)
+unfolding noted linkedAt unindexed
+noted-front t x n p l e =
+    let z : length x ≡ length (t ++ x) - textsFrom = omega (arith, length-append t x) in
+    go p e ∙ ap (λ (y : Place). linkedAt y (length x) (t ++ x)) e ∙ ap (λ k. linkedAt (cellFor (t ++ x) n) k (t ++ x)) z
   where
-    go : (b : Bool) → hasRow t n ≡ b → ((rowsMost < word t 0) ⊎ Indexed t ns) → drop textsFrom (noted n t) ≡ drop textsFrom t
-    go true e (inl i) = absurd (let q = rowed t n e .few in omega arith)
-    go true e (inr x) =
+    off : putWord t 0 (rowsMost + 1) ++ x ≡ putWord (t ++ x) 0 (rowsMost + 1)
+    off = sym (put-front t x 0 (rowsMost + 1) (omega (arith, texts-is)))
+
+    go : (p : Place) → p ≡ cellFor (t ++ x) n → linkedAt p (length x) t ++ x ≡ linkedAt p (length x) (t ++ x)
+    go (pl.Taken k) q = off
+    go (pl.Free i) q =
+        let g = cell-inside (t ++ x) n i (sym q) in
+        ap (λ c. linked c i (length x) t ++ x) (sym (word-append t x 0 (omega (arith, texts-is))))
+        ∙ sym (linked-front t x (word (t ++ x) 0) i (length x) l (g .0) (g .1))
+    go pl.Lost q = off
+
+-- the names before it stay
+noted-drop : (t : List ℕ) (n : Name) → drop textsFrom (noted n t) ≡ drop textsFrom t
+noted-drop t n = go (hasRow t n) refl
+  where
+    go : (b : Bool) → hasRow t n ≡ b → drop textsFrom (noted n t) ≡ drop textsFrom t
+    go true e =
         let o = rowed t n e in
-        ap (drop textsFrom) (noted-row t n o e) ∙ linked-drop t (word t 0) (o .cell) (o .few) (cell-free t ns n x o .0) textsFrom (omega arith)
-    go false e i = ap (drop textsFrom) (noted-none t n e) ∙ put-drop t 0 (rowsMost + 1) textsFrom (omega (arith, texts-is))
+        ap (drop textsFrom) (noted-row t n o e) ∙ linked-drop t (word t 0) (o .cell) (length t - textsFrom) (o .few) (o .inside) textsFrom (omega arith)
+    go false e = ap (drop textsFrom) (noted-none t n e) ∙ put-drop t 0 (rowsMost + 1) textsFrom (omega (arith, texts-is))
 
 -- one name more, and the table stays right
 pub right-more : (t : List ℕ) (ns : List Name) (n : Name) → Right t ns → Right (enter n t) (ns ++ (n ∷ []))
@@ -559,7 +617,7 @@ unfolding enter
 right-more t ns n r = record {
   long = omega (arith, r .long, noted-length t n, length-append (noted n t) (length n ∷ n));
   texts = drop-append-le textsFrom (noted n t) (length n ∷ n) (omega (arith, r .long, noted-length t n))
-      ∙ ap (λ (y : List ℕ). y ++ (length n ∷ n)) (noted-drop t ns n r ∙ r .texts)
+      ∙ ap (λ (y : List ℕ). y ++ (length n ∷ n)) (noted-drop t n ∙ r .texts)
       ∙ sym (enc-more ns n);
   index = go (hasRow t n) refl (r .index);
 }
@@ -570,7 +628,7 @@ right-more t ns n r = record {
     go true e (inr x) =
         let o = rowed t n e in
         inr (subst (λ (y : List ℕ). Indexed (y ++ (length n ∷ n)) (ns ++ (n ∷ [])))
-        (ap (λ y. linked y (o .cell) t) (sym (x .count)) ∙ sym (noted-row t n o e))
+        (ap (λ y. linked y (o .cell) (length t - textsFrom) t) (sym (x .count)) ∙ sym (noted-row t n o e))
         (indexed-more t ns n x o))
 
 -- THE EMPTY TABLE AND ALL THAT ARE ENTERED

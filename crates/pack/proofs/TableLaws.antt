@@ -1,22 +1,25 @@
 -- Laws of the code of a table with an index: the turns of its loops, and its answers by their tests.
 use Prim.Native.Nat.{ℕ, zero, suc, _+_, _*_, _-_, _<_, _≤_, _/_, _%_, min}
 use native.Mathlib.Omega.{arith}
-use mathlib.Core.Bool.{true, false, cond}
+use mathlib.Core.Bool.{true, false, cond, _&&_}
 use mathlib.Core.Logic.{⊎-elim}
 use mathlib.Core.Path.{_≡_, refl, sym, ap, _∙_}
-use mathlib.Core.List.{List, [], _∷_}
-use lib.ListN.{length, take, drop, getD, drop-of-length-le, length-drop, length-take, List·getD-eq-default}
-use lib.Seq.{drop-length, take-all}
-use lib.Dec.{ltb, leb}
+use mathlib.Core.List.{List, [], _∷_, _++_}
+use lib.ListN.{length, take, drop, getD, drop-of-length-le, length-append, length-drop, length-take, take-append-drop, List·getD-append, List·getD-eq-default}
+use lib.Seq.{drop-append-add, drop-length, getD-append-add, take-all}
+use lib.Dec.{ltb}
+use denote.Enum.Declared.{tagOf}
+use types.Run.{OneOf}
 use borrow.Author.Tests.{lt-ltb, le-ltb, le-leb, lt-leb}
 use Rattle.wire.proofs.Writers.{lt-or-le, take-capped}
 use Rattle.pack.specs.Names.{Name, eqName}
 use Rattle.pack.specs.Write.{Found, At, Missing, lookup}
 use Rattle.pack.specs.declared.table.Place.{Place}
 use Rattle.pack.specs.declared.table.Place.the-variants as pl
-use Rattle.pack.specs.Table.{table, rowsMost, textsFrom, cellAt, below, word, putWord, fold, mixed, joined, quadAt, hashFrom, hash, textAt, textOf, placeFrom, placeOf, foundIn, seek, numberIn, isFree, spare, cellFor, hasRow, linked, linkedAt, noted, indexed}
-use Rattle.pack.proofs.TableIndex.{rowed}
-use Rattle.pack.proofs.Interns.{found-number}
+use Rattle.pack.specs.Table.{table, rowsMost, cells, textsFrom, cellAt, spotAt, below, word, putWord, fold, mixed, joined, quadAt, hashFrom, hash, textAt, textOf, placeFrom, placeOf, foundIn, seek, numberIn, isFree, spare, inIndex, cellFor, linked, linkedAt, noted}
+use Rattle.pack.proofs.table.Place as Place-enum
+use Rattle.pack.proofs.TableIndex.{texts-is, word-append}
+use Rattle.pack.proofs.Interns.{and-false, found-number}
 
 -- eight bytes more of a hash
 hash-step : (n : Name) (a b i x y k : ℕ) → x ≡ quadAt n i → y ≡ quadAt n (i + 4) → hashFrom k (fold ((a + x) * 1540483477)) (fold ((b + y) * 2083697005)) n (i + 8) ≡ hashFrom (suc k) a b n i
@@ -73,6 +76,26 @@ text-part t p l b e h i j =
     ∙ ap (take l) (drop-part t (p + 1) b i)
     ∙ ap (λ y. take y (drop (p + 1) t)) h
 
+-- the bytes of two lists, one after the other
+module _ (t x : List ℕ) where
+  pub byte-first : (i : ℕ) → i < length t → getD t i 0 ≡ getD (t ++ x) i 0
+  byte-first i h = sym (List·getD-append t x 0 i h)
+
+  pub byte-second : (i : ℕ) → length t ≤ i → getD x (i - length t) 0 ≡ getD (t ++ x) i 0
+  byte-second i h = let z : length t + (i - length t) ≡ i = omega arith in sym (getD-append-add t x (i - length t) 0) ∙ ap (λ k. getD (t ++ x) k 0) z
+
+  -- a name of the second
+  pub text-second : (p : ℕ) → length t ≤ p → textAt x (p - length t) ≡ textAt (t ++ x) p
+  unfolding textAt
+  text-second p h =
+      let z : length t + (p - length t + 1) ≡ p + 1 = omega arith in
+      ap (λ k. take k (drop (p - length t + 1) x)) (byte-second p h)
+      ∙ ap (take (getD (t ++ x) p 0)) (sym (drop-append-add t x (p - length t + 1)) ∙ ap (λ k. drop k (t ++ x)) z)
+
+-- a list in two parts
+pub halves : (t : List ℕ) (b : ℕ) → take b t ++ take (length t - b) (drop b t) ≡ t
+halves t b = ap (λ (y : List ℕ). take b t ++ y) (take-all (length t - b) (drop b t) (omega (arith, length-drop b t))) ∙ take-append-drop b t
+
 -- a tree, by what the cell i holds
 pub place-spent : (f : ℕ) (t : List ℕ) (n : Name) (h i w : ℕ) → f ≤ 0 → placeFrom f t n h i w ≡ pl.Lost
 unfolding placeFrom
@@ -83,9 +106,9 @@ one-less : (k : ℕ) → suc k - 1 ≡ k
 one-less k = omega arith
 
 -- the name of a cell, whose spot is w
-text-of : (t : List ℕ) (k w : ℕ) → w ≡ word t (77826 + 2 * (suc k - 1)) → textOf t k ≡ textAt t (112642 + w)
-unfolding textOf textsFrom
-text-of t k w e = ap (λ y. textAt t (112642 + y)) (sym (e ∙ ap (λ y. word t (77826 + 2 * y)) (one-less k)))
+text-of : (t : List ℕ) (k w : ℕ) → w ≡ word t (spotAt (suc k - 1)) → textOf t k ≡ textAt t (textsFrom + w)
+unfolding textOf
+text-of t k w e = ap (λ y. textAt t (textsFrom + y)) (sym (e ∙ ap (λ y. word t (spotAt y)) (one-less k)))
 
 module _ (t : List ℕ) (n : Name) where
   pub place-free : (f h i v : ℕ) → 0 < f → v ≡ word t (2 + 2 * i) → v ≡ 0 → placeFrom f t n h i (word t (2 + 2 * i)) ≡ pl.Free i
@@ -94,7 +117,7 @@ module _ (t : List ℕ) (n : Name) where
   place-free (suc f) h i v p e q = ap (placeFrom (suc f) t n h i) (sym e ∙ q)
 
   module _ (w : ℕ) where
-    here : (f h i v : ℕ) → 0 < f → (v ≡ 0 → ⊥) → w ≡ word t (77826 + 2 * (v - 1)) → eqName (textAt t (112642 + w)) n ≡ true → placeFrom f t n h i v ≡ pl.Taken (v - 1)
+    here : (f h i v : ℕ) → 0 < f → (v ≡ 0 → ⊥) → w ≡ word t (spotAt (v - 1)) → eqName (textAt t (textsFrom + w)) n ≡ true → placeFrom f t n h i v ≡ pl.Taken (v - 1)
     unfolding placeFrom
     here zero h i v p q e g = absurd (omega arith)
     here (suc f) h i zero p q e g = absurd (q refl)
@@ -102,7 +125,7 @@ module _ (t : List ℕ) (n : Name) where
         ap (λ b. cond b (pl.Taken k) (placeFrom f t n (h / 2) (below k h) (word t (cellAt (below k h))))) (ap (λ (y : Name). eqName y n) (text-of t k w e) ∙ g)
         ∙ ap pl.Taken (sym (one-less k))
 
-    on : (f h i v : ℕ) → 0 < f → (v ≡ 0 → ⊥) → w ≡ word t (77826 + 2 * (v - 1)) → eqName (textAt t (112642 + w)) n ≡ false
+    on : (f h i v : ℕ) → 0 < f → (v ≡ 0 → ⊥) → w ≡ word t (spotAt (v - 1)) → eqName (textAt t (textsFrom + w)) n ≡ false
         → placeFrom f t n h i v ≡ placeFrom (f - 1) t n (h / 2) (below (v - 1) h) (word t (cellAt (below (v - 1) h)))
     unfolding placeFrom
     on zero h i v p q e g = absurd (omega arith)
@@ -112,19 +135,19 @@ module _ (t : List ℕ) (n : Name) where
         ∙ ap (λ y. placeFrom f t n (h / 2) (below y h) (word t (cellAt (below y h)))) (sym (one-less k))
         ∙ ap (λ y. placeFrom y t n (h / 2) (below (suc k - 1) h) (word t (cellAt (below (suc k - 1) h)))) (sym (one-less f))
 
-    pub place-here : (f h i v : ℕ) → 0 < f → v ≡ word t (2 + 2 * i) → (v ≡ 0 → ⊥) → w ≡ word t (77826 + 2 * (v - 1)) → eqName (textAt t (112642 + w)) n ≡ true
+    pub place-here : (f h i v : ℕ) → 0 < f → v ≡ word t (2 + 2 * i) → (v ≡ 0 → ⊥) → w ≡ word t (spotAt (v - 1)) → eqName (textAt t (textsFrom + w)) n ≡ true
         → placeFrom f t n h i (word t (2 + 2 * i)) ≡ pl.Taken (v - 1)
     place-here f h i v p d q e g = ap (placeFrom f t n h i) (sym d) ∙ here f h i v p q e g
 
-    pub place-on : (f h i v : ℕ) → 0 < f → v ≡ word t (2 + 2 * i) → (v ≡ 0 → ⊥) → w ≡ word t (77826 + 2 * (v - 1)) → eqName (textAt t (112642 + w)) n ≡ false
-        → placeFrom f t n h i (word t (2 + 2 * i)) ≡ placeFrom (f - 1) t n (h / 2) (4096 + 2 * (v - 1) + h % 2) (word t (2 + 2 * (4096 + 2 * (v - 1) + h % 2)))
+    pub place-on : (f h i v : ℕ) → 0 < f → v ≡ word t (2 + 2 * i) → (v ≡ 0 → ⊥) → w ≡ word t (spotAt (v - 1)) → eqName (textAt t (textsFrom + w)) n ≡ false
+        → placeFrom f t n h i (word t (2 + 2 * i)) ≡ placeFrom (f - 1) t n (h / 2) (below (v - 1) h) (word t (cellAt (below (v - 1) h)))
     place-on f h i v p d q e g = ap (placeFrom f t n h i) (sym d) ∙ on f h i v p q e g
 
 -- a search, by how many names there are
-pub seek-plain : (t : List ℕ) (n : Name) (b : ℕ) → 17408 < word t 0 → b ≡ min (0 + 112642) (length t)
+pub seek-plain : (t : List ℕ) (n : Name) (b : ℕ) → 17408 < word t 0 → b ≡ min (0 + textsFrom) (length t)
     → lookup (table (take (length t - b) (drop b t))) n 0 ≡ seek t n
-unfolding seek rowsMost textsFrom
-seek-plain t n b h e = rw (lt-ltb 17408 (word t 0) h, take-all (length t - b) (drop b t) (omega (arith, length-drop b t)), drop-part t 112642 b e)
+unfolding seek rowsMost
+seek-plain t n b h e = rw (lt-ltb 17408 (word t 0) h, take-all (length t - b) (drop b t) (omega (arith, length-drop b t)), drop-part t textsFrom b e)
 
 -- the number that the plain search finds
 pub found-less : (t : List ℕ) (n : Name) (b : ℕ) (f : Found) → f ≡ lookup (table (take (length t - b) (drop b t))) n 0 → numberIn f ≤ 65535 + (length t - 65535)
@@ -136,49 +159,62 @@ pub seek-found : (t : List ℕ) (n : Name) (c : ℕ) (p : Place) → c ≤ 17408
 unfolding seek rowsMost
 seek-found t n c p h e q = rw (sym e, le-ltb 17408 c h, q)
 
--- whether there is room for one name more, test by test
-module _ (t : List ℕ) (c : ℕ) (e : c ≡ word t 0) where
-  pub spare-many : 17408 ≤ c → false ≡ spare t
-  unfolding spare rowsMost
-  spare-many h = rw (sym e, le-ltb c 17408 h)
+ltb-add : (k a b : ℕ) → ltb (k + a) (k + b) ≡ ltb a b
+ltb-add k a b = ⊎-elim
+    (λ (h : a < b). lt-ltb (k + a) (k + b) (omega arith) ∙ sym (lt-ltb a b h))
+    (λ (h : b ≤ a). le-ltb (k + a) (k + b) (omega arith) ∙ sym (le-ltb a b h))
+    (lt-or-le a b)
 
-  pub spare-short : c < 17408 → length t < 112642 → false ≡ spare t
-  unfolding spare rowsMost textsFrom
-  spare-short h i = rw (sym e, lt-ltb c 17408 h, lt-leb 112642 (length t) i)
-
-  pub spare-by : c < 17408 → 112642 ≤ length t → ltb (length t) 178178 ≡ spare t
-  unfolding spare rowsMost textsFrom
-  spare-by h i = rw (sym e, lt-ltb c 17408 h, le-leb 112642 (length t) i)
+-- whether there is room for one name more
+pub spare-by : (t x : List ℕ) (c : ℕ) → length t ≡ textsFrom → c ≡ word t 0 → ltb c 17408 && ltb (length x) 65536 ≡ spare (t ++ x)
+unfolding spare rowsMost
+spare-by t x c l e =
+    let w : word (t ++ x) 0 ≡ c = word-append t x 0 (omega (arith, texts-is)) ∙ sym e in
+    let z : length (t ++ x) ≡ textsFrom + length x = length-append t x ∙ ap (λ k. k + length x) l in
+    rw (w, z, le-leb textsFrom (textsFrom + length x) (omega arith), ltb-add textsFrom (length x) 65536)
 
 -- the cell for a name
 module _ (t : List ℕ) (n : Name) where
-  pub cell-spare : spare t ≡ true → placeOf t n ≡ cellFor t n
+  pub cell-spare : (p : Place) → p ≡ placeOf t n → spare t ≡ true → inIndex p ≡ cellFor t n
   unfolding cellFor
-  cell-spare e = rw e
+  cell-spare p q e = rw (e, q)
 
   pub cell-none : spare t ≡ false → pl.Lost ≡ cellFor t n
   unfolding cellFor
   cell-none e = rw e
 
-  pub cell-long : (i : ℕ) → cellFor t n ≡ pl.Free i → 112642 ≤ length t
-  unfolding textsFrom hasRow isFree
-  cell-long i e = rowed t n (ap isFree e) .long
+  pub cell-short : length t < textsFrom → pl.Lost ≡ cellFor t n
+  unfolding spare
+  cell-short h = cell-none (rw (lt-leb textsFrom (length t) h) (and-false (ltb (word t 0) rowsMost) refl))
 
--- whether there is an index, test by test
-pub index-short : (t : List ℕ) → length t < 178178 → false ≡ indexed t
-unfolding indexed textsFrom
-index-short t h = rw (lt-leb 178178 (length t) h)
+-- the arms of a match on a place but for `Free`
+pub not-free : (p : Place) → OneOf (0 ∷ 2 ∷ []) (tagOf Place-enum.the-type p) → isFree p ≡ false
+unfolding isFree
+not-free (pl.Taken k) h = refl
+not-free (pl.Free i) h = absurd (⊎-elim (λ e. omega arith) (λ e. omega arith) h)
+not-free pl.Lost h = refl
 
-pub index-by : (t : List ℕ) (w : ℕ) → 178178 ≤ length t → w ≡ word t 0 → leb w 17408 ≡ indexed t
-unfolding indexed textsFrom rowsMost
-index-by t w h e = rw (le-leb 178178 (length t) h, e)
+pub index-other : (p : Place) → isFree p ≡ false → p ≡ inIndex p
+unfolding inIndex isFree
+index-other (pl.Taken k) h = refl
+index-other (pl.Free i) h = absurd (let z : _≡_ {A = ℕ} 0 1 = cc in omega arith)
+index-other pl.Lost h = refl
+
+-- a cell that the index has, or not
+pub index-has : (i : ℕ) → i < cells → pl.Free i ≡ inIndex (pl.Free i)
+unfolding inIndex
+index-has i h = rw (lt-ltb i cells h)
+
+pub index-lacks : (i : ℕ) → cells ≤ i → pl.Lost ≡ inIndex (pl.Free i)
+unfolding inIndex
+index-lacks i h = rw (le-ltb i cells h)
 
 -- the index by the cell for a name
-pub noted-at : (t : List ℕ) (n : Name) (p : Place) → p ≡ cellFor t n → linkedAt p t ≡ noted n t
+pub noted-at : (t : List ℕ) (n : Name) (cell : Place) (p : ℕ) → cell ≡ cellFor t n → p ≡ length t - textsFrom → linkedAt cell p t ≡ noted n t
 unfolding noted
-noted-at t n p e = ap (λ (y : Place). linkedAt y t) e
+noted-at t n cell p e f = ap (λ (y : Place). linkedAt y p t) e ∙ ap (λ k. linkedAt (cellFor t n) k t) f
 
-pub linked-steps : (t : List ℕ) (c i p : ℕ) → c ≡ word t 0 → p ≡ length t - 112642
-    → putWord (putWord (putWord t (77826 + 2 * c) p) (2 + 2 * i) (c + 1)) 0 (c + 1) ≡ linked (word t 0) i t
-unfolding linked textsFrom
-linked-steps t c i p e f = rw (sym e, f)
+pub linked-steps : (t : List ℕ) (c i p : ℕ) → c ≡ word t 0
+    → putWord (putWord (putWord t (spotAt c) p) (cellAt i) (c + 1)) 0 (c + 1) ≡ linked (word t 0) i p t
+unfolding linked
+linked-steps t c i p e = rw (sym e)

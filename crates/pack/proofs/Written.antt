@@ -14,7 +14,7 @@ use Rattle.pack.specs.Limits.{maxBytes, maxName}
 use Rattle.pack.specs.Names.{Name}
 use Rattle.pack.specs.Syntax.{Package}
 use Rattle.pack.specs.Write.{Item, raw, nm, enc, Found, At, Missing, lookup, Spelt, spelt, newIn, oldIn, spellOne, before, andThen, spell, joined, encode, short, shorts, packageItems}
-use Rattle.pack.specs.Table.{textsFrom, seek, blank, tabled}
+use Rattle.pack.specs.Table.{textsFrom, tableRoom, seek, blank, tabled}
 use Rattle.pack.specs.Intern.{putEntry, putAdded, putNew, putFound, putItem, render, started, unwritten}
 use Rattle.pack.specs.Outcome.{Outcome, answers, sized, written, packOf, answered}
 use Rattle.pack.proofs.TableIndex.{enc-more, length-tabled, seek-tabled, tabled-more, tabled-none, table-enc, texts-tabled}
@@ -245,7 +245,7 @@ pub finished-is : (room : ℕ) (p : Package) (names old : List ℕ) (s : State) 
 finished-is room p names old s d e f = rw (f, e, d) (written-is room p)
 
 -- the two buffers of a caller, before anything is written
-pub empty-buffers : started (replicate 65536 0) (replicate 178178 0) ≡ unwritten
+pub empty-buffers : started (replicate 65536 0) (replicate tableRoom 0) ≡ unwritten
 unfolding unwritten maxBytes
 empty-buffers =
     ap (λ y. started (replicate 65536 0) (replicate y 0)) buffer-size

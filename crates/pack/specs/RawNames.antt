@@ -2,6 +2,7 @@
 use Prim.Native.Nat.{ℕ, _+_, _≤_, zero, suc}
 use mathlib.Core.List.{List, [], _∷_}
 use mathlib.Core.Bool.{Bool}
+use mathlib.Core.Path.{_≡_}
 use lib.ListN.{length, getD, take, drop}
 use Rattle.pack.specs.Names.{member}
 
@@ -27,3 +28,10 @@ oneOf s x n at = member (rawName s x) (rawNames s n at)
 unfoldable pub rawEnd : List ℕ → ℕ → ℕ → ℕ
 rawEnd s zero at = at
 rawEnd s (suc n) at = rawEnd s n (at + 1 + getD s at 0)
+
+-- n names from q on stand inside and end at p, where the next one stands inside and ends at `to`
+pub record Follows (s : List ℕ) (q n p to : ℕ) : Type 0 where
+  pub inside : Inside s n q
+  pub here : rawEnd s n q ≡ p
+  pub ends : to ≡ p + 1 + getD s p 0
+  pub short : to ≤ length s

@@ -1,13 +1,13 @@
 -- Tables of names: names one after the other, each after its length byte; and the same behind an index of trees, so that a name is
 -- found without looking at all others.
-use Prim.Native.Nat.{ℕ, zero, suc, _+_, _*_, _-_, _/_, _%_, _<_, _≤_}
+use Prim.Native.Nat.{ℕ, zero, suc, _+_, _*_, _-_, _/_, _%_, _<_}
 use mathlib.Core.Bool.{Bool, true, false, cond, _&&_}
 use mathlib.Core.List.{List, [], _∷_, _++_}
 use mathlib.Core.Path.{_≡_}
 use lib.ListN.{length, take, drop, getD, set, replicate}
 use lib.Dec.{ltb, leb}
 use Rattle.pack.specs.Names.{Name, eqName}
-use Rattle.pack.specs.RawNames.{oneOf}
+use Rattle.pack.specs.RawNames.{rawNames}
 use Rattle.pack.specs.Write.{Found, At, Missing, lookup}
 use Rattle.pack.specs.declared.table.Place.{Place}
 use Rattle.pack.specs.declared.table.Place.the-variants as pl
@@ -23,7 +23,7 @@ unfoldable pub table : List ℕ → List Name
 table t = tableF (length t) t
 
 -- An index stands before the names: how many names it has, the cells, and for each name a spot, all of 16 bits. A spot is where a
--- name's length byte stands among the names. A cell is 1 + the number of a name, or 0 while it is free: the cells 0 to 4095 are heads,
+-- name's length byte stands among the names. A cell is 1 + the number of a name, or 0 while it is free: the first cells are heads,
 -- and two more belong to each name. From a head on the names are a binary tree that branches by the bits of the hash, so that names
 -- are found in a few steps even where many share a head.
 
@@ -31,20 +31,34 @@ table t = tableF (length t) t
 unfoldable pub rowsMost : ℕ
 rowsMost = 17408
 
--- where the names begin
+-- how many heads there are, and how many cells
+abbrev pub heads : ℕ
+heads = 4096
+
+abbrev pub cells : ℕ
+cells = heads + 2 * 17408
+
+-- where the spots begin, and the names
+abbrev pub spotsFrom : ℕ
+spotsFrom = 2 + 2 * cells
+
 unfoldable pub textsFrom : ℕ
-textsFrom = 112642
+textsFrom = spotsFrom + 2 * 17408
+
+-- what a table of any pack's names takes
+abbrev pub tableRoom : ℕ
+tableRoom = spotsFrom + 2 * 17408 + 65536
 
 -- where a cell stands, and the spot of a number
 abbrev pub cellAt : ℕ → ℕ
 cellAt i = 2 + 2 * i
 
 abbrev pub spotAt : ℕ → ℕ
-spotAt k = 77826 + 2 * k
+spotAt k = spotsFrom + 2 * k
 
 -- the cell below the name of the number k, by the lowest bit of h
 abbrev pub below : ℕ → ℕ → ℕ
-below k h = 4096 + 2 * k + h % 2
+below k h = heads + 2 * k + h % 2
 
 -- 16 bits, lowest byte first
 unfoldable pub word : List ℕ → ℕ → ℕ
@@ -99,7 +113,7 @@ placeFrom (suc f) t n h i (suc k) = cond (eqName (textOf t k) n) (pl.Taken k) (p
 
 -- the same from the head of its hash: no path is longer than there are names
 unfoldable pub placeOf : List ℕ → Name → Place
-placeOf t n = placeFrom 17409 t n (hash n / 4096) (hash n % 4096) (word t (cellAt (hash n % 4096)))
+placeOf t n = placeFrom 17409 t n (hash n / heads) (hash n % heads) (word t (cellAt (hash n % heads)))
 
 -- what was found, among d names
 unfoldable pub foundIn : ℕ → Place → Found
@@ -137,31 +151,37 @@ isFree pl.Lost = false
 unfoldable pub spare : List ℕ → Bool
 spare t = ltb (word t 0) rowsMost && (leb textsFrom (length t) && ltb (length t) (textsFrom + 65536))
 
+-- a cell that the index does not have is none
+unfoldable pub inIndex : Place → Place
+inIndex (pl.Taken k) = pl.Taken k
+inIndex (pl.Free i) = cond (ltb i cells) (pl.Free i) pl.Lost
+inIndex pl.Lost = pl.Lost
+
 -- the cell for a name that comes next
 unfoldable pub cellFor : List ℕ → Name → Place
-cellFor t n = cond (spare t) (placeOf t n) pl.Lost
+cellFor t n = cond (spare t) (inIndex (placeOf t n)) pl.Lost
 
 -- whether a name can have a row: it is new, and its number and its spot fit
 unfoldable pub hasRow : List ℕ → Name → Bool
 hasRow t n = isFree (cellFor t n)
 
--- the row of the number c, whose cell is i
-unfoldable pub linked : ℕ → ℕ → List ℕ → List ℕ
-linked c i t = putWord (putWord (putWord t (spotAt c) (length t - textsFrom)) (cellAt i) (c + 1)) 0 (c + 1)
+-- the row of the number c, whose cell is i and whose spot is p
+unfoldable pub linked : ℕ → ℕ → ℕ → List ℕ → List ℕ
+linked c i p t = putWord (putWord (putWord t (spotAt c) p) (cellAt i) (c + 1)) 0 (c + 1)
 
 -- without rows for all
 unfoldable pub unindexed : List ℕ → List ℕ
 unindexed t = putWord t 0 (rowsMost + 1)
 
--- a row more where there is a cell for it
-unfoldable pub linkedAt : Place → List ℕ → List ℕ
-linkedAt (pl.Taken k) t = unindexed t
-linkedAt (pl.Free i) t = linked (word t 0) i t
-linkedAt pl.Lost t = unindexed t
+-- a row more, for a name whose spot is p, where there is a cell for it
+unfoldable pub linkedAt : Place → ℕ → List ℕ → List ℕ
+linkedAt (pl.Taken k) p t = unindexed t
+linkedAt (pl.Free i) p t = linked (word t 0) i p t
+linkedAt pl.Lost p t = unindexed t
 
 -- the index with a row for a name that comes next; without rows for all from then on, where it can have none
 unfoldable pub noted : Name → List ℕ → List ℕ
-noted n t = linkedAt (cellFor t n) t
+noted n t = linkedAt (cellFor t n) (length t - textsFrom) t
 
 -- a name more
 unfoldable pub enter : Name → List ℕ → List ℕ
@@ -180,14 +200,6 @@ entered (n ∷ ns) t = entered ns (enter n t)
 unfoldable pub tabled : List Name → List ℕ
 tabled ns = entered ns blank
 
--- a buffer with room for a table of any pack's names is blank, and the pack s is no longer than a pack may be
-unfoldable pub Roomy : List ℕ → List ℕ → Type 0
-Roomy s t = textsFrom + 65536 ≤ length t → (length s ≤ 65536) × (t ≡ replicate (textsFrom + 65536) 0)
-
--- all names that were entered into a buffer with such room have rows
-unfoldable pub indexed : List ℕ → Bool
-indexed t = leb (textsFrom + 65536) (length t) && leb (word t 0) rowsMost
-
--- while they have, the name at p is none of the n from q on
-unfoldable pub TellsNew : List ℕ → ℕ → ℕ → ℕ → List ℕ → Type 0
-TellsNew s p n q t = indexed t ≡ true → oneOf s p n q ≡ false
+-- a buffer of an index's length is that of the n names of s from q on, which end at p
+unfoldable pub Indexes : List ℕ → ℕ → ℕ → ℕ → List ℕ → Type 0
+Indexes s q n p t = length t ≡ textsFrom → t ++ take (p - q) (drop q s) ≡ tabled (rawNames s n q)

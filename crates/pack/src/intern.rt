@@ -17,7 +17,7 @@ ghost use lib.ListN.{length, getD, take, replicate};
 ghost use Rattle.wire.specs.Writer.{stateOf, puts};
 ghost use Rattle.pack.specs.Names.{eqName};
 ghost use Rattle.pack.specs.Write.{lookup};
-ghost use Rattle.pack.specs.Table.{tabled};
+ghost use Rattle.pack.specs.Table.{tableRoom, tabled};
 ghost use Rattle.pack.specs.Intern.{foundOf, table, putEntry, putEntries, putNew, putName, putBuilt, started};
 
 // A name's number in a table; where it is missing, how many names there are.
@@ -122,7 +122,7 @@ fn put_entries(src: &[u8], made: &mut [u8], w: Writer) -> Writer
 
 // The table of a pack's names, in a buffer of zeros; how long it is.
 pub fn lay_names(names: &[u8], t: &mut [u8]) -> usize
-    requires { ⌜ (length (now names) ≤ 65536) × (now t ≡ replicate 178178 0) ⌝ }
+    requires { ⌜ (length (now names) ≤ 65536) × (now t ≡ replicate tableRoom 0) ⌝ }
     ensures { λ r. ⌜ (r ≤ length (now (t .exit))) × (take r (now (t .exit)) ≡ tabled (table (now (names .entry)))) ⌝ }
 {
     let w = put_entries(names, t, start());

@@ -1,10 +1,7 @@
 // The name section.
-use crate::intern::put_entry;
 use crate::intern::same;
-use crate::intern::start;
-use crate::record::Pack;
-use crate::table::ROOM;
-use crate::table::has_index;
+use crate::table::TEXTS;
+use crate::table::note_in;
 use wire::answer::Read;
 use wire::answer::Skipped;
 use wire::answer::past;
@@ -20,8 +17,8 @@ ghost use Rattle.wire.specs.Answer.{many};
 ghost use Rattle.wire.specs.Code.{readOf, skip};
 ghost use Rattle.pack.specs.Names.{eqName};
 ghost use Rattle.pack.specs.Read.{nameByte, nameBytes, char, size, name, namesAfter, nameSection};
-ghost use Rattle.pack.specs.RawNames.{rawName, Inside, oneOf};
-ghost use Rattle.pack.specs.Table.{Roomy, TellsNew};
+ghost use Rattle.pack.specs.RawNames.{rawName, Inside, oneOf, Follows};
+ghost use Rattle.pack.specs.Table.{Indexes};
 
 // Whether b is one of the numbers from low on and below high.
 fn within(b: usize, low: usize, high: usize) -> bool
@@ -197,34 +194,35 @@ pub fn seen(s: &[u8], x: usize, count: usize, at: usize) -> bool
     false
 }
 
-// Whether the name at p is one of the n from q on, where it was the last to be entered into the table t: while that has an index
-// it is not, since a name that is no new one has none.
-fn repeated(s: &[u8], p: usize, n: usize, q: usize, t: &[u8]) -> bool
-    requires { ⌜ (p + 1 + getD (now s) p 0 ≤ length (now s)) × Inside (now s) n q × TellsNew (now s) p n q (now t) ⌝ }
-    ensures { λ r. ⌜ r ≡ oneOf (now (s .entry)) p n q ⌝ }
+// Whether the name from p to `next` is one of the n from q to p. Where t is an index of those, it is entered there: a name that gets a
+// row is new.
+fn repeated(s: &[u8], q: usize, n: usize, p: usize, next: usize, t: &mut [u8]) -> bool
+    requires { ⌜ Follows (now s) q n p next × Indexes (now s) q n p (now t) ⌝ }
+    ensures { λ r. ⌜ (r ≡ oneOf (now (s .entry)) p n q) × Indexes (now (s .entry)) q (n + 1) next (now (t .exit)) ⌝ }
 {
-    if has_index(t) {
+    if t.len() != TEXTS {
+        return seen(s, p, n, q);
+    }
+    let b = p + 1;
+    if note_in(t, &s[q..p], &s[b..next]) {
         return false;
     }
     seen(s, p, n, q)
 }
 
-// The count names from q on, none twice. Where t has room for a table of names, each is entered there.
+// The count names from q on, none twice. Where t is an index, it becomes theirs.
 fn read_names(s: &[u8], q: usize, count: usize, t: &mut [u8]) -> Skipped
-    requires { ⌜ Roomy (now s) (now t) ⌝ }
+    requires { ⌜ Indexes (now s) q 0 q (now t) ⌝ }
     ensures { λ r. ⌜ r ≡ skip (namesAfter (now (s .entry)) [] count q) ⌝ }
 {
     let mut n: usize = 0;
     let mut p = q;
-    let mut w = start();
     while n < count {
         let e = skip_name(s, p);
         let Skipped::To(next) = e else {
             return e;
         };
-        let b = p + 1;
-        w = put_entry(&s[b..next], t, w);
-        if repeated(s, p, n, q, t) {
+        if repeated(s, q, n, p, next, t) {
             return Skipped::Illegal(p);
         }
         n += 1;
@@ -233,7 +231,7 @@ fn read_names(s: &[u8], q: usize, count: usize, t: &mut [u8]) -> Skipped
     Skipped::To(p)
 }
 
-// The same without a table, each name looked for among those before it.
+// The same without an index, each name looked for among those before it.
 fn few_names(s: &[u8], q: usize, count: usize) -> Skipped
     ensures { λ r. ⌜ r ≡ skip (namesAfter (now (s .entry)) [] count q) ⌝ }
 {
@@ -241,16 +239,15 @@ fn few_names(s: &[u8], q: usize, count: usize) -> Skipped
     read_names(s, q, count, &mut none)
 }
 
-// The same with a table of its own.
+// The same with an index of its own.
 fn many_names(s: &[u8], q: usize, count: usize) -> Skipped
-    requires { ⌜ length (now s) ≤ 65536 ⌝ }
     ensures { λ r. ⌜ r ≡ skip (namesAfter (now (s .entry)) [] count q) ⌝ }
 {
-    let mut t = [0u8; ROOM];
+    let mut t = [0u8; TEXTS];
     read_names(s, q, count, &mut t)
 }
 
-// The name section: no name twice. A table is laid only for names that are many.
+// The name section: no name twice. An index is laid only for names that are many.
 pub fn skip_names(s: &[u8], at: usize) -> Skipped
     ensures { λ r. ⌜ r ≡ skip (nameSection (now (s .entry)) at) ⌝ }
 {
@@ -262,9 +259,6 @@ pub fn skip_names(s: &[u8], at: usize) -> Skipped
     else {
         return past(t);
     };
-    if Pack::BYTES < s.len() {
-        return few_names(s, q, count);
-    }
     if count < 32 {
         return few_names(s, q, count);
     }

@@ -1,26 +1,31 @@
-// A table of names behind an index of trees (specs/Table), so that a name is found without looking at all others. All is total: a
-// byte past the end is 0, and a store there does nothing.
+// A table of names behind an index of trees (specs/Table), so that a name is found without looking at all others. The index is lent
+// as t and the names as x, so that names which stand in a pack need not be copied behind it. All is total: a byte past the end is 0,
+// and a store there does nothing.
 use crate::intern::Found;
 use crate::intern::find_name;
 use crate::intern::same;
+use crate::record::Pack;
 use wire::writer::capped;
+ghost use mathlib.Core.List.{_++_};
 ghost use mathlib.Core.Path.{_≡_};
 ghost use Prim.Native.Nat.{_+_, _*_, _-_, _/_, _≤_, _<_, _^_};
 ghost use lib.ListN.{length, getD, set};
 ghost use Rattle.pack.specs.Names.{eqName};
 ghost use Rattle.pack.specs.Intern.{foundOf};
-ghost use Rattle.pack.specs.Table.{word as wordIn, putWord, fold as folded, hash as hashOf, quadAt, textAt, placeFrom, placeOf, Near, cellAt, seek, numberIn, spare as spareIn, cellFor, indexed, linked, unindexed, noted};
+ghost use Rattle.pack.specs.Table.{word as wordIn, putWord, fold as folded, hash as hashOf, quadAt, textsFrom, textAt, placeFrom, placeOf, Near, cellAt, seek, numberIn, isFree, spare as spareIn, inIndex, cellFor, hasRow, linked, unindexed, linkedAt, noted};
 
-// How many names have rows.
+// How many names can have rows.
 const ROWS: usize = 17408;
 // How many heads there are.
 const HEADS: usize = 4096;
+// How many cells there are.
+const CELLS: usize = HEADS + 2 * ROWS;
 // Where the spots begin.
-const SPOTS: usize = 77826;
+const SPOTS: usize = 2 + 2 * CELLS;
 // Where the names begin.
-pub const TEXTS: usize = 112642;
+pub const TEXTS: usize = SPOTS + 2 * ROWS;
 // What a table of any pack's names takes.
-pub const ROOM: usize = 178178;
+pub const ROOM: usize = TEXTS + Pack::BYTES;
 
 // Where a name is: it has the number, the cell would be its own, or neither.
 pub enum Place {
@@ -39,12 +44,32 @@ fn byte_at(t: &[u8], i: usize) -> usize
     0
 }
 
-// 16 bits of t.
-fn word(t: &[u8], i: usize) -> usize
-    requires { ⌜ i < 1000000 ⌝ }
-    ensures { λ r. ⌜ (r ≡ wordIn (now (t .entry)) i) × (r < 65536) ⌝ }
+// A byte of t and x, one after the other.
+fn byte_of(t: &[u8], x: &[u8], i: usize) -> usize
+    ensures { λ r. ⌜ (r ≡ getD (now (t .entry) ++ now (x .entry)) i 0) × (r < 256) ⌝ }
 {
-    byte_at(t, i) + 256 * byte_at(t, i + 1)
+    if i < t.len() {
+        return t[i] as usize;
+    }
+    byte_at(x, i - t.len())
+}
+
+// 16 bits of t and x. Where both bytes stand in t they are compiled into one load.
+fn word(t: &[u8], x: &[u8], i: usize) -> usize
+    requires { ⌜ i < 1000000 ⌝ }
+    ensures { λ r. ⌜ (r ≡ wordIn (now (t .entry) ++ now (x .entry)) i) × (r < 65536) ⌝ }
+{
+    if i + 1 < t.len() {
+        return t[i] as usize + 256 * t[i + 1] as usize;
+    }
+    byte_of(t, x, i) + 256 * byte_of(t, x, i + 1)
+}
+
+// How many names have rows.
+fn count(t: &[u8]) -> usize
+    ensures { λ r. ⌜ (r ≡ wordIn (now (t .entry)) 0) × (r < 65536) ⌝ }
+{
+    byte_at(t, 0) + 256 * byte_at(t, 1)
 }
 
 fn set_byte(t: &mut [u8], i: usize, v: u8)
@@ -114,33 +139,34 @@ pub fn hash(n: &[u8]) -> usize
     z + 4294967296 * ((z + y) % 4294967296)
 }
 
-// Whether the name whose length byte stands at p is n.
-fn is_text(t: &[u8], p: usize, n: &[u8]) -> bool
-    requires { ⌜ p < 1000000 ⌝ }
-    ensures { λ r. ⌜ r ≡ eqName (textAt (now (t .entry)) p) (now (n .entry)) ⌝ }
+// Whether the name whose spot is w is n.
+fn is_text(t: &[u8], x: &[u8], w: usize, n: &[u8]) -> bool
+    requires { ⌜ (length (now t) ≤ textsFrom) × (w < 65536) ⌝ }
+    ensures { λ r. ⌜ r ≡ eqName (textAt (now (t .entry) ++ now (x .entry)) (textsFrom + w)) (now (n .entry)) ⌝ }
 {
-    let l = byte_at(t, p);
-    let b = capped(t.len(), 0, p + 1);
-    let e = capped(t.len(), b, l);
-    same(&t[b..e], n)
+    let p = TEXTS + w - t.len();
+    let l = byte_at(x, p);
+    let b = capped(x.len(), 0, p + 1);
+    let e = capped(x.len(), b, l);
+    same(&x[b..e], n)
 }
 
 // Where a name is from a cell on.
-fn descend(t: &[u8], n: &[u8], bits: usize, cell: usize) -> Place
-    requires { ⌜ cell < 200000 ⌝ }
-    ensures { λ r. ⌜ (r ≡ placeFrom 17409 (now (t .entry)) (now (n .entry)) bits cell (wordIn (now (t .entry)) (cellAt cell))) × Near r ⌝ }
+fn descend(t: &[u8], x: &[u8], n: &[u8], bits: usize, cell: usize) -> Place
+    requires { ⌜ (length (now t) ≤ textsFrom) × (cell < 200000) ⌝ }
+    ensures { λ r. ⌜ (r ≡ placeFrom 17409 (now (t .entry) ++ now (x .entry)) (now (n .entry)) bits cell (wordIn (now (t .entry) ++ now (x .entry)) (cellAt cell))) × Near r ⌝ }
 {
     let mut f = ROWS + 1;
     let mut h = bits;
     let mut i = cell;
     while 0 < f {
-        let w = word(t, 2 + 2 * i);
+        let w = word(t, x, 2 + 2 * i);
         if w == 0 {
             return Place::Free(i);
         }
         let k = w - 1;
-        let p = word(t, SPOTS + 2 * k);
-        if is_text(t, TEXTS + p, n) {
+        let p = word(t, x, SPOTS + 2 * k);
+        if is_text(t, x, p, n) {
             return Place::Taken(k);
         }
         i = HEADS + 2 * k + h % 2;
@@ -151,23 +177,24 @@ fn descend(t: &[u8], n: &[u8], bits: usize, cell: usize) -> Place
 }
 
 // Where a name is from the head of its hash on.
-fn place_of(t: &[u8], n: &[u8]) -> Place
-    ensures { λ r. ⌜ (r ≡ placeOf (now (t .entry)) (now (n .entry))) × Near r ⌝ }
+fn place_of(t: &[u8], x: &[u8], n: &[u8]) -> Place
+    requires { ⌜ length (now t) ≤ textsFrom ⌝ }
+    ensures { λ r. ⌜ (r ≡ placeOf (now (t .entry) ++ now (x .entry)) (now (n .entry))) × Near r ⌝ }
 {
     let h = hash(n);
-    descend(t, n, h / HEADS, h % HEADS)
+    descend(t, x, n, h / HEADS, h % HEADS)
 }
 
 // The place of the name n in a table with an index.
 pub fn seek_name(t: &[u8], n: &[u8]) -> Found
     ensures { λ r. ⌜ (foundOf r ≡ seek (now (t .entry)) (now (n .entry))) × (numberIn (foundOf r) ≤ 65535 + (length (now (t .entry)) - 65535)) ⌝ }
 {
-    let c = word(t, 0);
+    let c = count(t);
+    let b = capped(t.len(), 0, TEXTS);
     if ROWS < c {
-        let b = capped(t.len(), 0, TEXTS);
         return find_name(&t[b..], n);
     }
-    let p = place_of(t, n);
+    let p = place_of(&t[..b], &t[b..], n);
     match p {
         Place::Taken(k) => Found::At(k),
         Place::Free(_) => Found::Missing(c),
@@ -175,47 +202,43 @@ pub fn seek_name(t: &[u8], n: &[u8]) -> Found
     }
 }
 
-// Whether t has room for a table of any pack's names, and all names that were entered have rows.
-pub fn has_index(t: &[u8]) -> bool
-    ensures { λ r. ⌜ r ≡ indexed (now (t .entry)) ⌝ }
+// Whether the number of one name more and its spot fit.
+fn spare(t: &[u8], x: &[u8]) -> bool
+    requires { ⌜ length (now t) ≡ textsFrom ⌝ }
+    ensures { λ r. ⌜ r ≡ spareIn (now (t .entry) ++ now (x .entry)) ⌝ }
 {
-    if t.len() < ROOM {
-        return false;
-    }
-    word(t, 0) <= ROWS
+    (count(t) < ROWS) & (x.len() < Pack::BYTES)
 }
 
-// Whether the number of one name more and its spot fit.
-fn spare(t: &[u8]) -> bool
-    ensures { λ r. ⌜ r ≡ spareIn (now (t .entry)) ⌝ }
+// A cell that the index does not have is none.
+fn in_index(p: Place) -> Place
+    requires { ⌜ Near p ⌝ }
+    ensures { λ r. ⌜ (r ≡ inIndex p) × Near r ⌝ }
 {
-    if ROWS <= word(t, 0) {
-        return false;
-    }
-    if t.len() < TEXTS {
-        return false;
-    }
-    t.len() < ROOM
+    let Place::Free(i) = p else {
+        return p;
+    };
+    if i < CELLS { p } else { Place::Lost }
 }
 
 // The cell for the name n, which comes next.
-fn cell_for(t: &[u8], n: &[u8]) -> Place
-    ensures { λ r. ⌜ (r ≡ cellFor (now (t .entry)) (now (n .entry))) × Near r ⌝ }
+fn cell_for(t: &[u8], x: &[u8], n: &[u8]) -> Place
+    requires { ⌜ length (now t) ≡ textsFrom ⌝ }
+    ensures { λ r. ⌜ (r ≡ cellFor (now (t .entry) ++ now (x .entry)) (now (n .entry))) × Near r ⌝ }
 {
-    if spare(t) {
-        place_of(t, n)
+    if spare(t, x) {
+        in_index(place_of(t, x, n))
     } else {
         Place::Lost
     }
 }
 
-// The next row, whose cell is i.
-fn link(t: &mut [u8], i: usize)
-    requires { ⌜ (i < 200000) × (112642 ≤ length (now t)) ⌝ }
-    ensures { λ _. ⌜ now (t .exit) ≡ linked (wordIn (now (t .entry)) 0) i (now (t .entry)) ⌝ }
+// The next row, whose cell is i and whose spot is p.
+fn link(t: &mut [u8], i: usize, p: usize)
+    requires { ⌜ i < 200000 ⌝ }
+    ensures { λ _. ⌜ now (t .exit) ≡ linked (wordIn (now (t .entry)) 0) i p (now (t .entry)) ⌝ }
 {
-    let c = word(t, 0);
-    let p = t.len() - TEXTS;
+    let c = count(t);
     put_word(t, SPOTS + 2 * c, p);
     put_word(t, 2 + 2 * i, c + 1);
     put_word(t, 0, c + 1);
@@ -228,14 +251,46 @@ fn unindex(t: &mut [u8])
     put_word(t, 0, ROWS + 1);
 }
 
-// A row for the name n, which comes next; without rows for all from then on, where it can have none.
+// The next row, whose spot is p, where there is a cell for it; whether there is.
+fn link_at(t: &mut [u8], cell: Place, p: usize) -> bool
+    requires { ⌜ Near cell ⌝ }
+    ensures { λ r. ⌜ (now (t .exit) ≡ linkedAt cell p (now (t .entry))) × (r ≡ isFree cell) ⌝ }
+{
+    let Place::Free(i) = cell else {
+        unindex(t);
+        return false;
+    };
+    link(t, i, p);
+    true
+}
+
+// A row for the name n, which comes next behind the names x; without rows for all from then on, where it can have none. Whether it has
+// one.
+pub fn note_in(t: &mut [u8], x: &[u8], n: &[u8]) -> bool
+    requires { ⌜ length (now t) ≡ textsFrom ⌝ }
+    ensures { λ r. ⌜ (now (t .exit) ++ now (x .entry) ≡ noted (now (n .entry)) (now (t .entry) ++ now (x .entry))) × (r ≡ hasRow (now (t .entry) ++ now (x .entry)) (now (n .entry))) ⌝ }
+{
+    let p = cell_for(t, x, n);
+    link_at(t, p, x.len())
+}
+
+// The cell for the name n in a table whose names stand behind the index.
+fn cell_in(t: &[u8], n: &[u8]) -> Place
+    ensures { λ r. ⌜ (r ≡ cellFor (now (t .entry)) (now (n .entry))) × Near r ⌝ }
+{
+    if t.len() < TEXTS {
+        return Place::Lost;
+    }
+    let b = TEXTS;
+    cell_for(&t[..b], &t[b..], n)
+}
+
+// The row of note_in, where the names stand behind the index.
 pub fn note(t: &mut [u8], n: &[u8])
     ensures { λ _. ⌜ now (t .exit) ≡ noted (now (n .entry)) (now (t .entry)) ⌝ }
 {
-    let p = cell_for(t, n);
-    match p {
-        Place::Taken(_) => unindex(t),
-        Place::Free(i) => link(t, i),
-        Place::Lost => unindex(t),
-    }
+    let cell = cell_in(t, n);
+    let b = capped(t.len(), 0, TEXTS);
+    let p = t.len() - b;
+    link_at(t, cell, p);
 }

@@ -1,5 +1,6 @@
 use native.Mathlib.Omega.{arith}
 use lib.ListN.{length, length-take}
+use Rattle.pack.specs.Table.{textsFrom}
 use Rattle.pack.proofs.Finished.{answered-full, answered-part, gives-answers, carried}
 use borrow.Author.Needs.{needs}
 use Rattle.pack.proofs.finish.finish.Statement.{statement}
@@ -38,6 +39,7 @@ same-length : tie.Need-same-length
 same-length c = search needs
 
 returns-2 : tie.Need-returns-2
+unfolding textsFrom
 returns-2 c =
     let a = c .before .before .before .before .before .before .before .before .before .before .before .before .before .before .args in
     carried _ _ _ _ _ _

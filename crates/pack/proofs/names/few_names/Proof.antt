@@ -1,5 +1,5 @@
 use native.Mathlib.Omega.{arith}
-use Rattle.pack.specs.Table.{Roomy, textsFrom}
+use Rattle.pack.specs.Table.{Indexes, textsFrom}
 use borrow.Author.Needs.{needs}
 use Rattle.pack.proofs.names.few_names.Statement.{statement}
 use Rattle.pack.proofs.names.few_names.Tie as tie
@@ -8,8 +8,8 @@ slice-aggregate-read-names : tie.Need-slice-aggregate-read-names
 slice-aggregate-read-names c = search needs
 
 read-names-requires : tie.Need-read-names-requires
-unfolding Roomy textsFrom
-read-names-requires c κs l = absurd (omega arith)
+unfolding Indexes textsFrom
+read-names-requires c κs = λ l. absurd (omega arith)
 
 returns : tie.Need-returns
 returns c = search needs

@@ -1,5 +1,5 @@
-use mathlib.Core.Path.{refl}
-use Rattle.pack.specs.Table.{Roomy, textsFrom}
+use Rattle.pack.specs.Table.{blank, textsFrom}
+use Rattle.pack.proofs.NamesTabled.{indexes-none}
 use borrow.Author.Needs.{needs}
 use Rattle.pack.proofs.names.many_names.Statement.{statement}
 use Rattle.pack.proofs.names.many_names.Tie as tie
@@ -8,8 +8,8 @@ slice-aggregate-read-names : tie.Need-slice-aggregate-read-names
 slice-aggregate-read-names c = search needs
 
 read-names-requires : tie.Need-read-names-requires
-unfolding Roomy textsFrom
-read-names-requires c κs l = (c .before .before .pre, refl)
+unfolding blank textsFrom
+read-names-requires c κs = indexes-none _ _
 
 returns : tie.Need-returns
 returns c = search needs

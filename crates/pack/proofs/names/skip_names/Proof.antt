@@ -22,17 +22,11 @@ few-names-requires c κs = search needs
 returns-2 : tie.Need-returns-2
 returns-2 c = goesS _ _ _ _ _ _ _ (c .before .before .before .t .given .1) (c .before .before .before .before .before .read-u16 .ensures) (section-skip _ _) (c .few-names .ensures)
 
-few-names-requires-2 : tie.Need-few-names-requires-2
-few-names-requires-2 c κs = search needs
-
-returns-3 : tie.Need-returns-3
-returns-3 c = goesS _ _ _ _ _ _ _ (c .before .before .before .before .t .given .1) (c .before .before .before .before .before .before .read-u16 .ensures) (section-skip _ _) (c .few-names2 .ensures)
-
 many-names-requires : tie.Need-many-names-requires
 many-names-requires c κs = search needs
 
-returns-4 : tie.Need-returns-4
-returns-4 c = goesS _ _ _ _ _ _ _ (c .before .before .before .before .t .given .1) (c .before .before .before .before .before .before .read-u16 .ensures) (section-skip _ _) (c .many-names .ensures)
+returns-3 : tie.Need-returns-3
+returns-3 c = goesS _ _ _ _ _ _ _ (c .before .before .before .t .given .1) (c .before .before .before .before .before .read-u16 .ensures) (section-skip _ _) (c .many-names .ensures)
 
 pub skip-names-spec : {M : Type 1} → statement M
 skip-names-spec =
@@ -44,7 +38,5 @@ skip-names-spec =
     returns
     few-names-requires
     returns-2
-    few-names-requires-2
-    returns-3
     many-names-requires
-    returns-4)
+    returns-3)

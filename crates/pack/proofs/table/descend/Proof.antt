@@ -1,22 +1,23 @@
-use Prim.Native.Nat.{_+_, _*_, _<_}
+use Prim.Native.Nat.{_<_}
 use native.Mathlib.Omega.{arith}
+use mathlib.Core.List.{_++_}
 use mathlib.Core.Path.{_≡_, _∙_, refl, sym}
-use Rattle.pack.specs.Table.{Near, placeFrom, word}
+use Rattle.pack.specs.Table.{Near, cellAt, placeFrom, word}
 use Rattle.pack.proofs.TableLaws.{place-free, place-here, place-on, place-spent}
 use Rattle.pack.proofs.table.descend.Statement.{statement}
 use Rattle.pack.proofs.table.descend.Tie as tie
 
 abbrev Inv-loop : tie.InvT-loop
-Inv-loop t n bits cell f₀ h₀ i₀ f h i = (i < 200000) × (placeFrom f t n h i (word t (2 + 2 * i)) ≡ placeFrom 17409 t n bits cell (word t (2 + 2 * cell)))
+Inv-loop t x n bits cell f₀ h₀ i₀ f h i = (i < 200000) × (placeFrom f (t ++ x) n h i (word (t ++ x) (cellAt i)) ≡ placeFrom 17409 (t ++ x) n bits cell (word (t ++ x) (cellAt cell)))
 
 abbrev μ-loop : tie.MeasureT-loop
-μ-loop t n bits cell f₀ h₀ i₀ f h i = f
+μ-loop t x n bits cell f₀ h₀ i₀ f h i = f
 
 add-f : tie.Need-add-f Inv-loop μ-loop
 add-f c = omega arith
 
 loop-holds : tie.Need-loop-holds Inv-loop μ-loop
-loop-holds c = (c .before .before .pre, refl)
+loop-holds c = (c .before .before .before .pre .1, refl)
 
 mul-word : tie.Need-mul-word Inv-loop μ-loop
 mul-word c = omega arith
@@ -43,11 +44,8 @@ add-word-2 c = omega (arith, c .before .word .ensures .1)
 word-requires-2 : tie.Need-word-requires-2 Inv-loop μ-loop
 word-requires-2 c κs = omega (arith, c .before .word .ensures .1)
 
-add-is-text : tie.Need-add-is-text Inv-loop μ-loop
-add-is-text c = omega (arith, c .word2 .ensures .1)
-
 is-text-requires : tie.Need-is-text-requires Inv-loop μ-loop
-is-text-requires c κs = omega (arith, c .word2 .ensures .1)
+is-text-requires c κs = (c .before .before .before .before .before .before .before .before .pre .0, c .word2 .ensures .1)
 
 returns-2 : tie.Need-returns-2 Inv-loop μ-loop
 unfolding Near
@@ -94,7 +92,6 @@ descend-spec =
     mul-word-2
     add-word-2
     word-requires-2
-    add-is-text
     is-text-requires
     returns-2
     mul-i

@@ -1,17 +1,13 @@
-use Prim.Native.Nat.{_+_, _*_, _-_}
-use mathlib.Core.Path.{_∙_, ap, refl}
-use lib.ListN.{length}
-use Rattle.pack.specs.Table.{putWord}
+use Prim.Native.Nat.{_+_}
+use mathlib.Core.Path.{_∙_, ap}
+use Rattle.pack.specs.Table.{cellAt, putWord}
 use Rattle.pack.proofs.TableLaws.{linked-steps}
 use borrow.Author.Needs.{needs}
 use Rattle.pack.proofs.table.link.Statement.{statement}
 use Rattle.pack.proofs.table.link.Tie as tie
 
-word-requires : tie.Need-word-requires
-word-requires c κs = search needs
-
-sub-p : tie.Need-sub-p
-sub-p c = search needs
+count-requires : tie.Need-count-requires
+count-requires c κs = search needs
 
 mul-put-word : tie.Need-mul-put-word
 mul-put-word c = search needs
@@ -45,19 +41,16 @@ same-length c = search needs
 
 returns : tie.Need-returns
 returns c =
-    let a = c .before .before .before .before .before .before .before .before .before .before .before .before .before .before .before .args in
-    let w = c .before .before .before .before .before .before .before .before .before .before .before .before .word .result in
+    let w = c .before .before .before .before .before .before .before .before .before .before .before .before .count .result in
     c .before .before .put-word3 .ensures
-    ∙ ap (λ l. putWord l 0 (w + 1)) (c .before .before .before .before .before .before .put-word2 .ensures
-    ∙ ap (λ l. putWord l (2 + 2 * a .i) (w + 1)) (c .before .before .before .before .before .before .before .before .before .before .put-word .ensures))
-    ∙ linked-steps (a .t .now) w (a .i) (length (a .t .now) - 112642) (c .before .before .before .before .before .before .before .before .before .before .before .before .word .ensures .0) refl
+    ∙ ap (λ l. putWord l 0 (w + 1)) (c .before .before .before .before .before .before .put-word2 .ensures ∙ ap (λ l. putWord l (cellAt (c .before .before .before .before .before .before .before .before .before .before .before .before .before .before .before .args .i)) (w + 1)) (c .before .before .before .before .before .before .before .before .before .before .put-word .ensures))
+    ∙ linked-steps (c .before .before .before .before .before .before .before .before .before .before .before .before .before .before .before .args .t .now) w (c .before .before .before .before .before .before .before .before .before .before .before .before .before .before .before .args .i) (c .before .before .before .before .before .before .before .before .before .before .before .before .before .before .before .args .p) (c .before .before .before .before .before .before .before .before .before .before .before .before .count .ensures .0)
 
 pub link-spec : {M : Type 1} → statement M
 link-spec =
     tie.close
     (tie.spec
-    word-requires
-    sub-p
+    count-requires
     mul-put-word
     add-put-word
     put-word-requires

@@ -1,6 +1,7 @@
-use Prim.Native.Nat.{_+_, _*_, _/_, _%_}
+use Prim.Native.Nat.{_/_, _%_}
+use mathlib.Core.List.{_++_}
 use mathlib.Core.Path.{_∙_, ap}
-use Rattle.pack.specs.Table.{placeFrom, placeOf, word}
+use Rattle.pack.specs.Table.{cellAt, heads, placeFrom, placeOf, word}
 use borrow.Author.Needs.{needs}
 use Rattle.pack.proofs.table.place_of.Statement.{statement}
 use Rattle.pack.proofs.table.place_of.Tie as tie
@@ -14,8 +15,8 @@ descend-requires c κs = search needs
 returns : tie.Need-returns
 unfolding placeOf
 returns c =
-    let a = c .before .before .before .before .args in (
-      c .descend .ensures .0 ∙ ap (λ h. placeFrom 17409 (a .t .now) (a .n .now) (h / 4096) (h % 4096) (word (a .t .now) (2 + 2 * (h % 4096)))) (c .before .hash .ensures),
+    let t = c .before .before .before .before .before .args .t .now ++ c .before .before .before .before .before .args .x .now in (
+      c .descend .ensures .0 ∙ ap (λ h. placeFrom 17409 t (c .before .before .before .before .before .args .n .now) (h / heads) (h % heads) (word t (cellAt (h % heads)))) (c .before .hash .ensures),
       c .descend .ensures .1,
     )
 
