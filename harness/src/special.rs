@@ -276,8 +276,12 @@ pub fn names_only(size: usize) -> Package {
     names_of(size, (0..).map(short_name))
 }
 
-/// The number under which the library's index keeps a name (crates/pack/specs/Table): twelve bits choose a tree, the
-/// others the way down.
+/// How many bits of its number choose a name's tree in the library's index (crates/pack/specs/Table), which has 8,192
+/// heads.
+pub const HEAD_BITS: u32 = 13;
+
+/// The number under which the library's index keeps a name: the lowest `HEAD_BITS` choose a tree, the others the way
+/// down.
 pub fn index_number(name: &[u8]) -> u64 {
     let fold = |x: u64| (x + (x >> 32)) & 0xFFFF_FFFF;
     let quad = |at: usize| name[at..].iter().take(4).rev().fold(0, |x, byte| x << 8 | u64::from(*byte));
@@ -423,8 +427,8 @@ mod tests {
 
     #[test]
     fn crowded_names_share_a_head() {
-        let all: Vec<String> = crowded(12).take(3).collect();
-        assert!(all.iter().all(|n| index_number(n.as_bytes()) % 4096 == 0), "{all:?}");
+        let all: Vec<String> = crowded(HEAD_BITS).take(3).collect();
+        assert!(all.iter().all(|n| index_number(n.as_bytes()) % 8192 == 0), "{all:?}");
     }
 
     #[test]

@@ -33,7 +33,7 @@ rowsMost = 17408
 
 -- how many heads there are, and how many cells
 abbrev pub heads : ℕ
-heads = 4096
+heads = 8192
 
 abbrev pub cells : ℕ
 cells = heads + 2 * 17408

@@ -17,7 +17,7 @@ ghost use Rattle.pack.specs.Table.{word as wordIn, putWord, fold as fold
 // How many names can have rows.
 const ROWS: usize = 17408;
 // How many heads there are.
-const HEADS: usize = 4096;
+const HEADS: usize = 8192;
 // How many cells there are.
 const CELLS: usize = HEADS + 2 * ROWS;
 // Where the spots begin.

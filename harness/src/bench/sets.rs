@@ -63,7 +63,7 @@ pub fn check() -> Vec<Set> {
         one("short names", special::names_only(MAX_PACK)),
         one("short names, mixed", mixed()),
         one("short names, last repeated", special::repeated(mixed(), mixed().old - 1)),
-        one("names of one tree", special::names_of(MAX_PACK, special::crowded(12))),
+        one("names of one tree", special::names_of(MAX_PACK, special::crowded(special::HEAD_BITS))),
         one("long names all alike", special::alike_names(MAX_PACK)),
         one("long names, last repeated", special::repeated(special::alike_names(MAX_PACK), 254)),
         one("long names of two stems", special::stem_names(MAX_PACK, 2)),

@@ -3,7 +3,7 @@
 use super::{equation, full, idle_names, long_expr, packs, port, short_names, Hostile};
 use crate::gen::Builder;
 use crate::package::*;
-use crate::special::{self, crowded, node, short_name};
+use crate::special::{self, crowded, node, short_name, HEAD_BITS};
 
 /// Node N with the output o and the input c, and an activation of it that is drawn on.
 struct Sketch {
@@ -238,7 +238,7 @@ pub fn costly() -> Vec<Hostile> {
         ("4,500 samples", samples(short_names(0), 4_500)),
         ("800 samples", samples(short_names(0), 800)),
         ("9,000 names, 700 samples", samples(short_names(9_000), 700)),
-        ("6,000 names of one tree, 700 samples", samples(crowded(12).take(6_000), 700)),
+        ("6,000 names of one tree, 700 samples", samples(crowded(HEAD_BITS).take(6_000), 700)),
         ("2,500 names of the made kind, 700 samples", made_names(2_500, 700)),
         ("3,500 equations in a chain", chain(3_500)),
         ("700 equations in a chain", chain(700)),
