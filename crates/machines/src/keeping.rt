@@ -203,7 +203,8 @@ fn put_empties(
 }
 
 // Keeps which of the states from `from` on, whose count stands before them, is the first that strays. The row is that of the bytes
-// before the states, where no equation and no guard begins; without states it is left to regions that have none.
+// before the states, where no equation and no guard begins; without states it is left to regions that have none. A region with more
+// states than a machine may have is never checked.
 fn put_strays(s: &[u8], names: usize, spots: &[u16], ends: &mut [u16], from: usize)
     requires { ⌜ (length (now s) ≤ 65536) × KeptRight (now s) names (now spots) (now ends) ⌝ }
     ensures { λ _. ⌜ KeptRight (now (s .entry)) names (now (spots .entry)) (now (ends .exit)) ⌝ }
@@ -213,6 +214,9 @@ fn put_strays(s: &[u8], names: usize, spots: &[u16], ends: &mut [u16], from: usi
     }
     let c = number(s, from - 2);
     if c.value == 0 {
+        return;
+    }
+    if Pack::STATES < c.value {
         return;
     }
     let r = drawn_strays(s, names, ends, c.value, from);
