@@ -14,7 +14,7 @@ use Rattle.pack.specs.Names.{Name, eqName}
 use Rattle.pack.specs.Write.{enc, Found, At, Missing, lookup}
 use Rattle.pack.specs.declared.table.Place.{Place}
 use Rattle.pack.specs.declared.table.Place.the-variants as pl
-use Rattle.pack.specs.Table.{tableF, table, rowsMost, heads, cells, spotsFrom, textsFrom, cellAt, spotAt, below, word, putWord, hash, textAt, textOf, placeFrom, placeOf, foundIn, seek, numberIn, isMissing, isFree, spare, inIndex, cellFor, hasRow, linked, unindexed, linkedAt, noted, enter, blank, entered, tabled}
+use Rattle.pack.specs.Table.{tableF, table, rowsMost, heads, cells, spotsFrom, textsFrom, cellAt, spotAt, below, word, putWord, hash, way, further, textAt, textOf, placeFrom, placeOf, foundIn, seek, numberIn, isMissing, isFree, spare, inIndex, cellFor, hasRow, linked, unindexed, linkedAt, noted, enter, blank, entered, tabled}
 use Rattle.pack.proofs.Tables.{enc-append, eqName-refl, eqName-true}
 
 -- NAMES, EACH AFTER ITS LENGTH BYTE
@@ -191,11 +191,11 @@ module _ (t : List ℕ) (n : Name) (c : ℕ) (few : c ≤ rowsMost) (low : (i : 
   unfolding placeFrom which its-number
   taken-text zero h i w k l e = absurd (let z : _≡_ {A = ℕ} 2 0 = ap which e in omega arith)
   taken-text (suc f) h i zero k l e = absurd (let z : _≡_ {A = ℕ} 1 0 = ap which e in omega arith)
-  taken-text (suc f) h i (suc m) k l e = go (eqName (textOf t m) n) refl (taken-text f (h / 2) (below m h) _ k (low (below m h) (below-less m h (omega arith)))) e
+  taken-text (suc f) h i (suc m) k l e = go (eqName (textOf t m) n) refl (taken-text f (further n f h) (below m h) _ k (low (below m h) (below-less m h (omega arith)))) e
     where
       go : (b : Bool) → eqName (textOf t m) n ≡ b
-          → (placeFrom f t n (h / 2) (below m h) (word t (cellAt (below m h))) ≡ pl.Taken k → (k < c) × (eqName (textOf t k) n ≡ true))
-          → cond b (pl.Taken m) (placeFrom f t n (h / 2) (below m h) (word t (cellAt (below m h)))) ≡ pl.Taken k → (k < c) × (eqName (textOf t k) n ≡ true)
+          → (placeFrom f t n (further n f h) (below m h) (word t (cellAt (below m h))) ≡ pl.Taken k → (k < c) × (eqName (textOf t k) n ≡ true))
+          → cond b (pl.Taken m) (placeFrom f t n (further n f h) (below m h) (word t (cellAt (below m h)))) ≡ pl.Taken k → (k < c) × (eqName (textOf t k) n ≡ true)
       go true q ih g = let z : m ≡ k = ap its-number g in (omega arith, subst (λ (y : ℕ). eqName (textOf t y) n ≡ true) z q)
       go false q ih g = ih g
 
@@ -205,11 +205,11 @@ module _ (t : List ℕ) (n : Name) (c : ℕ) (few : c ≤ rowsMost) (low : (i : 
   free-word zero h i w j l q e = absurd (let z : _≡_ {A = ℕ} 2 1 = ap which e in omega arith)
   free-word (suc f) h i zero j l q e = let z : i ≡ j = ap its-number e in subst (λ (y : ℕ). word t (cellAt y) ≡ 0) z (sym q)
   free-word (suc f) h i (suc m) j l q e =
-      go (eqName (textOf t m) n) (free-word f (h / 2) (below m h) _ j (below-less m h (omega (arith, low i l))) refl) e
+      go (eqName (textOf t m) n) (free-word f (further n f h) (below m h) _ j (below-less m h (omega (arith, low i l))) refl) e
     where
       go : (b : Bool)
-          → (placeFrom f t n (h / 2) (below m h) (word t (cellAt (below m h))) ≡ pl.Free j → word t (cellAt j) ≡ 0)
-          → cond b (pl.Taken m) (placeFrom f t n (h / 2) (below m h) (word t (cellAt (below m h)))) ≡ pl.Free j → word t (cellAt j) ≡ 0
+          → (placeFrom f t n (further n f h) (below m h) (word t (cellAt (below m h))) ≡ pl.Free j → word t (cellAt j) ≡ 0)
+          → cond b (pl.Taken m) (placeFrom f t n (further n f h) (below m h) (word t (cellAt (below m h)))) ≡ pl.Free j → word t (cellAt j) ≡ 0
       go true ih g = absurd (let z : _≡_ {A = ℕ} 0 1 = ap which g in omega arith)
       go false ih g = ih g
 
@@ -220,7 +220,7 @@ head-less n = omega arith
 taken-there : (t : List ℕ) (ns : List Name) → Indexed t ns → (n : Name) (j k : ℕ) → lookup ns n 0 ≡ Missing j → placeOf t n ≡ pl.Taken k → ⊥
 unfolding placeOf
 taken-there t ns x n j k e q =
-    let g = taken-text t n (length ns) (x .few) (x .low) 17409 (hash n / heads) (hash n % heads) _ k (x .low (hash n % heads) (head-less n)) q in
+    let g = taken-text t n (length ns) (x .few) (x .low) 17409 (way n) (hash n % heads) _ k (x .low (hash n % heads) (head-less n)) q in
     let m : getD ns k [] ≡ n = sym (row-text t k (getD ns k []) (x .rows k (g .0))) ∙ eqName-true (textOf t k) n (g .1) in
     lookup-there ns k 0 j (g .0) (ap (λ (y : Name). lookup ns y 0) m ∙ e)
 
@@ -398,10 +398,10 @@ module _ (t u : List ℕ) (n : Name) (c i : ℕ) (few : c ≤ rowsMost) (low : (
   cell-stays j m l e = others j l (λ q. omega (arith, free, e, ap (λ y. word t (cellAt y)) q)) ∙ e
 
   step-same : (f : ℕ) (x : Name) (h j m : ℕ) → m < c
-      → placeFrom (suc f) u x h j (suc m) ≡ cond (eqName (textOf t m) x) (pl.Taken m) (placeFrom f u x (h / 2) (below m h) (word u (cellAt (below m h))))
+      → placeFrom (suc f) u x h j (suc m) ≡ cond (eqName (textOf t m) x) (pl.Taken m) (placeFrom f u x (further x f h) (below m h) (word u (cellAt (below m h))))
   unfolding placeFrom
   step-same f x h j m l =
-      ap (λ (y : Name). cond (eqName y x) (pl.Taken m) (placeFrom f u x (h / 2) (below m h) (word u (cellAt (below m h))))) (texts m l)
+      ap (λ (y : Name). cond (eqName y x) (pl.Taken m) (placeFrom f u x (further x f h) (below m h) (word u (cellAt (below m h))))) (texts m l)
 
   -- what was found is found
   taken-stays : (x : Name) (f h j w k : ℕ) → j < cells → w ≡ word t (cellAt j) → placeFrom f t x h j w ≡ pl.Taken k
@@ -413,12 +413,12 @@ module _ (t u : List ℕ) (n : Name) (c i : ℕ) (few : c ≤ rowsMost) (low : (
       let g : m < c = omega (arith, low j l) in
       ap (placeFrom (suc f) u x h j) (cell-stays j m l (sym q))
       ∙ step-same f x h j m g
-      ∙ go (eqName (textOf t m) x) (taken-stays x f (h / 2) (below m h) _ k (below-less t x c few low m h g) refl) e
+      ∙ go (eqName (textOf t m) x) (taken-stays x f (further x f h) (below m h) _ k (below-less t x c few low m h g) refl) e
     where
       go : (b : Bool)
-          → (placeFrom f t x (h / 2) (below m h) (word t (cellAt (below m h))) ≡ pl.Taken k → placeFrom f u x (h / 2) (below m h) (word u (cellAt (below m h))) ≡ pl.Taken k)
-          → cond b (pl.Taken m) (placeFrom f t x (h / 2) (below m h) (word t (cellAt (below m h)))) ≡ pl.Taken k
-          → cond b (pl.Taken m) (placeFrom f u x (h / 2) (below m h) (word u (cellAt (below m h)))) ≡ pl.Taken k
+          → (placeFrom f t x (further x f h) (below m h) (word t (cellAt (below m h))) ≡ pl.Taken k → placeFrom f u x (further x f h) (below m h) (word u (cellAt (below m h))) ≡ pl.Taken k)
+          → cond b (pl.Taken m) (placeFrom f t x (further x f h) (below m h) (word t (cellAt (below m h)))) ≡ pl.Taken k
+          → cond b (pl.Taken m) (placeFrom f u x (further x f h) (below m h) (word u (cellAt (below m h)))) ≡ pl.Taken k
       go true ih g = g
       go false ih g = ih g
 
@@ -430,17 +430,17 @@ module _ (t u : List ℕ) (n : Name) (c i : ℕ) (few : c ≤ rowsMost) (low : (
   free-taken (suc f) h j zero l q e =
       let z : j ≡ i = ap its-number e in
       ap (placeFrom (suc f) u n h j) (ap (λ y. word u (cellAt y)) z ∙ cell)
-      ∙ ap (λ (b : Bool). cond b (pl.Taken c) (placeFrom f u n (h / 2) (below c h) (word u (cellAt (below c h))))) (ap (λ (y : Name). eqName y n) text ∙ eqName-refl n)
+      ∙ ap (λ (b : Bool). cond b (pl.Taken c) (placeFrom f u n (further n f h) (below c h) (word u (cellAt (below c h))))) (ap (λ (y : Name). eqName y n) text ∙ eqName-refl n)
   free-taken (suc f) h j (suc m) l q e =
       let g : m < c = omega (arith, low j l) in
       ap (placeFrom (suc f) u n h j) (cell-stays j m l (sym q))
       ∙ step-same f n h j m g
-      ∙ go (eqName (textOf t m) n) (free-taken f (h / 2) (below m h) _ (below-less t n c few low m h g) refl) e
+      ∙ go (eqName (textOf t m) n) (free-taken f (further n f h) (below m h) _ (below-less t n c few low m h g) refl) e
     where
       go : (b : Bool)
-          → (placeFrom f t n (h / 2) (below m h) (word t (cellAt (below m h))) ≡ pl.Free i → placeFrom f u n (h / 2) (below m h) (word u (cellAt (below m h))) ≡ pl.Taken c)
-          → cond b (pl.Taken m) (placeFrom f t n (h / 2) (below m h) (word t (cellAt (below m h)))) ≡ pl.Free i
-          → cond b (pl.Taken m) (placeFrom f u n (h / 2) (below m h) (word u (cellAt (below m h)))) ≡ pl.Taken c
+          → (placeFrom f t n (further n f h) (below m h) (word t (cellAt (below m h))) ≡ pl.Free i → placeFrom f u n (further n f h) (below m h) (word u (cellAt (below m h))) ≡ pl.Taken c)
+          → cond b (pl.Taken m) (placeFrom f t n (further n f h) (below m h) (word t (cellAt (below m h)))) ≡ pl.Free i
+          → cond b (pl.Taken m) (placeFrom f u n (further n f h) (below m h) (word u (cellAt (below m h)))) ≡ pl.Taken c
       go true ih g = absurd (let z : _≡_ {A = ℕ} 0 1 = ap which g in omega arith)
       go false ih g = ih g
 
@@ -457,7 +457,7 @@ module _ (t : List ℕ) (ns : List Name) (n : Name) (x : Indexed t ns) (o : Rowe
 
   cell-free : word t (cellAt (o .cell)) ≡ 0
   unfolding placeOf
-  cell-free = free-word t n (length ns) (x .few) (x .low) 17409 (hash n / heads) (hash n % heads) _ (o .cell) (head-less n) refl (o .free)
+  cell-free = free-word t n (length ns) (x .few) (x .low) 17409 (way n) (hash n % heads) _ (o .cell) (head-less n) refl (o .free)
 
   more-word : (i : ℕ) → i + 1 < textsFrom → word more i ≡ word (linked (length ns) (o .cell) spot t) i
   more-word i h = word-append _ (length n ∷ n) i (omega (arith, linked-length t (length ns) (o .cell) spot, o .long))
@@ -526,18 +526,18 @@ module _ (t : List ℕ) (ns : List Name) (n : Name) (x : Indexed t ns) (o : Rowe
   more-finds y j e = go (lookup ns y 0) refl (sym (lookup-snoc ns n y 0) ∙ e)
     where
       new : (k : ℕ) → lookup ns y 0 ≡ Missing k → (b : Bool) → eqName n y ≡ b → cond b (At k) (Missing (k + 1)) ≡ At j
-          → placeFrom 17409 more y (hash y / heads) (hash y % heads) (word more (cellAt (hash y % heads))) ≡ pl.Taken j
+          → placeFrom 17409 more y (way y) (hash y % heads) (word more (cellAt (hash y % heads))) ≡ pl.Taken j
       new k p false q g = absurd (let z : _≡_ {A = ℕ} 0 1 = cc in omega arith)
       new k p true q g =
           let a : k ≡ j = ap numberIn g in
           let z : length ns ≡ j = let h = lookup-none ns y 0 k p in omega arith in
-          subst (λ (v : Name). placeFrom 17409 more v (hash v / heads) (hash v % heads) (word more (cellAt (hash v % heads))) ≡ pl.Taken j) (eqName-true n y q)
-          (free-taken t more n (length ns) (o .cell) (x .few) (x .low) cell-free more-cell (row-text more (length ns) n more-row) more-others more-texts 17409 (hash n / heads) (hash n % heads) _ (head-less n) refl (o .free)
+          subst (λ (v : Name). placeFrom 17409 more v (way v) (hash v % heads) (word more (cellAt (hash v % heads))) ≡ pl.Taken j) (eqName-true n y q)
+          (free-taken t more n (length ns) (o .cell) (x .few) (x .low) cell-free more-cell (row-text more (length ns) n more-row) more-others more-texts 17409 (way n) (hash n % heads) _ (head-less n) refl (o .free)
           ∙ ap pl.Taken z)
 
       go : (f : Found) → lookup ns y 0 ≡ f → onto f n y ≡ At j
-          → placeFrom 17409 more y (hash y / heads) (hash y % heads) (word more (cellAt (hash y % heads))) ≡ pl.Taken j
-      go (At k) p g = taken-stays t more n (length ns) (o .cell) (x .few) (x .low) cell-free more-cell (row-text more (length ns) n more-row) more-others more-texts y 17409 (hash y / heads) (hash y % heads) _ j (head-less y) refl (x .finds y j (p ∙ g))
+          → placeFrom 17409 more y (way y) (hash y % heads) (word more (cellAt (hash y % heads))) ≡ pl.Taken j
+      go (At k) p g = taken-stays t more n (length ns) (o .cell) (x .few) (x .low) cell-free more-cell (row-text more (length ns) n more-row) more-others more-texts y 17409 (way y) (hash y % heads) _ j (head-less y) refl (x .finds y j (p ∙ g))
       go (Missing k) p g = new k p (eqName n y) refl g
 
   indexed-more : Indexed more (ns ++ (n ∷ []))

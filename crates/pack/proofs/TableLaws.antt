@@ -16,7 +16,7 @@ use Rattle.pack.specs.Names.{Name, eqName}
 use Rattle.pack.specs.Write.{Found, At, Missing, lookup}
 use Rattle.pack.specs.declared.table.Place.{Place}
 use Rattle.pack.specs.declared.table.Place.the-variants as pl
-use Rattle.pack.specs.Table.{table, rowsMost, cells, textsFrom, cellAt, spotAt, below, word, putWord, fold, mixed, joined, quadAt, hashFrom, hash, textAt, textOf, placeFrom, placeOf, foundIn, seek, numberIn, isFree, spare, inIndex, cellFor, linked, linkedAt, noted}
+use Rattle.pack.specs.Table.{table, rowsMost, cells, textsFrom, cellAt, spotAt, below, word, putWord, fold, mixed, joined, quadAt, hashFrom, hash, further, textAt, textOf, placeFrom, placeOf, foundIn, seek, numberIn, isFree, spare, inIndex, cellFor, linked, linkedAt, noted}
 use Rattle.pack.proofs.table.Place as Place-enum
 use Rattle.pack.proofs.TableIndex.{texts-is, word-append}
 use Rattle.pack.proofs.Interns.{and-false, found-number}
@@ -54,6 +54,15 @@ hash-done n a b i p q u v x y z l e f g e' f' g' h =
     let y' : y ≡ fold ((b + quadAt n (length n - 4)) * 2083697005) = g' ∙ ap (λ w. fold ((b + w) * 2083697005)) (f' ∙ ap (quadAt n) e') in
     let z' : z ≡ fold ((fold ((a + quadAt n (length n - 8)) * 1540483477) + fold ((b + quadAt n (length n - 4)) * 2083697005)) * 1540483477) = h ∙ (λ j. fold ((x' j + y' j) * 1540483477)) in
     (λ j. z' j + 4294967296 * ((z' j + y' j) % 4294967296)) ∙ ap (λ w. hashFrom w a b n i) k
+
+-- the way down, further
+pub further-on : (n : Name) (f h : ℕ) → 4 ≤ h → h / 2 ≡ further n f h
+unfolding further
+further-on n f h l = rw (le-ltb h 4 l)
+
+pub further-own : (n : Name) (f h j x : ℕ) → h < 4 → j ≡ 17358 - f → x ≡ getD n (j / 8) 0 → 256 + x ≡ further n f h
+unfolding further
+further-own n f h j x l e g = rw (lt-ltb h 4 l) (ap (λ y. 256 + y) (g ∙ ap (λ y. getD n (y / 8) 0) e))
 
 -- past the end there is nothing
 pub quad-end : (n : Name) (i x y z : ℕ) → length n ≤ i + 3 → x ≡ getD n i 0 → y ≡ getD n (i + 1) 0 → z ≡ getD n (i + 2) 0 → x + 256 * y + 65536 * z ≡ quadAt n i
@@ -122,26 +131,27 @@ module _ (t : List ℕ) (n : Name) where
     here zero h i v p q e g = absurd (omega arith)
     here (suc f) h i zero p q e g = absurd (q refl)
     here (suc f) h i (suc k) p q e g =
-        ap (λ b. cond b (pl.Taken k) (placeFrom f t n (h / 2) (below k h) (word t (cellAt (below k h))))) (ap (λ (y : Name). eqName y n) (text-of t k w e) ∙ g)
+        ap (λ b. cond b (pl.Taken k) (placeFrom f t n (further n f h) (below k h) (word t (cellAt (below k h))))) (ap (λ (y : Name). eqName y n) (text-of t k w e) ∙ g)
         ∙ ap pl.Taken (sym (one-less k))
 
     on : (f h i v : ℕ) → 0 < f → (v ≡ 0 → ⊥) → w ≡ word t (spotAt (v - 1)) → eqName (textAt t (textsFrom + w)) n ≡ false
-        → placeFrom f t n h i v ≡ placeFrom (f - 1) t n (h / 2) (below (v - 1) h) (word t (cellAt (below (v - 1) h)))
+        → placeFrom f t n h i v ≡ placeFrom (f - 1) t n (further n (f - 1) h) (below (v - 1) h) (word t (cellAt (below (v - 1) h)))
     unfolding placeFrom
     on zero h i v p q e g = absurd (omega arith)
     on (suc f) h i zero p q e g = absurd (q refl)
     on (suc f) h i (suc k) p q e g =
-        ap (λ b. cond b (pl.Taken k) (placeFrom f t n (h / 2) (below k h) (word t (cellAt (below k h))))) (ap (λ (y : Name). eqName y n) (text-of t k w e) ∙ g)
-        ∙ ap (λ y. placeFrom f t n (h / 2) (below y h) (word t (cellAt (below y h)))) (sym (one-less k))
-        ∙ ap (λ y. placeFrom y t n (h / 2) (below (suc k - 1) h) (word t (cellAt (below (suc k - 1) h)))) (sym (one-less f))
+        ap (λ b. cond b (pl.Taken k) (placeFrom f t n (further n f h) (below k h) (word t (cellAt (below k h))))) (ap (λ (y : Name). eqName y n) (text-of t k w e) ∙ g)
+        ∙ ap (λ y. placeFrom f t n (further n f h) (below y h) (word t (cellAt (below y h)))) (sym (one-less k))
+        ∙ ap (λ y. placeFrom y t n (further n y h) (below (suc k - 1) h) (word t (cellAt (below (suc k - 1) h)))) (sym (one-less f))
 
     pub place-here : (f h i v : ℕ) → 0 < f → v ≡ word t (2 + 2 * i) → (v ≡ 0 → ⊥) → w ≡ word t (spotAt (v - 1)) → eqName (textAt t (textsFrom + w)) n ≡ true
         → placeFrom f t n h i (word t (2 + 2 * i)) ≡ pl.Taken (v - 1)
     place-here f h i v p d q e g = ap (placeFrom f t n h i) (sym d) ∙ here f h i v p q e g
 
-    pub place-on : (f h i v : ℕ) → 0 < f → v ≡ word t (2 + 2 * i) → (v ≡ 0 → ⊥) → w ≡ word t (spotAt (v - 1)) → eqName (textAt t (textsFrom + w)) n ≡ false
-        → placeFrom f t n h i (word t (2 + 2 * i)) ≡ placeFrom (f - 1) t n (h / 2) (below (v - 1) h) (word t (cellAt (below (v - 1) h)))
-    place-on f h i v p d q e g = ap (placeFrom f t n h i) (sym d) ∙ on f h i v p q e g
+    pub place-on : (f h i v g : ℕ) → 0 < f → v ≡ word t (2 + 2 * i) → (v ≡ 0 → ⊥) → w ≡ word t (spotAt (v - 1)) → eqName (textAt t (textsFrom + w)) n ≡ false → g ≡ further n (f - 1) h
+        → placeFrom f t n h i (word t (2 + 2 * i)) ≡ placeFrom (f - 1) t n g (below (v - 1) h) (word t (cellAt (below (v - 1) h)))
+    place-on f h i v g p d q e x y =
+        ap (placeFrom f t n h i) (sym d) ∙ on f h i v p q e x ∙ sym (ap (λ z. placeFrom (f - 1) t n z (below (v - 1) h) (word t (cellAt (below (v - 1) h)))) y)
 
 -- a search, by how many names there are
 pub seek-plain : (t : List ℕ) (n : Name) (b : ℕ) → 17408 < word t 0 → b ≡ min (0 + textsFrom) (length t)

@@ -105,15 +105,24 @@ textAt t p = take (getD t p 0) (drop (p + 1) t)
 unfoldable pub textOf : List ℕ → ℕ → Name
 textOf t k = textAt t (textsFrom + word t (spotAt k))
 
--- where a name with the bits h is from the cell i on, which holds w, or which cell would be its own; the first number bounds the steps
+-- The way of a name down its tree: a bit for each step, lowest first, and above those that are left a 1. The bits of the hash come
+-- first, but for those that choose the head; then the letters of the name, so that no two names have the same way.
+unfoldable pub way : Name → ℕ
+way n = hash n / heads + 2251799813685248
+
+-- the way h of the name n after one step more, after which f are left
+unfoldable pub further : Name → ℕ → ℕ → ℕ
+further n f h = cond (ltb h 4) (256 + getD n ((17358 - f) / 8) 0) (h / 2)
+
+-- where a name with the way h is from the cell i on, which holds w, or which cell would be its own; the first number bounds the steps
 unfoldable pub placeFrom : ℕ → List ℕ → Name → ℕ → ℕ → ℕ → Place
 placeFrom zero t n h i w = pl.Lost
 placeFrom (suc f) t n h i zero = pl.Free i
-placeFrom (suc f) t n h i (suc k) = cond (eqName (textOf t k) n) (pl.Taken k) (placeFrom f t n (h / 2) (below k h) (word t (cellAt (below k h))))
+placeFrom (suc f) t n h i (suc k) = cond (eqName (textOf t k) n) (pl.Taken k) (placeFrom f t n (further n f h) (below k h) (word t (cellAt (below k h))))
 
 -- the same from the head of its hash: no path is longer than there are names
 unfoldable pub placeOf : List ℕ → Name → Place
-placeOf t n = placeFrom 17409 t n (hash n / heads) (hash n % heads) (word t (cellAt (hash n % heads)))
+placeOf t n = placeFrom 17409 t n (way n) (hash n % heads) (word t (cellAt (hash n % heads)))
 
 -- what was found, among d names
 unfoldable pub foundIn : ℕ → Place → Found

@@ -12,7 +12,7 @@ ghost use Prim.Native.Nat.{_+_, _*_, _-_, _/_, _≤_, _<_, _^_};
 ghost use lib.ListN.{length, getD, set};
 ghost use Rattle.pack.specs.Names.{eqName};
 ghost use Rattle.pack.specs.Intern.{foundOf};
-ghost use Rattle.pack.specs.Table.{word as wordIn, putWord, fold as folded, hash as hashOf, quadAt, textsFrom, textAt, placeFrom, placeOf, Near, cellAt, seek, numberIn, isFree, spare as spareIn, inIndex, cellFor, hasRow, linked, unindexed, linkedAt, noted};
+ghost use Rattle.pack.specs.Table.{word as wordIn, putWord, fold as folded, hash as hashOf, further as furtherOf, quadAt, textsFrom, textAt, placeFrom, placeOf, Near, cellAt, seek, numberIn, isFree, spare as spareIn, inIndex, cellFor, hasRow, linked, unindexed, linkedAt, noted};
 
 // How many names can have rows.
 const ROWS: usize = 17408;
@@ -151,6 +151,17 @@ fn is_text(t: &[u8], x: &[u8], w: usize, n: &[u8]) -> bool
     same(&x[b..e], n)
 }
 
+// The way h of a name after one step more, after which f are left: the next bit, or the next letter.
+fn further(n: &[u8], f: usize, h: usize) -> usize
+    ensures { λ r. ⌜ r ≡ furtherOf (now (n .entry)) f h ⌝ }
+{
+    if h < 4 {
+        let j = last(17358, f);
+        return 256 + byte_at(n, j / 8);
+    }
+    h / 2
+}
+
 // Where a name is from a cell on.
 fn descend(t: &[u8], x: &[u8], n: &[u8], bits: usize, cell: usize) -> Place
     requires { ⌜ (length (now t) ≤ textsFrom) × (cell < 200000) ⌝ }
@@ -170,8 +181,8 @@ fn descend(t: &[u8], x: &[u8], n: &[u8], bits: usize, cell: usize) -> Place
             return Place::Taken(k);
         }
         i = HEADS + 2 * k + h % 2;
-        h = h / 2;
         f = f - 1;
+        h = further(n, f, h);
     }
     Place::Lost
 }
@@ -182,7 +193,7 @@ fn place_of(t: &[u8], x: &[u8], n: &[u8]) -> Place
     ensures { λ r. ⌜ (r ≡ placeOf (now (t .entry) ++ now (x .entry)) (now (n .entry))) × Near r ⌝ }
 {
     let h = hash(n);
-    descend(t, x, n, h / HEADS, h % HEADS)
+    descend(t, x, n, h / HEADS + 2251799813685248, h % HEADS)
 }
 
 // The place of the name n in a table with an index.

@@ -63,13 +63,16 @@ add-i-2 c = omega (arith, c .before .before .before .before .word .ensures .1)
 sub-f : tie.Need-sub-f Inv-loop μ-loop
 sub-f c = omega arith
 
+further-requires : tie.Need-further-requires Inv-loop μ-loop
+further-requires c κs = tt
+
 loop-less : tie.Need-loop-less Inv-loop μ-loop
 loop-less c = omega arith
 
 loop-again : tie.Need-loop-again Inv-loop μ-loop
 loop-again c = (
-  omega (arith, c .before .before .before .before .word .ensures .1),
-  sym (place-on _ _ _ _ _ _ _ (c .before .before .before .before .before .loop-test .taken) (c .before .before .before .before .word .ensures .0) (c .before .before .before .if1 .left) (c .before .before .word2 .ensures .0) (sym (c .before .is-text .ensures) ∙ c .if2 .left)) ∙ c .before .before .before .before .before .before .loop .inv .1,
+  omega (arith, c .before .before .before .before .before .word .ensures .1),
+  sym (place-on _ _ _ _ _ _ _ _ (c .before .before .before .before .before .before .loop-test .taken) (c .before .before .before .before .before .word .ensures .0) (c .before .before .before .before .if1 .left) (c .before .before .before .word2 .ensures .0) (sym (c .before .before .is-text .ensures) ∙ c .before .if2 .left) (c .further .ensures)) ∙ c .before .before .before .before .before .before .before .loop .inv .1,
 )
 
 returns-3 : tie.Need-returns-3 Inv-loop μ-loop
@@ -98,6 +101,7 @@ descend-spec =
     add-i
     add-i-2
     sub-f
+    further-requires
     loop-less
     loop-again
     returns-3)
