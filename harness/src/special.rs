@@ -280,18 +280,42 @@ pub fn names_only(size: usize) -> Package {
 /// heads.
 pub const HEAD_BITS: u32 = 13;
 
+/// The high half of a product added to its low one.
+fn fold(x: u64) -> u64 {
+    (x + (x >> 32)) & 0xFFFF_FFFF
+}
+
+/// The factors of the two halves of a name's number.
+const FACTORS: [u64; 2] = [1_540_483_477, 2_083_697_005];
+
 /// The number under which the library's index keeps a name: the lowest `HEAD_BITS` choose a tree, the others the way
 /// down.
 pub fn index_number(name: &[u8]) -> u64 {
-    let fold = |x: u64| (x + (x >> 32)) & 0xFFFF_FFFF;
     let quad = |at: usize| name[at..].iter().take(4).rev().fold(0, |x, byte| x << 8 | u64::from(*byte));
-    let first = |a: u64, at| fold((a + quad(at)) * 1_540_483_477);
-    let second = |b: u64, at| fold((b + quad(at)) * 2_083_697_005);
+    let first = |a: u64, at| fold((a + quad(at)) * FACTORS[0]);
+    let second = |b: u64, at| fold((b + quad(at)) * FACTORS[1]);
     let last = name.len().saturating_sub(1) / 8 * 8;
     let (a, b) = (0..last).step_by(8).fold((name.len() as u64, 0), |(a, b), at| (first(a, at), second(b, at + 4)));
     let (x, y) = (first(a, name.len().saturating_sub(8)), second(b, name.len().saturating_sub(4)));
-    let z = fold((x + y) * 1_540_483_477);
+    let z = fold((x + y) * FACTORS[0]);
     z | ((z + y) & 0xFFFF_FFFF) << 32
+}
+
+/// Names of sixteen letters, all with the same number in the index: each half of it takes four letters and then four
+/// more, which can make up for those.
+pub fn of_one_number() -> impl Iterator<Item = String> {
+    let half = |before: u64, factor: u64| -> Vec<[String; 2]> {
+        let made_up = |four: &String| {
+            let taken = fold((before + u64::from(u32::from_le_bytes(four.as_bytes().try_into().unwrap()))) * factor);
+            let rest = 0xC000_0000_u64.checked_sub(taken)?.to_le_bytes();
+            let letters = rest[..4].iter().all(|b| ALPHABET.contains(b));
+            letters.then(|| [four.clone(), String::from_utf8(rest[..4].to_vec()).unwrap()])
+        };
+        let fours = (0..).map(|i| short_name(63 + 63 * 63 + 63 * 63 * 63 + i));
+        fours.take(63 * 63 * 63 * 63).filter_map(|four| made_up(&four)).take(64).collect()
+    };
+    let (a, b) = (half(16, FACTORS[0]), half(0, FACTORS[1]));
+    a.into_iter().flat_map(move |[x, z]| b.clone().into_iter().map(move |[y, w]| format!("{x}{y}{z}{w}")))
 }
 
 /// Names of five letters, all with the same lowest `bits` of their numbers in the index.
@@ -429,6 +453,13 @@ mod tests {
     fn crowded_names_share_a_head() {
         let all: Vec<String> = crowded(HEAD_BITS).take(3).collect();
         assert!(all.iter().all(|n| index_number(n.as_bytes()) % 8192 == 0), "{all:?}");
+    }
+
+    #[test]
+    fn names_of_one_number_have_it() {
+        let all: Vec<String> = of_one_number().collect();
+        assert_eq!(all.len(), 4096);
+        assert!(all.iter().all(|n| n.len() == 16 && index_number(n.as_bytes()) == index_number(all[0].as_bytes())));
     }
 
     #[test]
