@@ -27,7 +27,6 @@ use Rattle.activation_rules.specs.Unlast.{conditionsOf}
 use Rattle.activation_rules.specs.Holders.{Holding, held, hold, unheld}
 use Rattle.activation_rules.specs.Checks.{checks}
 use Rattle.activation_rules.specs.Lower.{Lowered, actEquations, actLocals, lowered, make, makes, refuse, unless, withHolders}
-use Rattle.activations.specs.Joining.{added}
 use Rattle.activations.specs.Cells.{clearT, copyT}
 use Rattle.activations.specs.Places.{actAt}
 use Rattle.activations.specs.TypesAt.{Coded, TypesAre, firstPortsT}

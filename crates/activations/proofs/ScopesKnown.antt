@@ -24,7 +24,6 @@ use Rattle.pack.proofs.Interns.{render-append}
 use Rattle.pack.proofs.Tables.{all-append}
 use Rattle.machines.specs.Marks.{among}
 use Rattle.machines.specs.declared.sure.Num.{Num}
-use Rattle.machines.specs.Sure.{with}
 use Rattle.machines.specs.Emits.{packName}
 use Rattle.machines.proofs.LocalLaws.{each-append}
 use Rattle.machines.proofs.Reading.{many-cut, many-more, many-over, name-number}

@@ -7,7 +7,6 @@ use mathlib.Core.Option.{Option, none, some}
 use mathlib.Core.Path.{_≡_, refl, sym, ap, subst, _∙_}
 use lib.ListN.{length, drop, length-append, length-drop}
 use Rattle.activations.specs.declared.met.Met.{Met}
-use Rattle.activations.specs.declared.met.Met.the-variants as mt
 use Rattle.wire.specs.Answer.{counted, index, many, mapA, u16, value}
 use Rattle.wire.specs.Bytes.{two}
 use Rattle.wire.specs.Lists.{Bytes}

@@ -16,7 +16,7 @@ use Rattle.pack.specs.Syntax.{Drawing, Package}
 use Rattle.pack.specs.Forms.{nameAt}
 use Rattle.pack.specs.Read.{enumIn, machineIn, nameSection}
 use Rattle.pack.specs.Report.{Refusal, entries, reportBytes}
-use Rattle.pack.specs.Outcome.{answered, reported, written}
+use Rattle.pack.specs.Outcome.{answered, reported}
 use Rattle.pack.specs.Table.{tabled}
 use Rattle.pack.specs.Verdict.{Stands}
 use Rattle.pack.specs.Write.{Item, enc}

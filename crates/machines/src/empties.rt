@@ -10,7 +10,7 @@ use crate::opening::region_from;
 use crate::sure::Num;
 use crate::sure::region;
 ghost use mathlib.Core.Path.{_≡_};
-ghost use Prim.Native.Nat.{_<_, _≤_};
+ghost use Prim.Native.Nat.{_<_};
 ghost use Rattle.machines.specs.Empties.{AtOnce, EmptyRun, emptyAt, openedOf, takenOf};
 
 // How many there are, and the longest name of their initial states.

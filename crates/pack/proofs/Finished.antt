@@ -1,14 +1,13 @@
 -- Laws of the last step: the copy into the caller's buffer, the answer by size, and the answer by what the writer reached.
 use Prim.Native.Nat.{ℕ, zero, suc, _+_, _-_, _<_, _≤_, min}
 use native.Mathlib.Nat.{sub-zero}
-use native.Mathlib.Numerals.{add-one}
 use native.Mathlib.Omega.{arith}
 use mathlib.Core.Bool.{true, false}
 use mathlib.Core.Logic.{⊎-elim}
 use mathlib.Core.Path.{_≡_, refl, sym, ap, _∙_}
 use mathlib.Core.List.{List, [], _∷_, _++_, append-assoc}
-use lib.ListN.{length, take, drop, set, getD, length-append, length-take, drop-of-length-le}
-use lib.Seq.{take-nil, paste, paste-suc, take-length, drop-drop, take-append-seam, drop-append-add}
+use lib.ListN.{length, take, drop, length-append, length-take, drop-of-length-le}
+use lib.Seq.{take-nil, drop-drop, take-append-seam, drop-append-add}
 use borrow.Author.Tests.{lt-ltb, le-ltb}
 use Rattle.wire.specs.declared.writer.Writer.{Writer}
 use Rattle.wire.specs.Bytes.{two}

@@ -6,14 +6,14 @@ use native.Mathlib.Omega.{arith}
 use mathlib.Core.Logic.{⊎-elim}
 use mathlib.Core.Bool.{Bool, true, false, cond, _&&_}
 use mathlib.Core.Path.{_≡_, refl, sym, ap, _∙_}
-use mathlib.Core.List.{List, [], _∷_, _++_, append-assoc}
+use mathlib.Core.List.{List, [], _∷_, _++_}
 use lib.ListN.{length, take, drop, getD, replicate, drop-of-length-le, length-append, length-drop, length-take, length-replicate}
 use lib.Seq.{drop-cons, length-front, length-take-le, take-at}
 use lib.Dec.{ltb, leb, eqb}
 use borrow.Author.Tests.{lt-ltb, le-ltb, le-leb, lt-leb, eq-eqb, ne-eqb}
 use Rattle.wire.specs.declared.writer.Writer.{Writer}
 use Rattle.wire.specs.Bytes.{two}
-use Rattle.wire.specs.Writer.{State, full, st, stateOf, put, puts, swapped, overwritten}
+use Rattle.wire.specs.Writer.{State, full, st, stateOf, put, puts, swapped}
 use Rattle.wire.proofs.Writers.{lt-or-le, puts-full, puts-fit, take-part, take-capped, drop-capped}
 use Rattle.pack.specs.Limits.{maxName}
 use Rattle.pack.specs.Names.{Name, eqName}

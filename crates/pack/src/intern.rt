@@ -14,7 +14,7 @@ ghost use mathlib.Core.Path.{_≡_};
 ghost use mathlib.Core.List.{List, []};
 ghost use Prim.Native.Nat.{ℕ, _+_, _≤_, _<_, _^_, min};
 ghost use lib.ListN.{length, getD, take, replicate};
-ghost use Rattle.wire.specs.Writer.{stateOf, puts};
+ghost use Rattle.wire.specs.Writer.{stateOf};
 ghost use Rattle.pack.specs.Names.{eqName};
 ghost use Rattle.pack.specs.Write.{lookup};
 ghost use Rattle.pack.specs.Table.{tableRoom, tabled};

@@ -8,7 +8,7 @@ use mathlib.Core.Bool.{Bool, true, false, cond}
 use mathlib.Core.Path.{_≡_, refl, sym, ap, _∙_}
 use mathlib.Core.List.{List, [], _∷_, _++_, append-nil, append-assoc}
 use lib.ListN.{length, take, drop, set, getD, length-set, drop-of-length-le, length-drop, length-append}
-use lib.Seq.{take-suc-set, length-take-le, take-all, drop-cons, drop-length, drop-drop, take-length, append-snoc, paste, paste-suc, take-append-seam}
+use lib.Seq.{take-suc-set, length-take-le, take-all, drop-length, drop-drop, take-length, append-snoc, paste, paste-suc, take-append-seam}
 use lib.Dec.{ltb, leb}
 use borrow.Author.Tests.{lt-ltb, le-ltb, le-leb, lt-leb, ltb-true, ltb-false}
 use Rattle.wire.specs.declared.writer.Writer.{Writer}

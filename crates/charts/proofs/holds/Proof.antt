@@ -3,8 +3,6 @@ use borrow.Author.Needs.{needs}
 use lib.ListN.{length}
 use Rattle.charts.proofs.holds.Statement.{statement}
 use Rattle.charts.proofs.holds.Tie as tie
-use Rattle.charts.proofs.holds.Reads as reads
-use Rattle.charts.proofs.holds.Lts as lts
 
 abbrev Inv-loop : tie.InvT-loop
 Inv-loop buffer begins i₀ i = i ≤ length buffer

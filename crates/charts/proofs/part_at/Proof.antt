@@ -4,9 +4,6 @@ use Rattle.charts.proofs.Lengths.{read-on}
 use borrow.Author.Needs.{needs}
 use Rattle.charts.proofs.part_at.Statement.{statement}
 use Rattle.charts.proofs.part_at.Tie as tie
-use Rattle.charts.proofs.part_at.Reads as reads
-use Rattle.charts.proofs.part_at.Lts as lts
-use Rattle.wire.proofs.number.read_u32.Reads as read-u32-reads
 
 read-u32-requires : tie.Need-read-u32-requires
 read-u32-requires c κs = search needs

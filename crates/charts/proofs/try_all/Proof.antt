@@ -4,11 +4,6 @@ use borrow.Author.Needs.{needs}
 use lib.ListN.{length}
 use Rattle.charts.proofs.try_all.Statement.{statement}
 use Rattle.charts.proofs.try_all.Tie as tie
-use Rattle.charts.proofs.try_all.Reads as reads
-use Rattle.charts.proofs.try_all.Lts as lts
-use Rattle.charts.proofs.try_chart.Reads as try-chart-reads
-use Rattle.io.proofs.print_decimal.Reads as print-decimal-reads
-use Rattle.io.proofs.write_all.Reads as write-all-reads
 
 abbrev Inv-loop : tie.InvT-loop
 Inv-loop s tried₀ different₀ at₀ t6 t7 tried different at = (at ≤ length s) × (tried ≤ at) × (different ≤ tried)

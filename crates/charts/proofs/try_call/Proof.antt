@@ -2,11 +2,6 @@ use Rattle.charts.proofs.Lengths.{answer-on}
 use borrow.Author.Needs.{needs}
 use Rattle.charts.proofs.try_call.Statement.{statement}
 use Rattle.charts.proofs.try_call.Tie as tie
-use Rattle.charts.proofs.try_call.Reads as reads
-use Rattle.charts.proofs.try_call.Lts as lts
-use Rattle.charts.proofs.agrees.Reads as agrees-reads
-use Rattle.charts.proofs.part_at.Reads as part-at-reads
-use Rattle.machines.proofs.rows.between.Reads as between-reads
 
 part-at-requires : tie.Need-part-at-requires
 part-at-requires c κs = search needs

@@ -2,12 +2,6 @@ use Rattle.charts.proofs.Lengths.{chart-on}
 use borrow.Author.Needs.{needs}
 use Rattle.charts.proofs.try_chart.Statement.{statement}
 use Rattle.charts.proofs.try_chart.Tie as tie
-use Rattle.charts.proofs.try_chart.Reads as reads
-use Rattle.charts.proofs.try_chart.Lts as lts
-use Rattle.charts.proofs.part_at.Reads as part-at-reads
-use Rattle.charts.proofs.try_call.Reads as try-call-reads
-use Rattle.io.proofs.write_all.Reads as write-all-reads
-use Rattle.machines.proofs.rows.between.Reads as between-reads
 
 part-at-requires : tie.Need-part-at-requires
 part-at-requires c κs = search needs

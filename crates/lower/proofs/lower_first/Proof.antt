@@ -5,11 +5,6 @@ use borrow.Author.Needs.{needs}
 use Rattle.lower.proofs.Within.{within}
 use Rattle.lower.proofs.lower_first.Statement.{statement}
 use Rattle.lower.proofs.lower_first.Tie as tie
-use Rattle.lower.proofs.lower_first.Reads as reads
-use Rattle.lower.proofs.lower_first.Lts as lts
-use Rattle.lower.proofs.lower_second.Reads as lower-second-reads
-use Rattle.lower.proofs.print_line.Reads as print-line-reads
-use Rattle.machines.proofs.call.lower_state_machines.Reads as lower-state-machines-reads
 
 slice-aggregate-lower-state-machines : tie.Need-slice-aggregate-lower-state-machines
 slice-aggregate-lower-state-machines c = search needs

@@ -4,12 +4,6 @@ use Rattle.wire.proofs.Steps.{found}
 use borrow.Author.Needs.{needs}
 use Rattle.replay.proofs.replay_one.Statement.{statement}
 use Rattle.replay.proofs.replay_one.Tie as tie
-use Rattle.replay.proofs.replay_one.Reads as reads
-use Rattle.replay.proofs.replay_one.Lts as lts
-use Rattle.pack.proofs.check.ol_pack_check.Reads as ol-pack-check-reads
-use Rattle.replay.proofs.agrees.Reads as agrees-reads
-use Rattle.replay.proofs.broken.Reads as broken-reads
-use Rattle.wire.proofs.number.read_u32.Reads as read-u32-reads
 
 read-u32-requires : tie.Need-read-u32-requires
 read-u32-requires c κs = search needs

@@ -16,9 +16,6 @@ use Rattle.activations.proofs.Bringings.{Ahead, Written, ahead-next, ah
 use Rattle.activations.proofs.bringing.put_brought_locals.Statement.{statement}
 use Rattle.activations.proofs.bringing.put_brought_locals.Tie as tie
 use Rattle.activations.proofs.bringing.put_brought_locals.Reads as reads
-use Rattle.activations.proofs.bringing.put_brought_locals.Lts as lts
-use Rattle.activations.proofs.bringing.put_row_locals.Reads as put-row-locals-reads
-use Rattle.machines.proofs.rows.left.Reads as left-reads
 
 abbrev Inv-loop : tie.InvT-loop
 Inv-loop old s b spots acts count k env₀ outs₀ held₀ reads₀ seen₀ later₀ out₀ made₀ v₀ i₀ n₀ env outs held reads seen later out made v i n = Ahead count i n (v .full) × (length env ≡ length env₀) × (length outs ≡ length outs₀) × (length held ≡ length held₀) × (length reads ≡ length reads₀) × (length seen ≡ length seen₀) × (length later ≡ length later₀) × (length out ≡ length out₀) × (length made ≡ length made₀) × ((ns : List Name) (es : List Enum) (N : List Node) (As : List Activation) (m : Node) (g : length As ≤ 6656) (D : Drawn ns s es N As acts) (M : AllMade es N As k m) → Basis ns es old s spots b → length As ≡ count → Types ns s m later₀ → Written ns s old es N As g k m acts D M portsOf portItems i later (stateOf out₀ made₀ v₀) (stateOf out made v))

@@ -5,14 +5,6 @@ use Rattle.activations.proofs.Bringings.{row-equations}
 use borrow.Author.Needs.{needs}
 use Rattle.activations.proofs.bringing.put_row_equations.Statement.{statement}
 use Rattle.activations.proofs.bringing.put_row_equations.Tie as tie
-use Rattle.activations.proofs.bringing.put_row_equations.Reads as reads
-use Rattle.activations.proofs.bringing.put_row_equations.Lts as lts
-use Rattle.activations.proofs.begin.begin.Reads as begin-reads
-use Rattle.activations.proofs.equations.put_act_equations.Reads as put-act-equations-reads
-use Rattle.activations.proofs.acts.act_node.Reads as act-node-reads
-use Rattle.activations.proofs.acts.act_of.Reads as act-of-reads
-use Rattle.activations.proofs.judge.leave_locals.Reads as leave-locals-reads
-use Rattle.machines.proofs.rows.pack_name.Reads as pack-name-reads
 
 -- src/bringing.rt:90:9
 act-node-requires : tie.Need-act-node-requires

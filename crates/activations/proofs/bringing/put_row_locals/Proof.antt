@@ -4,13 +4,6 @@ use Rattle.activations.proofs.Bringings.{row-locals}
 use borrow.Author.Needs.{needs}
 use Rattle.activations.proofs.bringing.put_row_locals.Statement.{statement}
 use Rattle.activations.proofs.bringing.put_row_locals.Tie as tie
-use Rattle.activations.proofs.bringing.put_row_locals.Reads as reads
-use Rattle.activations.proofs.bringing.put_row_locals.Lts as lts
-use Rattle.activations.proofs.begin.begin.Reads as begin-reads
-use Rattle.activations.proofs.scope_locals.put_act_locals.Reads as put-act-locals-reads
-use Rattle.activations.proofs.acts.act_node.Reads as act-node-reads
-use Rattle.activations.proofs.acts.act_of.Reads as act-of-reads
-use Rattle.machines.proofs.rows.pack_name.Reads as pack-name-reads
 
 -- src/bringing.rt:53:9
 act-node-requires : tie.Need-act-node-requires

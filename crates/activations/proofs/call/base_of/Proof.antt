@@ -2,10 +2,6 @@ use Rattle.activations.proofs.Answered.{base-is}
 use borrow.Author.Needs.{needs}
 use Rattle.activations.proofs.call.base_of.Statement.{statement}
 use Rattle.activations.proofs.call.base_of.Tie as tie
-use Rattle.activations.proofs.call.base_of.Reads as reads
-use Rattle.activations.proofs.call.base_of.Lts as lts
-use Rattle.activations.proofs.base.lookup.Reads as lookup-reads
-use Rattle.activations.proofs.base.some_made.Reads as some-made-reads
 
 -- src/call.rt:35:28
 slice-aggregate-lookup : tie.Need-slice-aggregate-lookup

@@ -5,16 +5,6 @@ use Rattle.activations.proofs.Answered.{acts-low, answers-reported, ans
 use borrow.Author.Needs.{needs}
 use Rattle.activations.proofs.call.lower_opened.Statement.{statement}
 use Rattle.activations.proofs.call.lower_opened.Tie as tie
-use Rattle.activations.proofs.call.lower_opened.Reads as reads
-use Rattle.activations.proofs.call.lower_opened.Lts as lts
-use Rattle.activations.proofs.call.base_of.Reads as base-of-reads
-use Rattle.activations.proofs.call.write_all.Reads as write-all-reads
-use Rattle.activations.proofs.judging.judge_nodes.Reads as judge-nodes-reads
-use Rattle.activations.proofs.placing.place_acts.Reads as place-acts-reads
-use Rattle.activations.proofs.placing.place_nodes.Reads as place-nodes-reads
-use Rattle.activations.proofs.report.answer_report.Reads as answer-report-reads
-use Rattle.activations.proofs.report.refused_count.Reads as refused-count-reads
-use Rattle.machines.proofs.table.place_names.Reads as place-names-reads
 
 -- src/call.rt:97:5
 place-names-requires : tie.Need-place-names-requires

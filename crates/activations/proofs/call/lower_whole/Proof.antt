@@ -6,9 +6,6 @@ use Rattle.activations.proofs.Answered.{blank, scratch}
 use borrow.Author.Needs.{needs}
 use Rattle.activations.proofs.call.lower_whole.Statement.{statement}
 use Rattle.activations.proofs.call.lower_whole.Tie as tie
-use Rattle.activations.proofs.call.lower_whole.Reads as reads
-use Rattle.activations.proofs.call.lower_whole.Lts as lts
-use Rattle.activations.proofs.call.lower_opened.Reads as lower-opened-reads
 
 between-requires : tie.Need-between-requires
 between-requires c κs = search needs

@@ -6,10 +6,6 @@ use Rattle.activations.proofs.OutcomeFits.{gives-fits}
 use borrow.Author.Needs.{needs}
 use Rattle.activations.proofs.call.write_all.Statement.{statement}
 use Rattle.activations.proofs.call.write_all.Tie as tie
-use Rattle.activations.proofs.call.write_all.Reads as reads
-use Rattle.activations.proofs.call.write_all.Lts as lts
-use Rattle.activations.proofs.sections.put_sections.Reads as put-sections-reads
-use Rattle.pack.proofs.finish.finish.Reads as finish-reads
 
 -- src/call.rt:70:86
 slice-aggregate-put-sections : tie.Need-slice-aggregate-put-sections

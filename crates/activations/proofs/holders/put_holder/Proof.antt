@@ -4,7 +4,6 @@ use Rattle.activations.proofs.HolderLaws.{holder-written}
 use borrow.Author.Needs.{needs}
 use Rattle.activations.proofs.holders.put_holder.Statement.{statement}
 use Rattle.activations.proofs.holders.put_holder.Tie as tie
-use Rattle.wire.proofs.writer.put_u16.Reads as put-u16-reads
 
 pack-name-requires : tie.Need-pack-name-requires
 pack-name-requires c κs = search needs

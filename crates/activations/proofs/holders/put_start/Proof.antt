@@ -3,7 +3,6 @@ use Rattle.activations.proofs.HolderLaws.{start-literal, start-name, st
 use borrow.Author.Needs.{needs}
 use Rattle.activations.proofs.holders.put_start.Statement.{statement}
 use Rattle.activations.proofs.holders.put_start.Tie as tie
-use Rattle.wire.proofs.writer.put_u16.Reads as put-u16-reads
 
 enum-told : tie.Need-enum-told
 enum-told c = search needs

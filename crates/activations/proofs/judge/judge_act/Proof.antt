@@ -4,15 +4,6 @@ use Rattle.activations.proofs.ActJudged.{judge-checked, judge-leftless,
 use borrow.Author.Needs.{needs}
 use Rattle.activations.proofs.judge.judge_act.Statement.{statement}
 use Rattle.activations.proofs.judge.judge_act.Tie as tie
-use Rattle.activations.proofs.judge.judge_act.Reads as reads
-use Rattle.activations.proofs.judge.judge_act.Lts as lts
-use Rattle.activations.proofs.begin.begin.Reads as begin-reads
-use Rattle.activations.proofs.checks.checks.Reads as checks-reads
-use Rattle.activations.proofs.checks.leftless.Reads as leftless-reads
-use Rattle.activations.proofs.judge.leave_locals.Reads as leave-locals-reads
-use Rattle.activations.proofs.judge.refuse.Reads as refuse-reads
-use Rattle.activations.proofs.refused.refusing.Reads as refusing-reads
-use Rattle.machines.proofs.rows.pack_name.Reads as pack-name-reads
 
 -- src/judge.rt:99:9
 checks-requires : tie.Need-checks-requires

@@ -3,11 +3,6 @@ use Rattle.activations.proofs.JudgeLaws.{left-quiet}
 use borrow.Author.Needs.{needs}
 use Rattle.activations.proofs.judge.leave_locals.Statement.{statement}
 use Rattle.activations.proofs.judge.leave_locals.Tie as tie
-use Rattle.activations.proofs.judge.leave_locals.Reads as reads
-use Rattle.activations.proofs.judge.leave_locals.Lts as lts
-use Rattle.activations.proofs.scope_locals.put_act_locals.Reads as put-act-locals-reads
-use Rattle.wire.proofs.writer.Writer.start.Reads as start-reads
-use Rattle.wire.proofs.writer.stopped.Reads as stopped-reads
 
 -- src/judge.rt:73:20
 start-requires : tie.Need-start-requires

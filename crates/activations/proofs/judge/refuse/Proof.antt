@@ -3,10 +3,6 @@ use Rattle.activations.proofs.JudgeLaws.{refuse-is}
 use borrow.Author.Needs.{needs}
 use Rattle.activations.proofs.judge.refuse.Statement.{statement}
 use Rattle.activations.proofs.judge.refuse.Tie as tie
-use Rattle.activations.proofs.judge.refuse.Reads as reads
-use Rattle.activations.proofs.judge.refuse.Lts as lts
-use Rattle.activations.proofs.judge.within.Reads as within-reads
-use Rattle.activations.proofs.refused.refusing.Reads as refusing-reads
 
 -- src/judge.rt:43:9
 within-requires : tie.Need-within-requires

@@ -2,8 +2,6 @@ use Rattle.activations.proofs.JudgeLaws.{within-over, within-under}
 use borrow.Author.Needs.{needs}
 use Rattle.activations.proofs.judge.within.Statement.{statement}
 use Rattle.activations.proofs.judge.within.Tie as tie
-use Rattle.activations.proofs.judge.within.Reads as reads
-use Rattle.activations.proofs.judge.within.Lts as lts
 
 -- src/judge.rt:36:20
 add-result : tie.Need-add-result

@@ -12,8 +12,6 @@ use Rattle.activations.proofs.Begun.{scratch-kept}
 use Rattle.activations.proofs.judging.judge_node.Statement.{statement}
 use Rattle.activations.proofs.judging.judge_node.Tie as tie
 use Rattle.activations.proofs.judging.judge_node.Reads as reads
-use Rattle.activations.proofs.judging.judge_node.Lts as lts
-use Rattle.activations.proofs.judging.judge_row.Reads as judge-row-reads
 
 abbrev Inv-loop : tie.InvT-loop
 Inv-loop old s b spots k env₀ outs₀ held₀ reads₀ seen₀ later₀ acts₀ n i₀ env outs held reads seen later acts i = (i ≤ n) × (length env ≡ length env₀) × (length outs ≡ length outs₀) × (length held ≡ length held₀) × (length reads ≡ length reads₀) × (length seen ≡ length seen₀) × (length later ≡ length later₀) × (length acts ≡ length acts₀) × ((ns : List Name) (es : List Enum) (N : List Node) (As : List Activation) (m : Node) (f : length As ≤ 6656) (D : Drawn ns s es N As acts₀) → Basis ns es old s spots b → length As ≡ n → Types ns s m later₀ → Going ns s es N As f k m acts₀ D i later acts)

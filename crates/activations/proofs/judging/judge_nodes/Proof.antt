@@ -14,10 +14,6 @@ use Rattle.activations.proofs.NodesJudged.{Passing, node-types, passing
 use Rattle.activations.proofs.judging.judge_nodes.Statement.{statement}
 use Rattle.activations.proofs.judging.judge_nodes.Tie as tie
 use Rattle.activations.proofs.judging.judge_nodes.Reads as reads
-use Rattle.activations.proofs.judging.judge_nodes.Lts as lts
-use Rattle.activations.proofs.types.note_variables.Reads as note-variables-reads
-use Rattle.activations.proofs.judging.judge_node.Reads as judge-node-reads
-use Rattle.machines.proofs.cells.cell.Reads as cell-reads
 
 abbrev Inv-loop : tie.InvT-loop
 Inv-loop old s b spots nodes m env₀ outs₀ held₀ reads₀ seen₀ later₀ acts₀ n k₀ env outs held reads seen later acts k = (k ≤ m) × (length env ≡ length env₀) × (length outs ≡ length outs₀) × (length held ≡ length held₀) × (length reads ≡ length reads₀) × (length seen ≡ length seen₀) × (length later ≡ length later₀) × (length acts ≡ length acts₀) × ((ns : List Name) (es : List Enum) (N : List Node) (As : List Activation) (f : length As ≤ 6656) (D : Drawn ns s es N As acts₀) → Basis ns es old s spots b → NodesFrom ns s nodes 0 N → length N ≡ m → length As ≡ n → Passing ns s es N As f acts₀ D k acts)

@@ -3,12 +3,6 @@ use native.Mathlib.Omega.{arith}
 use borrow.Author.Needs.{needs}
 use Rattle.activations.proofs.judging.judge_row.Statement.{statement}
 use Rattle.activations.proofs.judging.judge_row.Tie as tie
-use Rattle.activations.proofs.judging.judge_row.Reads as reads
-use Rattle.activations.proofs.judging.judge_row.Lts as lts
-use Rattle.activations.proofs.acts.act_node.Reads as act-node-reads
-use Rattle.activations.proofs.acts.act_of.Reads as act-of-reads
-use Rattle.activations.proofs.acts.put_judged.Reads as put-judged-reads
-use Rattle.activations.proofs.judge.judge_act.Reads as judge-act-reads
 
 -- src/judging.rt:41:9
 act-node-requires : tie.Need-act-node-requires

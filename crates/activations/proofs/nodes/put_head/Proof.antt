@@ -7,17 +7,6 @@ use Rattle.activations.proofs.NodesWritten.{head-written}
 use borrow.Author.Needs.{needs}
 use Rattle.activations.proofs.nodes.put_head.Statement.{statement}
 use Rattle.activations.proofs.nodes.put_head.Tie as tie
-use Rattle.activations.proofs.nodes.put_head.Reads as reads
-use Rattle.activations.proofs.nodes.put_head.Lts as lts
-use Rattle.activations.proofs.types.note_variables.Reads as note-variables-reads
-use Rattle.activations.proofs.bringing.put_brought_locals.Reads as put-brought-locals-reads
-use Rattle.activations.proofs.counts.brought_locals.Reads as brought-locals-reads
-use Rattle.machines.proofs.bringing.after_ports.Reads as after-ports-reads
-use Rattle.machines.proofs.nodes.to_node_locals.Reads as to-node-locals-reads
-use Rattle.machines.proofs.rows.between.Reads as between-reads
-use Rattle.machines.proofs.sure.number.Reads as number-reads
-use Rattle.wire.proofs.writer.put_bytes.Reads as put-bytes-reads
-use Rattle.wire.proofs.writer.put_u16.Reads as put-u16-reads
 
 -- src/joined.rt:57:9
 to-node-locals-requires : tie.Need-to-node-locals-requires

@@ -4,10 +4,6 @@ use Rattle.activations.proofs.NodesWritten.{node-is}
 use borrow.Author.Needs.{needs}
 use Rattle.activations.proofs.nodes.put_node.Statement.{statement}
 use Rattle.activations.proofs.nodes.put_node.Tie as tie
-use Rattle.activations.proofs.nodes.put_node.Reads as reads
-use Rattle.activations.proofs.nodes.put_node.Lts as lts
-use Rattle.activations.proofs.nodes.put_head.Reads as put-head-reads
-use Rattle.activations.proofs.nodes.put_tail.Reads as put-tail-reads
 
 -- src/joined.rt:128:9
 put-head-requires : tie.Need-put-head-requires

@@ -7,17 +7,6 @@ use Rattle.activations.proofs.NodesWritten.{tail-written}
 use borrow.Author.Needs.{needs}
 use Rattle.activations.proofs.nodes.put_tail.Statement.{statement}
 use Rattle.activations.proofs.nodes.put_tail.Tie as tie
-use Rattle.activations.proofs.nodes.put_tail.Reads as reads
-use Rattle.activations.proofs.nodes.put_tail.Lts as lts
-use Rattle.activations.proofs.types.note_variables.Reads as note-variables-reads
-use Rattle.activations.proofs.bringing.put_brought_equations.Reads as put-brought-equations-reads
-use Rattle.activations.proofs.counts.brought_equations.Reads as brought-equations-reads
-use Rattle.machines.proofs.nodes.to_node_equations.Reads as to-node-equations-reads
-use Rattle.machines.proofs.rows.between.Reads as between-reads
-use Rattle.machines.proofs.sure.after_equations.Reads as after-equations-reads
-use Rattle.machines.proofs.sure.number.Reads as number-reads
-use Rattle.wire.proofs.writer.put_bytes.Reads as put-bytes-reads
-use Rattle.wire.proofs.writer.put_u16.Reads as put-u16-reads
 
 -- src/joined.rt:93:9
 to-node-equations-requires : tie.Need-to-node-equations-requires

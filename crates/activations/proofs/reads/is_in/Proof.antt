@@ -7,7 +7,6 @@ use Rattle.machines.specs.Marks.{among}
 use Rattle.machines.proofs.MarkLaws.{among-end, among-here, among-past}
 use Rattle.activations.proofs.reads.is_in.Statement.{statement}
 use Rattle.activations.proofs.reads.is_in.Tie as tie
-use Rattle.activations.proofs.reads.is_in.Reads as reads
 
 abbrev Inv-loop : tie.InvT-loop
 Inv-loop ids x i₀ i = (i ≤ length ids) × (among x (drop i ids) ≡ among x ids)

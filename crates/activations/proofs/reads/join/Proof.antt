@@ -7,7 +7,6 @@ use Rattle.activations.specs.ReadsAt.{joinT}
 use Rattle.activations.proofs.ReadLaws.{join-end, join-more}
 use Rattle.activations.proofs.reads.join.Statement.{statement}
 use Rattle.activations.proofs.reads.join.Tie as tie
-use Rattle.activations.proofs.reads.join.Reads as reads
 
 abbrev Inv-loop : tie.InvT-loop
 Inv-loop ids t₀ n m₀ i₀ t m i = (length {A = ℕ} t ≡ length {A = ℕ} t₀) × (i ≤ length ids) × (m ≤ 21848) × (joinT (drop i ids) (take m t) ≡ joinT ids (take n t₀))

@@ -2,7 +2,6 @@ use Rattle.activations.proofs.ReadLaws.{note-known, note-none}
 use borrow.Author.Needs.{needs}
 use Rattle.activations.proofs.reads.note.Statement.{statement}
 use Rattle.activations.proofs.reads.note.Tie as tie
-use Rattle.activations.proofs.reads.note.Reads as reads
 
 typed-requires : tie.Need-typed-requires
 typed-requires c κs = search needs

@@ -4,7 +4,6 @@ use Rattle.activations.proofs.ReadLaws.{push-full, push-room, push-ther
 use borrow.Author.Needs.{needs}
 use Rattle.activations.proofs.reads.push.Statement.{statement}
 use Rattle.activations.proofs.reads.push.Tie as tie
-use Rattle.activations.proofs.reads.push.Reads as reads
 
 slice-reshare-prefix-is-in : tie.Need-slice-reshare-prefix-is-in
 slice-reshare-prefix-is-in c = search needs

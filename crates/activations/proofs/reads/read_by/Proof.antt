@@ -2,7 +2,6 @@ use Rattle.activations.proofs.ReadLaws.{by-clock, by-last, by-none, by-
 use borrow.Author.Needs.{needs}
 use Rattle.activations.proofs.reads.read_by.Statement.{statement}
 use Rattle.activations.proofs.reads.read_by.Tie as tie
-use Rattle.activations.proofs.reads.read_by.Reads as reads
 
 enum-known-m : tie.Need-enum-known-m
 enum-known-m c = search needs

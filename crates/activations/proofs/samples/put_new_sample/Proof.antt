@@ -2,7 +2,6 @@ use Rattle.activations.proofs.ScopeLaws.{full-renders, new-put, new-see
 use borrow.Author.Needs.{needs}
 use Rattle.activations.proofs.samples.put_new_sample.Statement.{statement}
 use Rattle.activations.proofs.samples.put_new_sample.Tie as tie
-use Rattle.activations.proofs.samples.put_new_sample.Reads as reads
 
 returns : tie.Need-returns
 returns c = full-renders _ _ _ _ _ (c .if1 .taken)

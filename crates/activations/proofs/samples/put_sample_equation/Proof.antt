@@ -3,7 +3,6 @@ use Rattle.activations.proofs.ScopeLaws.{sample-written}
 use borrow.Author.Needs.{needs}
 use Rattle.activations.proofs.samples.put_sample_equation.Statement.{statement}
 use Rattle.activations.proofs.samples.put_sample_equation.Tie as tie
-use Rattle.wire.proofs.writer.put_u16.Reads as put-u16-reads
 
 put-u16-requires : tie.Need-put-u16-requires
 put-u16-requires c κs = search needs

@@ -2,7 +2,6 @@ use Rattle.activations.proofs.ScopeLaws.{value-written}
 use borrow.Author.Needs.{needs}
 use Rattle.activations.proofs.scopes.put_left_value.Statement.{statement}
 use Rattle.activations.proofs.scopes.put_left_value.Tie as tie
-use Rattle.wire.proofs.writer.put_u16.Reads as put-u16-reads
 
 put-u16-requires : tie.Need-put-u16-requires
 put-u16-requires c κs = search needs

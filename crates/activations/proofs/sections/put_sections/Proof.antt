@@ -6,15 +6,6 @@ use Rattle.activations.proofs.SectionsWritten.{sections-are}
 use borrow.Author.Needs.{needs}
 use Rattle.activations.proofs.sections.put_sections.Statement.{statement}
 use Rattle.activations.proofs.sections.put_sections.Tie as tie
-use Rattle.activations.proofs.sections.put_sections.Reads as reads
-use Rattle.activations.proofs.sections.put_sections.Lts as lts
-use Rattle.activations.proofs.nodes.put_nodes.Reads as put-nodes-reads
-use Rattle.activations.proofs.origins.put_origins.Reads as put-origins-reads
-use Rattle.machines.proofs.rows.between.Reads as between-reads
-use Rattle.machines.proofs.sure.number.Reads as number-reads
-use Rattle.pack.proofs.intern.start.Reads as start-reads
-use Rattle.wire.proofs.writer.put_bytes.Reads as put-bytes-reads
-use Rattle.wire.proofs.writer.put_u16.Reads as put-u16-reads
 
 -- src/sections.rt:48:9
 number-requires : tie.Need-number-requires

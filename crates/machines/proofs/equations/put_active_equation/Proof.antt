@@ -4,10 +4,6 @@ use Rattle.machines.proofs.TermLaws.{active-equation}
 use borrow.Author.Needs.{needs}
 use Rattle.machines.proofs.equations.put_active_equation.Statement.{statement}
 use Rattle.machines.proofs.equations.put_active_equation.Tie as tie
-use Rattle.machines.proofs.equations.put_active_equation.Reads as reads
-use Rattle.machines.proofs.equations.put_active_equation.Lts as lts
-use Rattle.machines.proofs.equations.put_left.Reads as put-left-reads
-use Rattle.machines.proofs.terms.put_active_in.Reads as put-active-in-reads
 
 put-left-requires : tie.Need-put-left-requires
 put-left-requires c κs = search needs

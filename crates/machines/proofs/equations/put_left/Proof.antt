@@ -4,10 +4,6 @@ use Rattle.machines.proofs.TermLaws.{left-term}
 use borrow.Author.Needs.{needs}
 use Rattle.machines.proofs.equations.put_left.Statement.{statement}
 use Rattle.machines.proofs.equations.put_left.Tie as tie
-use Rattle.machines.proofs.equations.put_left.Reads as reads
-use Rattle.machines.proofs.equations.put_left.Lts as lts
-use Rattle.machines.proofs.made.put_var.Reads as put-var-reads
-use Rattle.wire.proofs.writer.put_u16.Reads as put-u16-reads
 
 put-u16-requires : tie.Need-put-u16-requires
 put-u16-requires c κs = search needs

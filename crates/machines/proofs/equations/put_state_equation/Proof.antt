@@ -4,10 +4,6 @@ use Rattle.machines.proofs.TermLaws.{state-equation}
 use borrow.Author.Needs.{needs}
 use Rattle.machines.proofs.equations.put_state_equation.Statement.{statement}
 use Rattle.machines.proofs.equations.put_state_equation.Tie as tie
-use Rattle.machines.proofs.equations.put_state_equation.Reads as reads
-use Rattle.machines.proofs.equations.put_state_equation.Lts as lts
-use Rattle.machines.proofs.equations.put_left.Reads as put-left-reads
-use Rattle.machines.proofs.terms.put_state_rhs.Reads as put-state-rhs-reads
 
 put-left-requires : tie.Need-put-left-requires
 put-left-requires c κs = search needs

@@ -1,5 +1,3 @@
-use Prim.Native.Nat.{_/_}
-use native.Mathlib.Omega.{arith}
 use borrow.Author.Needs.{needs}
 use Rattle.pack.proofs.TableLaws.{further-on, further-own}
 use Rattle.pack.proofs.table.further.Statement.{statement}
