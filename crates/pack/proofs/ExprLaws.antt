@@ -1,21 +1,36 @@
 -- Laws of expressions: the fields of each tag as the code goes through them, that heads move forward, and how many expressions stand under one.
-use Prim.Native.Nat.{ℕ, _+_, _≤_, _<_, zero, suc}
+use Prim.Native.Nat.{ℕ, _+_, _*_, _-_, _≤_, _<_, zero, suc}
 use native.Mathlib.Omega.{arith}
+use mathlib.Core.Bool.{Bool, true, false}
 use mathlib.Core.List.{List, [], _∷_}
 use mathlib.Core.Path.{_≡_, refl, sym, ap, _∙_}
-use lib.ListN.{length, getD}
+use lib.ListN.{length, getD, List·getD-eq-default}
 use lib.Dec.{eqb}
 use borrow.Author.Tests.{ne-eqb, ltb-true}
+use types.Run.{OneOf}
+use denote.Enum.Declared.{tagOf}
+use Rattle.wire.proofs.answer.Read as Read-enum
+use Rattle.wire.specs.declared.answer.Skipped.{Skipped}
+use Rattle.wire.specs.declared.answer.Read.{Read}
 use Rattle.wire.specs.declared.answer.Read.the-variants as rd
 use Rattle.wire.specs.Answer.{Answer, below, bind, byte, guard, illegal, index, many, mapA, u16, u64, value}
-use Rattle.wire.specs.Code.{nextR, nextS, readOf, skip, thenIs}
-use Rattle.wire.proofs.Codes.{read-map-bind, read-map-map, skip-bindS, skip-map, thenIs-read}
+use Rattle.wire.specs.Code.{becomesOf, nextR, nextS, pastOf, readOf, skip, thenIs}
+use Rattle.wire.proofs.Codes.{becomes-read, read-map-bind, read-map-id, read-map-map, skip-bindS, skip-map, thenIs-read}
 use Rattle.wire.proofs.Answers.{Fwd, bind-value, byte-ends, byte-value, fwd-below, fwd-bind, fwd-index, fwd-many, fwd-map, fwd-u16, fwd-u64, fwd-value, guard-value, many-length, map-map, map-value, u16-value, fwd-cond, fwd-byte}
-use Rattle.wire.proofs.Preorders.{Moves, pending, skip-trees}
-use Rattle.pack.specs.Forms.{ExprHead, callFields, exprArity, exprAt, exprFields, exprHead, exprRows, flagOf, iterate, iterateFields, literal, literalOf, struct, structFields, whenFields}
+use Rattle.wire.proofs.Preorders.{Moves, pending, pending-none, skip-trees}
+use Rattle.wire.proofs.Steps.{never-is, pending-stopped, pending-went}
+use Rattle.pack.specs.Forms.{ExprHead, call, callFields, exprArity, exprAt, exprFields, exprHead, exprRows, flagOf, iterate, iterateFields, literal, literalOf, sample, struct, structFields, whenFields}
 use Rattle.pack.proofs.TypeLaws.{fwd-type}
 use Rattle.pack.specs.Syntax.{lBool, lChar, lFloat, lInt}
-use Rattle.pack.specs.Heads.{exprMore}
+use Rattle.pack.specs.Heads.{exprLeft, exprMore}
+
+pub call-read : (names : ℕ) (s : List ℕ) (at : ℕ) → readOf (mapA exprArity (callFields names s at)) ≡ nextR (readOf (index names s at)) (λ i p. readOf (u16 s p))
+unfolding callFields exprArity
+call-read names s at = read-map-bind exprArity (index names s at) _ _ (λ i p. read-map-id exprArity (call i) (u16 s p) (λ n. refl))
+
+pub when-read : (names : ℕ) (s : List ℕ) (at : ℕ) → readOf (mapA exprArity (whenFields names s at)) ≡ nextR (readOf (index names s at)) (λ i p. becomesOf (readOf (below 2 s p)) 1)
+unfolding whenFields exprArity
+when-read names s at = read-map-bind exprArity (index names s at) _ _ (λ i p. sym (becomes-read (sample i) exprArity 1 (below 2 s p) (λ b. refl)))
 
 pub struct-read : (names : ℕ) (s : List ℕ) (at : ℕ) → readOf (mapA exprArity (structFields names s at)) ≡ nextR (readOf (index names s at)) (λ i p. nextR (readOf (u16 s p)) (λ n q. thenIs (skip (many (index names s) n q)) n))
 unfolding structFields exprArity
@@ -32,6 +47,19 @@ iterate-read names s at =
     read-map-bind exprArity (index names s p) _ _ (λ i q.
     read-map-bind exprArity (below 2 s q) _ _ (λ b o.
     read-map-map exprArity (iterate k i b) (u16 s o))))
+
+-- the row of a tag
+pub row : (names tag k : ℕ) (s : List ℕ) (at : ℕ) (r : Read) → tag ≡ k → r ≡ readOf (mapA exprArity (getD (exprRows names s at) k (illegal at))) → r ≡ readOf (mapA exprArity (exprFields names tag s at))
+unfolding exprFields
+row names tag k s at r e h = rw e h
+
+pub row-none : (names tag : ℕ) (s : List ℕ) (at : ℕ) → 17 ≤ tag → rd.Illegal at ≡ readOf (mapA exprArity (exprFields names tag s at))
+unfolding exprFields exprRows readOf mapA
+row-none names tag s at h = rw (List·getD-eq-default (exprRows names s at) (illegal at) h)
+
+pub exprMore-read : (names : ℕ) (s : List ℕ) (at : ℕ) → readOf (exprMore names s at) ≡ nextR (readOf (below 17 s at)) (λ tag p. readOf (mapA exprArity (exprFields names tag s p)))
+unfolding exprMore exprHead
+exprMore-read names s at = read-map-bind exprArity (below 17 s at) _ _ (λ tag p. refl)
 
 pub literal-skip : (s : List ℕ) (at : ℕ) → skip (literal s at) ≡ nextS (readOf (below 4 s at)) (λ tag p. skip (literalOf tag s p))
 unfolding literal
@@ -264,3 +292,48 @@ module _ (names : ℕ) (s : List ℕ) (bytes : (i : ℕ) → getD s i 0 < 256) w
       let b = bind-value (below 17 s at) _ (a .0) p (a .1) in
       let l : exprArity (a .0) ≤ 65536 = each-at Few (exprRows names s (b .1)) (b .0) (illegal (b .1)) (few-rows (b .1)) (λ x q e. let z : _≡_ {A = ℕ} 0 1 = cc in absurd (omega arith)) (a .0) p (b .3) in
       omega (arith, a .2)
+
+-- the loop over nodes: what is pending from here is what was pending at the start, and where one node is read it is the first
+pub record Going (one : Bool) (names : ℕ) (s : List ℕ) (at n p : ℕ) : Type 0 where
+  pub same : pending (exprMore names) s n p ≡ pending (exprMore names) s 1 at
+  pub few : n ≤ 1 + 65536 * p
+  pub first : one ≡ true → (n ≡ 1) × (p ≡ at)
+
+left-all : (names : ℕ) (s : List ℕ) (at : ℕ) → thenIs (pending (exprMore names) s 1 at) 0 ≡ readOf (exprLeft false names s at)
+unfolding exprLeft
+left-all names s at = ap (λ (x : Skipped). thenIs x 0) (sym (expr-pending names s at)) ∙ thenIs-read _ 0 (exprAt names s at) (λ t q e. refl)
+
+rest-is : (r : Read) → OneOf (1 ∷ 2 ∷ 3 ∷ []) (tagOf Read-enum.the-type r) → r ≡ thenIs (pastOf r) 0
+unfolding thenIs pastOf
+rest-is (rd.Is v q) h = absurd (never-is (rd.Is v q) v q h refl)
+rest-is rd.Early h = refl
+rest-is (rd.Illegal o) h = refl
+rest-is (rd.Deep o) h = refl
+
+module _ (names : ℕ) (s : List ℕ) (at : ℕ) where
+  pub nodes-begin : (one : Bool) → Going one names s at 1 at
+  nodes-begin one = record { same = refl; few = omega arith; first = λ e. (refl, refl) }
+
+  -- one node was read
+  pub nodes-first : (one : Bool) (n p : ℕ) (r : Read) → one ≡ true → Going one names s at n p → r ≡ readOf (exprMore names s p) → r ≡ readOf (exprLeft one names s at)
+  unfolding exprLeft
+  nodes-first one n p r t g e = e ∙ ap (λ (q : ℕ). readOf (exprMore names s q)) (g .first t .1) ∙ ap (λ (b : Bool). readOf (exprLeft b names s at)) (sym t)
+
+  pub nodes-stopped : (one : Bool) (n p : ℕ) (r : Read) → 0 < n → OneOf (1 ∷ 2 ∷ 3 ∷ []) (tagOf Read-enum.the-type r) → Going one names s at n p → r ≡ readOf (exprMore names s p) → r ≡ readOf (exprLeft one names s at)
+  nodes-stopped true n p r l h g e = nodes-first true n p r refl g e
+  nodes-stopped false n p r l h g e = rest-is r h ∙ ap (λ (x : Skipped). thenIs x 0) (pending-stopped (exprMore names) (exprMoves names) s n p r (pastOf r) l h e refl ∙ g .same) ∙ left-all names s at
+
+  pub nodes-went : (one : Bool) (n p m q : ℕ) → ((i : ℕ) → getD s i 0 < 256) → one ≡ false → 0 < n → Going one names s at n p → exprMore names s p ≡ value m q → Going one names s at (n - 1 + m) q
+  nodes-went one n p m q b f l g e =
+      record {
+        same = pending-went (exprMore names) (exprMoves names) s n p m q _ l e (g .same);
+        few = omega (arith, g .few, expr-small names s b p m q e, exprMoves names .on s p m q e);
+        first = λ t. let z : false ≡ true = sym f ∙ t in let i : _≡_ {A = ℕ} 0 1 = cc in absurd (omega arith);
+      }
+
+  pub nodes-done : (one : Bool) (n p : ℕ) → n ≤ 0 → Going one names s at n p → rd.Is 0 p ≡ readOf (exprLeft one names s at)
+  unfolding thenIs
+  nodes-done true n p l g = absurd (omega (arith, g .first refl .0))
+  nodes-done false n p l g =
+      let e : 0 ≡ n = omega arith in
+      ap (λ (x : Skipped). thenIs x 0) (sym (pending-none (exprMore names) (exprMoves names) s p) ∙ ap (λ (k : ℕ). pending (exprMore names) s k p) e ∙ g .same) ∙ left-all names s at

@@ -1,6 +1,8 @@
 -- A node of an expression as the code takes it apart, and the code's steps on it as functions.
 use Prim.Native.Nat.{ℕ}
+use mathlib.Core.Bool.{cond}
 use lib.ListN.{length}
+use lib.Dec.{eqb}
 use Rattle.wire.specs.Answer.{Answer, value, early, illegal, deep}
 use Rattle.wire.specs.declared.answer.Read.{Read}
 use Rattle.wire.specs.declared.answer.Read.the-variants as rd
@@ -37,33 +39,21 @@ decoded early = dc.Early
 decoded (illegal o) = dc.Illegal o
 decoded (deep o) = dc.Deep o
 
--- the code's steps: a node of which only a number was read
-unfoldable pub otherOf : Read → Decoded
-otherOf (rd.Is v q) = dc.Is (nd.Other v) q
-otherOf rd.Early = dc.Early
-otherOf (rd.Illegal o) = dc.Illegal o
-otherOf (rd.Deep o) = dc.Deep o
+-- the code's steps: a node of this tag, with n expressions under it and the name i
+unfoldable pub byTag : ℕ → ℕ → ℕ → Node
+byTag tag n i =
+    cond (eqb tag 1) (nd.Var i)
+    (cond (eqb tag 7) (nd.Call i n)
+    (cond (eqb tag 14) (nd.Clocked i n)
+    (cond (eqb tag 15) (nd.Clocked i n)
+    (nd.Other n))))
 
--- a variable, by the name that was read
-unfoldable pub variableOf : Read → Decoded
-variableOf (rd.Is v q) = dc.Is (nd.Var v) q
-variableOf rd.Early = dc.Early
-variableOf (rd.Illegal o) = dc.Illegal o
-variableOf (rd.Deep o) = dc.Deep o
-
--- a call of a node, by the count that was read
-unfoldable pub calledOf : Read → ℕ → Decoded
-calledOf (rd.Is v q) i = dc.Is (nd.Call i v) q
-calledOf rd.Early i = dc.Early
-calledOf (rd.Illegal o) i = dc.Illegal o
-calledOf (rd.Deep o) i = dc.Deep o
-
--- a node under a clock, by the count that was read
-unfoldable pub clockedOf : Read → ℕ → Decoded
-clockedOf (rd.Is v q) c = dc.Is (nd.Clocked c v) q
-clockedOf rd.Early c = dc.Early
-clockedOf (rd.Illegal o) c = dc.Illegal o
-clockedOf (rd.Deep o) c = dc.Deep o
+-- the same by the number that was read as the first of its fields; where there is none it has no name
+unfoldable pub namedOf : ℕ → ℕ → Read → Node
+namedOf tag n (rd.Is i q) = byTag tag n i
+namedOf tag n rd.Early = nd.Other n
+namedOf tag n (rd.Illegal o) = nd.Other n
+namedOf tag n (rd.Deep o) = nd.Other n
 
 -- how many expressions stand under a node
 unfoldable pub underOf : Node → ℕ
@@ -71,10 +61,3 @@ underOf (nd.Var i) = 0
 underOf (nd.Clocked i n) = n
 underOf (nd.Call i n) = n
 underOf (nd.Other n) = n
-
--- the same of what was decoded
-unfoldable pub moreOf : Decoded → Read
-moreOf (dc.Is d q) = rd.Is (underOf d) q
-moreOf dc.Early = rd.Early
-moreOf (dc.Illegal o) = rd.Illegal o
-moreOf (dc.Deep o) = rd.Deep o

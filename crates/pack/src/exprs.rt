@@ -15,9 +15,9 @@ ghost use Prim.Native.Nat.{_≤_};
 ghost use lib.ListN.{length};
 ghost use Rattle.wire.specs.Answer.{mapA, index, many};
 ghost use Rattle.wire.specs.Code.{readOf, skip};
-ghost use Rattle.pack.specs.Forms.{literal, exprArity, callFields, structFields, whenFields, iterateFields, exprFields, exprHead, exprAt, merge};
-ghost use Rattle.pack.specs.Heads.{exprMore};
-ghost use Rattle.pack.specs.Nodes.{decoded, otherOf, variableOf, calledOf, clockedOf, underOf, moreOf};
+ghost use Rattle.pack.specs.Forms.{literal, exprArity, callFields, structFields, whenFields, iterateFields, exprFields, exprHead, exprAt};
+ghost use Rattle.pack.specs.Heads.{exprMore, exprLeft};
+ghost use Rattle.pack.specs.Nodes.{decoded, namedOf, underOf};
 
 // A node taken apart: the names that a lowering looks at, and how many expressions stand under it.
 pub enum Node {
@@ -35,63 +35,6 @@ pub enum Decoded {
     Deep(usize),
 }
 
-// A node of which only the number of expressions under it matters.
-fn other(r: Read) -> Decoded
-    ensures { λ q. ⌜ q ≡ otherOf r ⌝ }
-{
-    match r {
-        Read::Is { value, next } => Decoded::Is {
-            node: Node::Other(value),
-            next,
-        },
-        Read::Early => Decoded::Early,
-        Read::Illegal(o) => Decoded::Illegal(o),
-        Read::Deep(o) => Decoded::Deep(o),
-    }
-}
-
-// A variable, by its name.
-fn variable(r: Read) -> Decoded
-    ensures { λ q. ⌜ q ≡ variableOf r ⌝ }
-{
-    match r {
-        Read::Is { value, next } => Decoded::Is {
-            node: Node::Var(value),
-            next,
-        },
-        _ => other(r),
-    }
-}
-
-// A call of a node, by its name.
-fn called(r: Read, node: usize) -> Decoded
-    ensures { λ q. ⌜ q ≡ calledOf r node ⌝ }
-{
-    match r {
-        Read::Is { value, next } => Decoded::Is {
-            node: Node::Call { node, under: value },
-            next,
-        },
-        _ => other(r),
-    }
-}
-
-// A node that names its clock.
-fn clocked(r: Read, clock: usize) -> Decoded
-    ensures { λ q. ⌜ q ≡ clockedOf r clock ⌝ }
-{
-    match r {
-        Read::Is { value, next } => Decoded::Is {
-            node: Node::Clocked {
-                clock,
-                under: value,
-            },
-            next,
-        },
-        _ => other(r),
-    }
-}
-
 // How many expressions stand under a node.
 pub fn under(n: Node) -> usize
     ensures { λ q. ⌜ q ≡ underOf n ⌝ }
@@ -101,20 +44,6 @@ pub fn under(n: Node) -> usize
         Node::Clocked { clock: _, under } => under,
         Node::Call { node: _, under } => under,
         Node::Other(under) => under,
-    }
-}
-
-fn more(d: Decoded) -> Read
-    ensures { λ q. ⌜ q ≡ moreOf d ⌝ }
-{
-    match d {
-        Decoded::Is { node, next } => Read::Is {
-            value: under(node),
-            next,
-        },
-        Decoded::Early => Read::Early,
-        Decoded::Illegal(o) => Read::Illegal(o),
-        Decoded::Deep(o) => Read::Deep(o),
     }
 }
 
@@ -155,18 +84,14 @@ fn skip_literal(s: &[u8], at: usize) -> Skipped
 }
 
 // A call's node and the count of its arguments.
-fn call_fields(s: &[u8], names: usize, at: usize) -> Decoded
-    ensures { λ r. ⌜ r ≡ decoded (callFields names (now (s .entry)) at) ⌝ }
+fn call_fields(s: &[u8], names: usize, at: usize) -> Read
+    ensures { λ r. ⌜ r ≡ readOf (mapA exprArity (callFields names (now (s .entry)) at)) ⌝ }
 {
     let r = read_index(s, names, at);
-    let Read::Is {
-        value: node,
-        next: p,
-    } = r
-    else {
-        return other(r);
+    let Read::Is { value: _, next: p } = r else {
+        return r;
     };
-    called(read_u16(s, p), node)
+    read_u16(s, p)
 }
 
 // A struct's type, and its field names after their count.
@@ -189,32 +114,14 @@ fn struct_fields(s: &[u8], names: usize, at: usize) -> Read
 }
 
 // A clock and the flag at which its argument is there.
-fn when_fields(s: &[u8], names: usize, at: usize) -> Decoded
-    ensures { λ r. ⌜ r ≡ decoded (whenFields names (now (s .entry)) at) ⌝ }
+fn when_fields(s: &[u8], names: usize, at: usize) -> Read
+    ensures { λ r. ⌜ r ≡ readOf (mapA exprArity (whenFields names (now (s .entry)) at)) ⌝ }
 {
     let r = read_index(s, names, at);
-    let Read::Is {
-        value: clock,
-        next: p,
-    } = r
-    else {
-        return other(r);
+    let Read::Is { value: _, next: p } = r else {
+        return r;
     };
-    clocked(becomes(read_below(s, 2, p), 1), clock)
-}
-
-// The clock of two arguments.
-fn merge_fields(s: &[u8], names: usize, at: usize) -> Decoded
-    ensures { λ r. ⌜ r ≡ decoded (mapA merge (index names (now (s .entry)) at)) ⌝ }
-{
-    let r = read_index(s, names, at);
-    let Read::Is { value: clock, next } = r else {
-        return other(r);
-    };
-    Decoded::Is {
-        node: Node::Clocked { clock, under: 2 },
-        next,
-    }
+    becomes(read_below(s, 2, p), 1)
 }
 
 // An iterate's kind, node and flag for an initial value, which is one more sub-expression than the arrays counted after it.
@@ -251,42 +158,88 @@ fn iterate_fields(s: &[u8], names: usize, at: usize) -> Read
     }
 }
 
-// The node of this tag.
-fn expr_fields(s: &[u8], names: usize, tag: usize, at: usize) -> Decoded
+// How many expressions stand under a node of this tag.
+fn expr_fields(s: &[u8], names: usize, tag: usize, at: usize) -> Read
     requires { ⌜ length (now s) ≤ 65536 ⌝ }
-    ensures { λ r. ⌜ r ≡ decoded (exprFields names tag (now (s .entry)) at) ⌝ }
+    ensures { λ r. ⌜ r ≡ readOf (mapA exprArity (exprFields names tag (now (s .entry)) at)) ⌝ }
 {
     match tag {
-        0 => other(then_is(skip_literal(s, at), 0)),
-        1 => variable(read_index(s, names, at)),
-        2 => other(becomes(read_below(s, 2, at), 1)),
-        3 => other(becomes(read_below(s, 20, at), 2)),
-        4 => Decoded::Is {
-            node: Node::Other(3),
-            next: at,
-        },
-        5 => Decoded::Is {
-            node: Node::Other(1),
-            next: at,
-        },
-        6 => Decoded::Is {
-            node: Node::Other(2),
-            next: at,
-        },
+        0 => then_is(skip_literal(s, at), 0),
+        1 => becomes(read_index(s, names, at), 0),
+        2 => becomes(read_below(s, 2, at), 1),
+        3 => becomes(read_below(s, 20, at), 2),
+        4 => Read::Is { value: 3, next: at },
+        5 => Read::Is { value: 1, next: at },
+        6 => Read::Is { value: 2, next: at },
         7 => call_fields(s, names, at),
-        8 => other(becomes(read_index(s, names, at), 1)),
-        9 => Decoded::Is {
-            node: Node::Other(2),
-            next: at,
-        },
-        10 => other(read_u16(s, at)),
-        11 => other(read_u16(s, at)),
-        12 => other(struct_fields(s, names, at)),
-        13 => other(then_is(skip_type(s, names, at), 1)),
+        8 => becomes(read_index(s, names, at), 1),
+        9 => Read::Is { value: 2, next: at },
+        10 => read_u16(s, at),
+        11 => read_u16(s, at),
+        12 => struct_fields(s, names, at),
+        13 => then_is(skip_type(s, names, at), 1),
         14 => when_fields(s, names, at),
-        15 => merge_fields(s, names, at),
-        16 => other(iterate_fields(s, names, at)),
-        _ => Decoded::Illegal(at),
+        15 => becomes(read_index(s, names, at), 2),
+        16 => iterate_fields(s, names, at),
+        _ => Read::Illegal(at),
+    }
+}
+
+// How many expressions stand under the node at an offset.
+fn expr_head(s: &[u8], names: usize, at: usize) -> Read
+    requires { ⌜ length (now s) ≤ 65536 ⌝ }
+    ensures { λ r. ⌜ r ≡ readOf (exprMore names (now (s .entry)) at) ⌝ }
+{
+    let r = read_below(s, 17, at);
+    let Read::Is {
+        value: tag,
+        next: p,
+    } = r
+    else {
+        return r;
+    };
+    expr_fields(s, names, tag, p)
+}
+
+// The first node of an expression, or all its nodes: how many expressions are to come after what was read. One function does both,
+// since the fields of 17 tags are compiled into the loop only where nothing else calls them.
+fn expr_nodes(s: &[u8], names: usize, one: bool, at: usize) -> Read
+    requires { ⌜ length (now s) ≤ 65536 ⌝ }
+    ensures { λ r. ⌜ r ≡ readOf (exprLeft one names (now (s .entry)) at) ⌝ }
+{
+    let mut n: usize = 1;
+    let mut p = at;
+    while 0 < n {
+        let r = expr_head(s, names, p);
+        let Read::Is { value, next } = r else {
+            return r;
+        };
+        if one {
+            return r;
+        }
+        n = n - 1 + value;
+        p = next;
+    }
+    Read::Is { value: 0, next: p }
+}
+
+// A node of this tag, by the number that its fields begin with where that is a name to look at.
+fn named(tag: usize, under: usize, first: Read) -> Node
+    ensures { λ q. ⌜ q ≡ namedOf tag under first ⌝ }
+{
+    let Read::Is {
+        value: name,
+        next: _,
+    } = first
+    else {
+        return Node::Other(under);
+    };
+    match tag {
+        1 => Node::Var(name),
+        7 => Node::Call { node: name, under },
+        14 => Node::Clocked { clock: name, under },
+        15 => Node::Clocked { clock: name, under },
+        _ => Node::Other(under),
     }
 }
 
@@ -295,39 +248,22 @@ pub fn read_node(s: &[u8], names: usize, at: usize) -> Decoded
     requires { ⌜ length (now s) ≤ 65536 ⌝ }
     ensures { λ r. ⌜ r ≡ decoded (exprHead names (now (s .entry)) at) ⌝ }
 {
-    let r = read_below(s, 17, at);
-    let Read::Is {
-        value: tag,
-        next: p,
-    } = r
-    else {
-        return other(r);
-    };
-    expr_fields(s, names, tag, p)
+    let r = expr_nodes(s, names, true, at);
+    match r {
+        Read::Is { value, next } => Decoded::Is {
+            node: named(s[at] as usize, value, read_u16(s, at + 1)),
+            next,
+        },
+        Read::Early => Decoded::Early,
+        Read::Illegal(o) => Decoded::Illegal(o),
+        Read::Deep(o) => Decoded::Deep(o),
+    }
 }
 
-// How many expressions stand under the node at an offset.
-fn expr_head(s: &[u8], names: usize, at: usize) -> Read
-    requires { ⌜ length (now s) ≤ 65536 ⌝ }
-    ensures { λ r. ⌜ r ≡ readOf (exprMore names (now (s .entry)) at) ⌝ }
-{
-    more(read_node(s, names, at))
-}
-
-// An expression: nodes are read until no expression is to come.
+// An expression, with all its nodes.
 pub fn skip_expr(s: &[u8], names: usize, at: usize) -> Skipped
     requires { ⌜ length (now s) ≤ 65536 ⌝ }
     ensures { λ r. ⌜ r ≡ skip (exprAt names (now (s .entry)) at) ⌝ }
 {
-    let mut n: usize = 1;
-    let mut p = at;
-    while 0 < n {
-        let r = expr_head(s, names, p);
-        let Read::Is { value, next } = r else {
-            return past(r);
-        };
-        n = n - 1 + value;
-        p = next;
-    }
-    Skipped::To(p)
+    past(expr_nodes(s, names, false, at))
 }

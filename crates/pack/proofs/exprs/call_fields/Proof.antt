@@ -1,5 +1,5 @@
-use Rattle.pack.specs.Forms.{callFields}
-use Rattle.pack.proofs.NodeLaws.{node-stops, node-goes, called-made}
+use Rattle.pack.proofs.ExprLaws.{call-read}
+use Rattle.wire.proofs.Steps.{goesR, stoppedR}
 use borrow.Author.Needs.{needs}
 use Rattle.pack.proofs.exprs.call_fields.Statement.{statement}
 use Rattle.pack.proofs.exprs.call_fields.Tie as tie
@@ -10,31 +10,15 @@ read-index-requires c κs = search needs
 enum-known-r : tie.Need-enum-known-r
 enum-known-r c = search needs
 
-other-requires : tie.Need-other-requires
-other-requires c κs = search needs
-
 returns : tie.Need-returns
-unfolding callFields
-returns c = node-stops _ _ _ _ (c .before .match .keys2) (c .before .before .read-index .ensures) (c .other .ensures)
+returns c = stoppedR _ _ _ _ (c .match .keys2) (c .before .read-index .ensures) (call-read _ _ _)
 
 read-u16-requires : tie.Need-read-u16-requires
 read-u16-requires c κs = search needs
 
-called-requires : tie.Need-called-requires
-called-requires c κs = search needs
-
 returns-2 : tie.Need-returns-2
-unfolding callFields
-returns-2 c = node-goes _ _ _ _ _ _ (c .before .before .before .r .given .1) (c .before .before .before .before .before .read-index .ensures) (called-made _ _ _ _ (c .before .read-u16 .ensures) (c .called .ensures))
+returns-2 c = goesR _ _ _ _ _ _ _ (c .before .before .r .given .1) (c .before .before .before .before .read-index .ensures) (call-read _ _ _) (c .read-u16 .ensures)
 
 pub call-fields-spec : {M : Type 1} → statement M
 call-fields-spec =
-    tie.close
-    (tie.spec
-    read-index-requires
-    enum-known-r
-    other-requires
-    returns
-    read-u16-requires
-    called-requires
-    returns-2)
+    tie.close (tie.spec read-index-requires enum-known-r returns read-u16-requires returns-2)

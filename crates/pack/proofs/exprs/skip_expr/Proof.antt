@@ -1,81 +1,20 @@
--- The invariant: what is pending from here is what was pending at the start. Each head takes a byte and adds at most 65536 expressions.
--- Assumes nothing.
+use mathlib.Core.Path.{_∙_}
+use Rattle.wire.proofs.Codes.{skip-map}
+use Rattle.wire.proofs.Steps.{past-skip}
+use Rattle.pack.specs.Heads.{exprLeft}
 use borrow.Author.Needs.{needs}
-use native.Mathlib.Omega.{arith}
-use Prim.Native.Nat.{_+_, _*_, _-_, _≤_}
-use mathlib.Core.Path.{_≡_, refl, sym, _∙_, ap}
-use lib.ListN.{length}
-use Rattle.wire.specs.Answer.{value}
-use Rattle.wire.proofs.Preorders.{pending, pending-none}
-use Rattle.pack.specs.Heads.{exprMore}
-use Rattle.pack.proofs.ExprLaws.{expr-pending, expr-small, exprMoves}
-use Rattle.wire.proofs.Steps.{found, pending-stopped, pending-went}
 use Rattle.pack.proofs.exprs.skip_expr.Statement.{statement}
 use Rattle.pack.proofs.exprs.skip_expr.Tie as tie
 
-abbrev Inv-loop : tie.InvT-loop
-Inv-loop s names at n₀ p₀ n p = (pending (exprMore names) s n p ≡ pending (exprMore names) s 1 at) × (n ≤ 1 + 65536 * p)
+expr-nodes-requires : tie.Need-expr-nodes-requires
+expr-nodes-requires c κs = search needs
 
-abbrev μ-loop : tie.MeasureT-loop
-μ-loop s names at n₀ p₀ n p = length s - p
-
-got : (c : tie.After-known-told Inv-loop μ-loop) → exprMore (c .before .before .before .before .before .before .before .args .names) (c .before .before .before .before .before .before .before .args .s .now) (c .before .before .before .before .before .loop .p) ≡ value (c .before .r .given .0 .0) (c .before .r .given .0 .1 .0)
-got c = found _ _ _ _ (c .before .r .given .1) (c .before .before .before .expr-head .ensures)
-
-loop-holds : tie.Need-loop-holds Inv-loop μ-loop
-loop-holds c = (refl, omega arith)
-
-expr-head-requires : tie.Need-expr-head-requires Inv-loop μ-loop
-expr-head-requires c κs = search needs
-
-enum-known-r : tie.Need-enum-known-r Inv-loop μ-loop
-enum-known-r c = search needs
-
-past-requires : tie.Need-past-requires Inv-loop μ-loop
+past-requires : tie.Need-past-requires
 past-requires c κs = search needs
 
-returns : tie.Need-returns Inv-loop μ-loop
-returns c =
-    pending-stopped _ (exprMoves _) _ _ _ _ _ (c .before .before .before .loop-test .taken) (c .before .match .keys2) (c .before .before .expr-head .ensures) (c .past .ensures)
-    ∙ c .before .before .before .before .loop .inv .0
-    ∙ sym (expr-pending _ _ _)
-
-sub-n : tie.Need-sub-n Inv-loop μ-loop
-sub-n c = search needs
-
-add-n : tie.Need-add-n Inv-loop μ-loop
-add-n c = omega (arith, expr-small _ _ (λ i. c .before .before .before .before .before .before .shared-slice-known .given i .fits) _ _ _ (got c), exprMoves _ .on _ _ _ _ (got c), exprMoves _ .inside _ _ _ _ (got c), c .before .before .before .before .before .before .before .pre, c .before .before .before .before .before .loop .inv .1)
-
-loop-less : tie.Need-loop-less Inv-loop μ-loop
-loop-less c = omega (arith, exprMoves _ .on _ _ _ _ (got c), exprMoves _ .inside _ _ _ _ (got c))
-
-loop-again : tie.Need-loop-again Inv-loop μ-loop
-loop-again c = (
-  pending-went _ (exprMoves _) _ _ _ _ _ _ (c .before .before .before .before .loop-test .taken) (got c) (c .before .before .before .before .before .loop .inv .0),
-  omega (arith, expr-small _ _ (λ i. c .before .before .before .before .before .before .shared-slice-known .given i .fits) _ _ _ (got c), exprMoves _ .on _ _ _ _ (got c), c .before .before .before .before .before .loop .inv .1),
-)
-
-returns-2 : tie.Need-returns-2 Inv-loop μ-loop
-returns-2 c =
-    let e : c .before .loop .n ≡ 0 = omega arith in
-    sym (pending-none _ (exprMoves (c .before .before .before .args .names)) _ _)
-    ∙ ap (λ n. pending (exprMore (c .before .before .before .args .names)) (c .before .before .before .args .s .now) n (c .before .loop .p)) (sym e)
-    ∙ c .before .loop .inv .0
-    ∙ sym (expr-pending _ _ _)
+returns : tie.Need-returns
+unfolding exprLeft
+returns c = past-skip _ _ _ (c .before .expr-nodes .ensures) (c .past .ensures) ∙ skip-map _ _
 
 pub skip-expr-spec : {M : Type 1} → statement M
-skip-expr-spec =
-    tie.close
-    (tie.spec
-    Inv-loop
-    μ-loop
-    loop-holds
-    expr-head-requires
-    enum-known-r
-    past-requires
-    returns
-    sub-n
-    add-n
-    loop-less
-    loop-again
-    returns-2)
+skip-expr-spec = tie.close (tie.spec expr-nodes-requires past-requires returns)

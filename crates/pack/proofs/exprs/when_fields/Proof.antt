@@ -1,5 +1,5 @@
-use Rattle.pack.specs.Forms.{whenFields}
-use Rattle.pack.proofs.NodeLaws.{node-stops, node-goes, sample-made}
+use Rattle.pack.proofs.ExprLaws.{when-read}
+use Rattle.wire.proofs.Steps.{goesR, stoppedR}
 use borrow.Author.Needs.{needs}
 use Rattle.pack.proofs.exprs.when_fields.Statement.{statement}
 use Rattle.pack.proofs.exprs.when_fields.Tie as tie
@@ -10,12 +10,8 @@ read-index-requires c κs = search needs
 enum-known-r : tie.Need-enum-known-r
 enum-known-r c = search needs
 
-other-requires : tie.Need-other-requires
-other-requires c κs = search needs
-
 returns : tie.Need-returns
-unfolding whenFields
-returns c = node-stops _ _ _ _ (c .before .match .keys2) (c .before .before .read-index .ensures) (c .other .ensures)
+returns c = stoppedR _ _ _ _ (c .match .keys2) (c .before .read-index .ensures) (when-read _ _ _)
 
 read-below-requires : tie.Need-read-below-requires
 read-below-requires c κs = search needs
@@ -23,12 +19,8 @@ read-below-requires c κs = search needs
 becomes-requires : tie.Need-becomes-requires
 becomes-requires c κs = search needs
 
-clocked-requires : tie.Need-clocked-requires
-clocked-requires c κs = search needs
-
 returns-2 : tie.Need-returns-2
-unfolding whenFields
-returns-2 c = node-goes _ _ _ _ _ _ (c .before .before .before .before .r .given .1) (c .before .before .before .before .before .before .read-index .ensures) (sample-made _ _ _ _ _ (c .before .before .read-below .ensures) (c .before .becomes .ensures) (c .clocked .ensures))
+returns-2 c = goesR _ _ _ _ _ _ _ (c .before .before .before .r .given .1) (c .before .before .before .before .before .read-index .ensures) (when-read _ _ _) (cc)
 
 pub when-fields-spec : {M : Type 1} → statement M
 when-fields-spec =
@@ -36,9 +28,7 @@ when-fields-spec =
     (tie.spec
     read-index-requires
     enum-known-r
-    other-requires
     returns
     read-below-requires
     becomes-requires
-    clocked-requires
     returns-2)
