@@ -9,7 +9,6 @@ use borrow.Author.Tests.{ne-eqb}
 use types.Run.{OneOf}
 use denote.Enum.Declared.{tagOf}
 use Rattle.wire.proofs.answer.Read as Read-enum
-use Rattle.pack.proofs.exprs.Node as Node-enum
 use Rattle.wire.specs.declared.answer.Read.{Read}
 use Rattle.wire.specs.declared.answer.Read.the-variants as rd
 use Rattle.pack.specs.declared.exprs.Node.{Node}
@@ -21,15 +20,8 @@ use Rattle.wire.specs.Code.{readOf}
 use Rattle.wire.proofs.Answers.{bind-value, byte-value, guard-value, map-value}
 use Rattle.pack.specs.Forms.{ExprHead, array, arrow, binary, call, callFields, cast, conditional, const, element, exprArity, exprFields, exprHead, exprRows, field, iterateFields, merge, previous, sample, structFields, tuple, unary, var, whenFields}
 use Rattle.pack.specs.Heads.{exprLeft, exprMore}
-use Rattle.pack.specs.Nodes.{byTag, decoded, namedOf, nodeOf, underOf}
+use Rattle.pack.specs.Nodes.{byTag, decoded, namedOf, nodeOf}
 use Rattle.wire.proofs.Steps.{found, never-is}
-
-pub under-var : (n : Node) → OneOf (0 ∷ []) (tagOf Node-enum.the-type n) → 0 ≡ underOf n
-unfolding underOf
-under-var (nd.Var i) h = refl
-under-var (nd.Clocked i k) h = absurd (omega arith)
-under-var (nd.Call i k) h = absurd (omega arith)
-under-var (nd.Other k) h = absurd (omega arith)
 
 -- where no number was read there is no name
 pub named-none : (tag n : ℕ) (r : Read) → OneOf (1 ∷ 2 ∷ 3 ∷ []) (tagOf Read-enum.the-type r) → nd.Other n ≡ namedOf tag n r

@@ -54,10 +54,3 @@ namedOf tag n (rd.Is i q) = byTag tag n i
 namedOf tag n rd.Early = nd.Other n
 namedOf tag n (rd.Illegal o) = nd.Other n
 namedOf tag n (rd.Deep o) = nd.Other n
-
--- how many expressions stand under a node
-unfoldable pub underOf : Node → ℕ
-underOf (nd.Var i) = 0
-underOf (nd.Clocked i n) = n
-underOf (nd.Call i n) = n
-underOf (nd.Other n) = n

@@ -17,7 +17,7 @@ ghost use Rattle.wire.specs.Answer.{mapA, index, many};
 ghost use Rattle.wire.specs.Code.{readOf, skip};
 ghost use Rattle.pack.specs.Forms.{literal, exprArity, callFields, structFields, whenFields, iterateFields, exprFields, exprHead, exprAt};
 ghost use Rattle.pack.specs.Heads.{exprMore, exprLeft};
-ghost use Rattle.pack.specs.Nodes.{decoded, namedOf, underOf};
+ghost use Rattle.pack.specs.Nodes.{decoded, namedOf};
 
 // A node taken apart: the names that a lowering looks at, and how many expressions stand under it.
 pub enum Node {
@@ -33,18 +33,6 @@ pub enum Decoded {
     Early,
     Illegal(usize),
     Deep(usize),
-}
-
-// How many expressions stand under a node.
-pub fn under(n: Node) -> usize
-    ensures { λ q. ⌜ q ≡ underOf n ⌝ }
-{
-    match n {
-        Node::Var(_) => 0,
-        Node::Clocked { clock: _, under } => under,
-        Node::Call { node: _, under } => under,
-        Node::Other(under) => under,
-    }
 }
 
 // As many name indexes as count says.
