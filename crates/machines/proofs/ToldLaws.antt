@@ -1,4 +1,4 @@
--- Laws for the table of outputs that drawn states were found to give.
+-- Laws for the tables of outputs that drawn states, or all states of a machine, were found to give.
 use Prim.Native.Nat.{ℕ, zero, suc, _+_, _*_, _/_, _%_, _<_}
 use native.Mathlib.Nat.{mod-eq-of-lt}
 use native.Mathlib.Omega.{arith}
@@ -13,7 +13,7 @@ use Rattle.pack.specs.Names.{Name}
 use Rattle.machines.specs.Covers.{ownT, uncoveredT}
 use Rattle.machines.specs.Kept.{regionsIn, stateRow}
 use Rattle.machines.specs.Ends.{Blank}
-use Rattle.machines.specs.Told.{Given, ToldRight, toldMark}
+use Rattle.machines.specs.Told.{Given, GivenRight, ToldRight, toldMark}
 
 -- of the states of one row at most one is kept
 chosen : (b : Bool) (n : ℕ) → 0 < cond b n 0 → b ≡ true
@@ -88,10 +88,25 @@ pub blank-told : (s : List ℕ) (names : ℕ) (ends told : List ℕ) → Blank t
 blank-told s names ends told h = record { own = λ ns n p out b l e. absurd (omega (arith, h (p / 10), e, mark-some out b)) }
 
 -- an output that was found given
-pub given-now : (s : List ℕ) (names : ℕ) (t : List ℕ) (x m : ℕ) → ((ns : List Name) → length ns ≡ names → m ≡ uncoveredT ns s t x 8 0) → m ≡ 0 → Given s names t x
-unfolding Given
-given-now s names t x m h e ns n = sym (h ns n) ∙ e
+module _ (s : List ℕ) (names : ℕ) (t : List ℕ) where
+  given-now : (x m : ℕ) → ((ns : List Name) → length ns ≡ names → m ≡ uncoveredT ns s t x 8 0) → m ≡ 0 → Given s names t x
+  unfolding Given
+  given-now x m h e ns n = sym (h ns n) ∙ e
 
-pub given-told : (s : List ℕ) (names : ℕ) (t : List ℕ) (x : ℕ) → Given s names t x → (ns : List Name) → length ns ≡ names → 0 ≡ uncoveredT ns s t x 8 0
-unfolding Given
-given-told s names t x h ns n = sym (h ns n)
+  pub given-zero : (x m : ℕ) → ((ns : List Name) → length ns ≡ names → m ≡ uncoveredT ns s t x 8 0) → m ≡ 0 → (ns : List Name) → length ns ≡ names → 0 ≡ uncoveredT ns s t x 8 0
+  given-zero x m h e ns n = sym e ∙ h ns n
+
+  pub given-before : (given : List ℕ) (x c : ℕ) → GivenRight s names t given → c ≡ getD given x 0 → 0 < c → (ns : List Name) → length ns ≡ names → 0 ≡ uncoveredT ns s t x 8 0
+  unfolding Given
+  given-before given x c h e l ns n = sym (h .known x (subst (λ (y : ℕ). 0 < y) e l) ns n)
+
+  -- an output more
+  pub given-more : (given u : List ℕ) (x m : ℕ) → GivenRight s names t given → ((ns : List Name) → length ns ≡ names → m ≡ uncoveredT ns s t x 8 0) → m ≡ 0 → u ≡ set given x 1 → GivenRight s names t u
+  given-more given u x m h f e d = record { known = λ y l. go y (eqb y x) refl (subst (λ (v : List ℕ). 0 < getD v y 0) d l) }
+    where
+      go : (y : ℕ) (b : Bool) → eqb y x ≡ b → 0 < getD (set given x 1) y 0 → Given s names t y
+      go y true k l = subst (Given s names t) (sym (eqb-true y x k)) (given-now x m f e)
+      go y false k l = h .known y (subst (λ (v : ℕ). 0 < v) (getD-set-other given x y 1 0 (eqb-false y x k)) l)
+
+  pub blank-given : (given : List ℕ) → Blank given → GivenRight s names t given
+  blank-given given h = record { known = λ x l. absurd (omega (arith, h x, l)) }

@@ -1,5 +1,6 @@
 -- Which outputs drawn states were found to give or not to give: a table of 16-bit cells, one for each row of the states that are
--- kept (specs/Kept), for the output that was asked last.
+-- kept (specs/Kept), for the output that was asked last. And which outputs each state was found to give: a table of bytes by the
+-- index of the output's name.
 use Prim.Native.Nat.{ℕ, _+_, _*_, _/_, _<_}
 use mathlib.Core.List.{List}
 use mathlib.Core.Bool.{Bool, cond}
@@ -20,3 +21,7 @@ pub record ToldRight (s : List ℕ) (names : ℕ) (ends told : List ℕ) : Type 
 -- each state of the layout t gives the output x
 unfoldable pub Given : List ℕ → ℕ → List ℕ → ℕ → Type 0
 Given s names t x = (ns : List Name) → length ns ≡ names → uncoveredT ns s t x 8 0 ≡ 0
+
+-- of the pack s with so many names and the layout t: what a cell says of the output whose name has its index
+pub record GivenRight (s : List ℕ) (names : ℕ) (t given : List ℕ) : Type 0 where
+  pub known : (x : ℕ) → 0 < getD given x 0 → Given s names t x

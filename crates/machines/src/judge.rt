@@ -1,6 +1,5 @@
 // Whether a machine is accepted, or why it is refused: resolving, then its states' names, initial states and targets,
 // then its outputs.
-use crate::cover::both;
 use crate::cover::uncovered_region;
 use crate::lay::lay_machine;
 use crate::refusal::Called;
@@ -21,12 +20,11 @@ use pack::record::Pack;
 ghost use mathlib.Core.List.{List};
 ghost use mathlib.Core.Path.{_≡_};
 ghost use Prim.Native.Nat.{_≤_};
-ghost use lib.ListN.{length};
+ghost use lib.ListN.{length, set};
 ghost use Rattle.pack.specs.Names.{Name};
 ghost use Rattle.machines.specs.Covers.{uncoveredT};
-ghost use Rattle.machines.specs.Known.{Known};
 ghost use Rattle.machines.specs.Ends.{EndsRight, KeptRight};
-ghost use Rattle.machines.specs.Told.{Given, ToldRight};
+ghost use Rattle.machines.specs.Told.{GivenRight, ToldRight};
 ghost use Rattle.machines.specs.Judging.{noName, named as namedOf, refusedBy, stateCalled, calledAt, againCalled, outputsJ, checkedJ, laidJ, judgeAt, boardAt};
 
 pub fn no_name() -> Called
@@ -97,6 +95,15 @@ fn again_called(lets: &[u8], d: usize) -> Called
     }
 }
 
+// The output x is given; an index past the table's end is not remembered.
+fn note_given(given: &mut [u8], x: usize)
+    ensures { λ _. ⌜ now (given .exit) ≡ set (now (given .entry)) x 1 ⌝ }
+{
+    if x < given.len() {
+        given[x] = 1;
+    }
+}
+
 // 0 where each state gives the output x, else the word of a state that does not. Where an output was asked for and is given, it need
 // not be asked for again: a machine may have it thousands of times.
 fn uncovered_output(
@@ -105,22 +112,28 @@ fn uncovered_output(
     ends: &[u16],
     t: &[usize],
     told: &mut [u16],
-    asked: bool,
-    last: usize,
+    given: &mut [u8],
     x: usize,
 ) -> usize
-    requires { ⌜ (length (now s) ≤ 65536) × EndsRight (now s) names (now ends) × ToldRight (now s) names (now ends) (now told) × Known asked (Given (now s) names (now t)) last ⌝ }
+    requires { ⌜ (length (now s) ≤ 65536) × EndsRight (now s) names (now ends) × ToldRight (now s) names (now ends) (now told) × GivenRight (now s) names (now t) (now given) ⌝ }
     ensures { λ r. ⌜ ((ns : List Name) → length ns ≡ names → r ≡ uncoveredT ns (now (s .entry)) (now (t .entry)) x 8 0) ⌝ }
     ensures { λ _. ⌜ ToldRight (now (s .entry)) names (now (ends .entry)) (now (told .exit)) ⌝ }
+    ensures { λ _. ⌜ GivenRight (now (s .entry)) names (now (t .entry)) (now (given .exit)) ⌝ }
 {
-    if both(asked, x == last) {
+    if 0 < byte(given, x) {
         return 0;
     }
-    uncovered_region(s, names, ends, t, told, x, Pack::LEVELS, 0)
+    let m = uncovered_region(s, names, ends, t, told, x, Pack::LEVELS, 0);
+    if m != 0 {
+        return m;
+    }
+    note_given(given, x);
+    0
 }
 
 // The outputs of a machine that is laid out, `count` from the offset `from` on: the first that a state does not give. What drawn
-// states give is remembered, a cell for ten bytes of the pack.
+// states give is remembered, a cell for ten bytes of the pack, and which outputs are given, a cell for each name: no pack has more
+// than 17,408, since they are different and of 63 letters.
 fn judge_outputs(
     s: &[u8],
     names: usize,
@@ -134,18 +147,15 @@ fn judge_outputs(
     ensures { λ r. ⌜ ((ns : List Name) → length ns ≡ names → r ≡ outputsJ ns (now (s .entry)) (now (t .entry)) regions count from) ⌝ }
 {
     let mut told = [0u16; 6554];
-    let mut asked = false;
-    let mut last = 0;
+    let mut given = [0u8; 17408];
     let mut n = count;
     let mut p = from;
     while 0 < n {
         let x = number(s, p);
-        let m = uncovered_output(s, names, ends, t, &mut told, asked, last, x.value);
+        let m = uncovered_output(s, names, ends, t, &mut told, &mut given, x.value);
         if m != 0 {
             return refused(4, named(x.value), state_called(t, m));
         }
-        asked = true;
-        last = x.value;
         p = after_port(s, names, p);
         n = n - 1;
     }
