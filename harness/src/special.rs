@@ -301,12 +301,19 @@ pub fn index_number(name: &[u8]) -> u64 {
     z | ((z + y) & 0xFFFF_FFFF) << 32
 }
 
-/// Names of sixteen letters, all with the same number in the index: each half of it takes four letters and then four
-/// more, which can make up for those.
-pub fn of_one_number() -> impl Iterator<Item = String> {
-    let half = |before: u64, factor: u64| -> Vec<[String; 2]> {
+/// The two halves of a name's number after `before`, a multiple of eight of its `length` letters.
+fn halves(before: &[u8], length: usize) -> (u64, u64) {
+    let quad = |at: usize| u64::from(u32::from_le_bytes(before[at..at + 4].try_into().unwrap()));
+    let next = |(a, b), at| (fold((a + quad(at)) * FACTORS[0]), fold((b + quad(at + 4)) * FACTORS[1]));
+    (0..before.len()).step_by(8).fold((length as u64, 0), next)
+}
+
+/// Ends of sixteen letters that give all names which begin with `before`, a multiple of eight letters, the same number
+/// in the index: each half of it takes four letters and then four more, which can make up for those.
+pub fn of_one_number(before: &[u8]) -> impl Iterator<Item = String> {
+    let half = |start: u64, factor: u64| -> Vec<[String; 2]> {
         let made_up = |four: &String| {
-            let taken = fold((before + u64::from(u32::from_le_bytes(four.as_bytes().try_into().unwrap()))) * factor);
+            let taken = fold((start + u64::from(u32::from_le_bytes(four.as_bytes().try_into().unwrap()))) * factor);
             let rest = 0xC000_0000_u64.checked_sub(taken)?.to_le_bytes();
             let letters = rest[..4].iter().all(|b| ALPHABET.contains(b));
             letters.then(|| [four.clone(), String::from_utf8(rest[..4].to_vec()).unwrap()])
@@ -314,7 +321,8 @@ pub fn of_one_number() -> impl Iterator<Item = String> {
         let fours = (0..).map(|i| short_name(63 + 63 * 63 + 63 * 63 * 63 + i));
         fours.take(63 * 63 * 63 * 63).filter_map(|four| made_up(&four)).take(64).collect()
     };
-    let (a, b) = (half(16, FACTORS[0]), half(0, FACTORS[1]));
+    let start = halves(before, before.len() + 16);
+    let (a, b) = (half(start.0, FACTORS[0]), half(start.1, FACTORS[1]));
     a.into_iter().flat_map(move |[x, z]| b.clone().into_iter().map(move |[y, w]| format!("{x}{y}{z}{w}")))
 }
 
@@ -457,9 +465,12 @@ mod tests {
 
     #[test]
     fn names_of_one_number_have_it() {
-        let all: Vec<String> = of_one_number().collect();
-        assert_eq!(all.len(), 4096);
-        assert!(all.iter().all(|n| n.len() == 16 && index_number(n.as_bytes()) == index_number(all[0].as_bytes())));
+        for before in ["", "Strongroom_door_"] {
+            let all: Vec<String> = of_one_number(before.as_bytes()).map(|n| format!("{before}{n}")).collect();
+            let number = index_number(all[0].as_bytes());
+            assert_eq!(all.len(), 4096);
+            assert!(all.iter().all(|n| n.len() == before.len() + 16 && index_number(n.as_bytes()) == number));
+        }
     }
 
     #[test]

@@ -54,6 +54,22 @@ impl Sketch {
     }
 }
 
+/// Activations that hold so many variables of the type of the first of so many enums, which alone has a variant.
+pub fn holders(enums: usize, variables: usize, count: usize) -> Package {
+    let mut k = Sketch::new();
+    let [e, last] = ["e000", "last"].map(|n| k.b.name(n));
+    let names = k.inputs(variables);
+    for port in k.owner.inputs.iter_mut().skip(1) {
+        port.ty = Type { lens: vec![], base: Base::Named(e) };
+    }
+    k.b.p.enums = vec![Enum { name: e, variants: vec![] }; enums];
+    k.b.p.enums[0].variants.push(e);
+    let lasts = names.iter().flat_map(|v| [Tok::Call(last, 1), Tok::Var(*v)]);
+    k.act.branches[0].condition = k.b.p.expr([Tok::Tuple(variables as u16)].into_iter().chain(lasts));
+    k.output(k.c, k.c);
+    k.done(count)
+}
+
 /// Activations of one branch, all of one node.
 pub fn copies(count: usize) -> Package {
     let mut k = Sketch::new();
@@ -247,6 +263,7 @@ pub fn costly() -> Vec<Hostile> {
         ("3,500 calls of last", lasts(3_500, false)),
         ("600 calls of last", lasts(600, false)),
         ("calls of last inside each other", nested_lasts(7_500)),
+        ("8,000 enums, 50 variables held 70 times", holders(8_000, 50, 70)),
         ("condition of 20 KB", condition(20_000)),
         ("condition of 60 KB", condition(60_000)),
     ])
@@ -260,6 +277,7 @@ pub fn quick() -> Vec<Hostile> {
         ("branches by the thousand", branches(3_500, false)),
         ("samples by the hundred", samples(short_names(9_000), 700)),
         ("calls of last by the hundred", lasts(600, false)),
+        ("8,000 enums, 50 variables held 70 times", holders(8_000, 50, 70)),
         ("condition of 20 KB", condition(20_000)),
     ])
 }

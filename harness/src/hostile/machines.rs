@@ -251,6 +251,50 @@ pub fn refined_transitions(states: usize, transitions: usize, count: usize, refu
     b.done()
 }
 
+/// So many outputs of one name in a state that refines `shown` states, each with so many equations of which the last
+/// gives it, and a state that does not.
+pub fn tried_region(outputs: usize, equations: usize, shown: usize) -> Package {
+    let mut b = Builder::new();
+    let [m, mid, sub, a, s, o, z] = ["M", "D", "E", "a", "s", "o", "z"].map(|n| b.name(n));
+    let none = b.p.expr([Tok::Tuple(0)]);
+    let mut all = vec![Equation { lhs: vec![], rhs: none }; equations - 1];
+    all.push(equation(o, none));
+    b.p.machines.push(machine(sub, s, vec![State { equations: all, ..state(s) }]));
+    let mut states: Vec<State> = (0..shown).map(|k| refining(b.name(&short_name(k + 63)), sub)).collect();
+    states.push(state(z));
+    b.p.machines.push(machine(mid, z, states));
+    let mut made = machine(m, a, vec![State { equations: vec![equation(o, none)], ..refining(a, mid) }]);
+    made.outputs = vec![port(o); outputs];
+    b.p.machines.push(made);
+    b.done()
+}
+
+/// So many outputs of two names in turn, which the last of the equations of a state give, and one that nothing gives.
+pub fn outputs_in_turn(outputs: usize, equations: usize) -> Package {
+    let mut b = Builder::new();
+    let [m, s, o, q, z] = ["M", "s", "o", "q", "z"].map(|n| b.name(n));
+    let none = b.p.expr([Tok::Tuple(0)]);
+    let mut all = vec![Equation { lhs: vec![], rhs: none }; equations];
+    all.extend([equation(o, none), equation(q, none)]);
+    let mut made = machine(m, s, vec![State { equations: all, ..state(s) }]);
+    made.outputs = (0..outputs).map(|k| port([o, q][k % 2])).chain([port(z)]).collect();
+    b.p.machines.push(made);
+    b.done()
+}
+
+/// So many machines that each refine one of 511 states whose full names have one number in the index; their initial
+/// state is not there.
+pub fn one_number(count: usize) -> Package {
+    let mut b = Builder::new();
+    let holder = "p".repeat(231);
+    let [big, y, x] = ["B", "y", &holder].map(|n| b.name(n));
+    let names = special::of_one_number(format!("{holder}_").as_bytes()).take(511);
+    let states: Vec<State> = names.map(|n| state(b.name(&n))).collect();
+    b.p.machines.push(machine(big, states[0].name, states));
+    b.p.machines.extend(vec![machine(y, y, vec![refining(x, big)]); count]);
+    b.done()
+}
+
 /// Packs at the limits of lowering machines.
 pub fn limits() -> Vec<Hostile> {
     let all = [
@@ -309,6 +353,8 @@ pub fn costly() -> Vec<Hostile> {
         ("507 long names alike, 20 machines refused", alike(20, true)),
         ("ring of 2,300 machines", ring(2_300)),
         ("511 states, 100 machines refused", large_copies(100, true)),
+        ("511 long names of one number, 500 machines refused", one_number(500)),
+        ("two outputs in turn, 10,000 times, refused", outputs_in_turn(10_000, 6_000)),
         ("511 states, 2,000 machines", large_copies(2_000, false)),
         ("12,000 regions without states", empty_regions(12_000)),
         ("right side of 16 KB, visited 7,500 times", revisited_state(1, 0, 16_000, 30)),
@@ -334,6 +380,7 @@ pub fn vast() -> Vec<Hostile> {
         ("3,000 equations, visited 75,000 times", revisited_output(3_000, 300)),
         ("5,000 transitions, refined 700 times", refined_transitions(500, 5_000, 700, false)),
         ("5,000 transitions, refined 700 times, refused", refined_transitions(500, 5_000, 700, true)),
+        ("3,000 outputs, 9,500 equations shown 210 times", tried_region(3_000, 9_500, 210)),
     ])
 }
 
