@@ -182,20 +182,3 @@ pub fn uncovered_region(
     }
     0
 }
-
-// The same where one output is asked for: nothing is worth remembering.
-pub fn uncovered_once(
-    s: &[u8],
-    names: usize,
-    ends: &[u16],
-    t: &[usize],
-    out: usize,
-    levels: usize,
-    q: usize,
-) -> usize
-    requires { ⌜ (length (now s) ≤ 65536) × EndsRight (now s) names (now ends) ⌝ }
-    ensures { λ r. ⌜ ((ns : List Name) → length ns ≡ names → r ≡ uncoveredT ns (now (s .entry)) (now (t .entry)) out levels q) ⌝ }
-{
-    let mut none = [0u16; 1];
-    uncovered_region(s, names, ends, t, &mut none, out, levels, q)
-}

@@ -2,7 +2,7 @@
 // equation. Right sides are copied from the pack.
 use crate::chains::put_test;
 use crate::cover::both;
-use crate::cover::uncovered_once;
+use crate::cover::uncovered_region;
 use crate::ends::end_of;
 use crate::rows::between;
 use crate::rows::first;
@@ -26,6 +26,7 @@ ghost use Rattle.pack.specs.Names.{Name};
 ghost use Rattle.pack.specs.Intern.{render};
 ghost use Rattle.machines.specs.Ends.{EndsRight};
 ghost use Rattle.machines.specs.Covers.{uncoveredT};
+ghost use Rattle.machines.specs.Told.{ToldRight};
 ghost use Rattle.machines.specs.Values.{sideT, sideBytes, enteredT, inStateT, valueT, outputT, portOutputsT};
 
 // Where the right side stands of the first equation of the state at `at` that has x as its only left name; 0 where there is none.
@@ -74,17 +75,19 @@ fn entered(
     names: usize,
     ends: &[u16],
     t: &[usize],
+    told: &mut [u16],
     x: usize,
     levels: usize,
     p: usize,
 ) -> usize
-    requires { ⌜ (length (now s) ≤ 65536) × EndsRight (now s) names (now ends) ⌝ }
+    requires { ⌜ (length (now s) ≤ 65536) × EndsRight (now s) names (now ends) × ToldRight (now s) names (now ends) (now told) ⌝ }
     ensures { λ r. ⌜ ((ns : List Name) → length ns ≡ names → r ≡ enteredT (now (t .entry)) (uncoveredT ns (now (s .entry)) (now (t .entry)) x levels) p) ⌝ }
+    ensures { λ _. ⌜ ToldRight (now (s .entry)) names (now (ends .entry)) (now (told .exit)) ⌝ }
 {
     let mut n = word(t, p, 5);
     let mut g = inner(t, p);
     while 0 < n {
-        let m = uncovered_once(s, names, ends, t, x, levels, g);
+        let m = uncovered_region(s, names, ends, t, told, x, levels, g);
         if m == 0 {
             return g;
         }
@@ -102,6 +105,7 @@ fn put_state_value(
     ends: &[u16],
     t: &[usize],
     lets: &[u8],
+    told: &mut [u16],
     x: usize,
     levels: usize,
     p: usize,
@@ -109,14 +113,29 @@ fn put_state_value(
     made: &mut [u8],
     w: Writer,
 ) -> Writer
-    requires { ⌜ (length (now s) ≤ 65536) × EndsRight (now s) names (now ends) ⌝ }
+    requires { ⌜ (length (now s) ≤ 65536) × EndsRight (now s) names (now ends) × ToldRight (now s) names (now ends) (now told) ⌝ }
     ensures { λ r. ⌜ ((ns : List Name) → length ns ≡ names → stateOf (now (out .exit)) (now (made .exit)) r ≡ render (now (old .entry)) (inStateT (now (s .entry)) (now (t .entry)) (now (lets .entry)) ns x (valueT (now (s .entry)) (now (t .entry)) (now (lets .entry)) ns x levels) (uncoveredT ns (now (s .entry)) (now (t .entry)) x levels) p) (stateOf (now (out .entry)) (now (made .entry)) w)) ⌝ }
+    ensures { λ _. ⌜ ToldRight (now (s .entry)) names (now (ends .entry)) (now (told .exit)) ⌝ }
 {
-    let g = entered(s, names, ends, t, x, levels, p);
+    let g = entered(s, names, ends, t, told, x, levels, p);
     if g == 0 {
         return put_own(s, names, ends, t, x, p, out, w);
     }
-    put_value(old, s, names, ends, t, lets, x, levels, g, out, made, w)
+    put_value(
+        old,
+        s,
+        names,
+        ends,
+        t,
+        lets,
+        told,
+        x,
+        levels,
+        g,
+        out,
+        made,
+        w,
+    )
 }
 
 // The value of x by the states of the region at the word q; the last has no test.
@@ -127,6 +146,7 @@ fn put_value(
     ends: &[u16],
     t: &[usize],
     lets: &[u8],
+    told: &mut [u16],
     x: usize,
     levels: usize,
     q: usize,
@@ -134,8 +154,9 @@ fn put_value(
     made: &mut [u8],
     w: Writer,
 ) -> Writer
-    requires { ⌜ (length (now s) ≤ 65536) × EndsRight (now s) names (now ends) ⌝ }
+    requires { ⌜ (length (now s) ≤ 65536) × EndsRight (now s) names (now ends) × ToldRight (now s) names (now ends) (now told) ⌝ }
     ensures { λ r. ⌜ ((ns : List Name) → length ns ≡ names → stateOf (now (out .exit)) (now (made .exit)) r ≡ render (now (old .entry)) (valueT (now (s .entry)) (now (t .entry)) (now (lets .entry)) ns x levels q) (stateOf (now (out .entry)) (now (made .entry)) w)) ⌝ }
+    ensures { λ _. ⌜ ToldRight (now (s .entry)) names (now (ends .entry)) (now (told .exit)) ⌝ }
 {
     if levels == 0 {
         return w;
@@ -145,14 +166,42 @@ fn put_value(
     let mut p = first(t, q);
     while 1 < n {
         let a = put_test(old, t, lets, q, p, out, made, v);
-        v = put_state_value(old, s, names, ends, t, lets, x, levels - 1, p, out, made, a);
+        v = put_state_value(
+            old,
+            s,
+            names,
+            ends,
+            t,
+            lets,
+            told,
+            x,
+            levels - 1,
+            p,
+            out,
+            made,
+            a,
+        );
         p = word(t, p, 4);
         n = left(v, n - 1);
     }
     if n == 0 {
         return v;
     }
-    put_state_value(old, s, names, ends, t, lets, x, levels - 1, p, out, made, v)
+    put_state_value(
+        old,
+        s,
+        names,
+        ends,
+        t,
+        lets,
+        told,
+        x,
+        levels - 1,
+        p,
+        out,
+        made,
+        v,
+    )
 }
 
 // The equation of the output x of the machine that is laid out.
@@ -163,13 +212,15 @@ fn put_output(
     ends: &[u16],
     t: &[usize],
     lets: &[u8],
+    told: &mut [u16],
     x: usize,
     out: &mut [u8],
     made: &mut [u8],
     w: Writer,
 ) -> Writer
-    requires { ⌜ (length (now s) ≤ 65536) × EndsRight (now s) names (now ends) ⌝ }
+    requires { ⌜ (length (now s) ≤ 65536) × EndsRight (now s) names (now ends) × ToldRight (now s) names (now ends) (now told) ⌝ }
     ensures { λ r. ⌜ ((ns : List Name) → length ns ≡ names → stateOf (now (out .exit)) (now (made .exit)) r ≡ render (now (old .entry)) (outputT (now (s .entry)) (now (t .entry)) (now (lets .entry)) ns x) (stateOf (now (out .entry)) (now (made .entry)) w)) ⌝ }
+    ensures { λ _. ⌜ ToldRight (now (s .entry)) names (now (ends .entry)) (now (told .exit)) ⌝ }
 {
     let a = put_u16(out, w, 1);
     let b = put_u16(out, a, x);
@@ -180,6 +231,7 @@ fn put_output(
         ends,
         t,
         lets,
+        told,
         x,
         Pack::LEVELS,
         0,
@@ -189,7 +241,7 @@ fn put_output(
     )
 }
 
-// The equations of its outputs, whose count stands at `at`.
+// The equations of its outputs, whose count stands at `at`. What drawn states give is remembered, a cell for ten bytes of the pack.
 pub fn put_outputs(
     old: &[u8],
     s: &[u8],
@@ -205,13 +257,26 @@ pub fn put_outputs(
     requires { ⌜ (length (now s) ≤ 65536) × EndsRight (now s) names (now ends) ⌝ }
     ensures { λ r. ⌜ ((ns : List Name) → length ns ≡ names → stateOf (now (out .exit)) (now (made .exit)) r ≡ render (now (old .entry)) (portOutputsT (now (s .entry)) (now (t .entry)) (now (lets .entry)) ns at) (stateOf (now (out .entry)) (now (made .entry)) w)) ⌝ }
 {
+    let mut told = [0u16; 6554];
     let c = number(s, at);
     let mut n = c.value;
     let mut p = c.next;
     let mut v = w;
     while 0 < n {
         let x = number(s, p);
-        v = put_output(old, s, names, ends, t, lets, x.value, out, made, v);
+        v = put_output(
+            old,
+            s,
+            names,
+            ends,
+            t,
+            lets,
+            &mut told,
+            x.value,
+            out,
+            made,
+            v,
+        );
         p = after_port(s, names, p);
         n = left(v, n - 1);
     }
