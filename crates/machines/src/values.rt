@@ -161,47 +161,20 @@ fn put_value(
     if levels == 0 {
         return w;
     }
+    let rest = levels - 1;
     let mut v = w;
     let mut n = word(t, q, 6);
     let mut p = first(t, q);
     while 1 < n {
         let a = put_test(old, t, lets, q, p, out, made, v);
-        v = put_state_value(
-            old,
-            s,
-            names,
-            ends,
-            t,
-            lets,
-            told,
-            x,
-            levels - 1,
-            p,
-            out,
-            made,
-            a,
-        );
+        v = put_state_value(old, s, names, ends, t, lets, told, x, rest, p, out, made, a);
         p = word(t, p, 4);
         n = left(v, n - 1);
     }
     if n == 0 {
         return v;
     }
-    put_state_value(
-        old,
-        s,
-        names,
-        ends,
-        t,
-        lets,
-        told,
-        x,
-        levels - 1,
-        p,
-        out,
-        made,
-        v,
-    )
+    put_state_value(old, s, names, ends, t, lets, told, x, rest, p, out, made, v)
 }
 
 // The equation of the output x of the machine that is laid out.

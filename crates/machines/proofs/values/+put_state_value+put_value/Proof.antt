@@ -1,4 +1,4 @@
-use Prim.Native.Nat.{_+_, _-_}
+use Prim.Native.Nat.{_+_}
 use native.Mathlib.Omega.{arith}
 use mathlib.Core.List.{List}
 use mathlib.Core.Path.{_≡_, refl, _∙_}
@@ -97,13 +97,16 @@ abbrev put-value-calls : ℕ → put-value-lts.Claims
 put-value-calls t = (word-reads.Asked, word-reads.Learnt, first-reads.Asked, first-reads.Learnt, put-test-reads.Asked, put-test-reads.Learnt, put-state-value-below t, put-state-value.Post, left-reads.Asked, left-reads.Learnt)
 
 abbrev put-value-Inv-loop : put-value-lts.InvT-loop
-put-value-Inv-loop old s names ends t lets told₀ x levels q out₀ made₀ v₀ n₀ p₀ told out made v n p = (length {A = ℕ} told ≡ length {A = ℕ} told₀) × (length {A = ℕ} out ≡ length {A = ℕ} out₀) × (length {A = ℕ} made ≡ length {A = ℕ} made₀) × ((ns : List Name) → length ns ≡ names → render old (valuesT t lets (inStateT s t lets ns x (valueT s t lets ns x (levels - 1)) (uncoveredT ns s t x (levels - 1))) q n p) (stateOf out made v) ≡ render old (valuesT t lets (inStateT s t lets ns x (valueT s t lets ns x (levels - 1)) (uncoveredT ns s t x (levels - 1))) q n₀ p₀) (stateOf out₀ made₀ v₀)) × ToldRight s names ends told
+put-value-Inv-loop old s names ends t lets told₀ x levels q out₀ made₀ rest v₀ n₀ p₀ told out made v n p = (length {A = ℕ} told ≡ length {A = ℕ} told₀) × (length {A = ℕ} out ≡ length {A = ℕ} out₀) × (length {A = ℕ} made ≡ length {A = ℕ} made₀) × ((ns : List Name) → length ns ≡ names → render old (valuesT t lets (inStateT s t lets ns x (valueT s t lets ns x rest) (uncoveredT ns s t x rest)) q n p) (stateOf out made v) ≡ render old (valuesT t lets (inStateT s t lets ns x (valueT s t lets ns x rest) (uncoveredT ns s t x rest)) q n₀ p₀) (stateOf out₀ made₀ v₀)) × ToldRight s names ends told
 
 abbrev put-value-μ-loop : put-value-lts.MeasureT-loop
-put-value-μ-loop old s names ends t lets told₀ x levels q out₀ made₀ v₀ n₀ p₀ told out made v n p = n
+put-value-μ-loop old s names ends t lets told₀ x levels q out₀ made₀ rest v₀ n₀ p₀ told out made v n p = n
 
 put-value-returns : (t : ℕ) → put-value-lts.Need-returns (put-value-calls t) (put-value-at t) put-value.Post put-value-Inv-loop put-value-μ-loop
 put-value-returns t c = (λ ns e. value-none _ _ _ _ ns _ _ _ _ (c .if1 .taken), c .before .before .before .before .before .before .before .before .before .pre .1 .2)
+
+put-value-sub-rest : (t : ℕ) → put-value-lts.Need-sub-rest (put-value-calls t) (put-value-at t) put-value.Post put-value-Inv-loop put-value-μ-loop
+put-value-sub-rest t c = search needs
 
 put-value-word-requires : (t : ℕ) → put-value-lts.Need-word-requires (put-value-calls t) (put-value-at t) put-value.Post put-value-Inv-loop put-value-μ-loop
 put-value-word-requires t c κs = search needs
@@ -116,9 +119,6 @@ put-value-loop-holds t c = (refl, refl, refl, λ ns e. refl, c .before .before .
 
 put-value-put-test-requires : (t : ℕ) → put-value-lts.Need-put-test-requires (put-value-calls t) (put-value-at t) put-value.Post put-value-Inv-loop put-value-μ-loop
 put-value-put-test-requires t c κs = search needs
-
-put-value-sub-put-state-value : (t : ℕ) → put-value-lts.Need-sub-put-state-value (put-value-calls t) (put-value-at t) put-value.Post put-value-Inv-loop put-value-μ-loop
-put-value-sub-put-state-value t c = search needs
 
 put-value-put-state-value-requires : (t : ℕ) → put-value-lts.Need-put-state-value-requires (put-value-calls t) (put-value-at t) put-value.Post put-value-Inv-loop put-value-μ-loop
 put-value-put-state-value-requires t c κs = (omega (arith, c .before .before .before .before .before .before .before .before .before .before .before .before .before .before .if1 .left, c .before .before .before .before .before .before .before .before .before .before .before .before .before .before .before .before .before .before .before .before .before .before .before .pre .0), (c .before .before .before .before .before .before .before .before .before .before .before .before .before .before .before .before .before .before .before .before .before .before .before .pre .1 .0, c .before .before .before .before .before .before .before .before .before .before .before .before .before .before .before .before .before .before .before .before .before .before .before .pre .1 .1, c .before .before .before .before .before .before .before .before .before .before .before .loop .inv .4))
@@ -149,9 +149,6 @@ put-value-same-length-3 t c = search needs
 
 put-value-returns-2 : (t : ℕ) → put-value-lts.Need-returns-2 (put-value-calls t) (put-value-at t) put-value.Post put-value-Inv-loop put-value-μ-loop
 put-value-returns-2 t c = (λ ns e. values-none _ _ _ _ _ _ _ _ _ (c .if2 .taken) (c .before .before .loop .inv .3 ns e) ∙ value-some _ _ _ _ ns _ _ _ _ _ _ (c .before .before .before .before .before .if1 .left) (c .before .before .before .before .word .ensures) (c .before .before .before .first .ensures), c .before .before .loop .inv .4)
-
-put-value-sub-put-state-value-2 : (t : ℕ) → put-value-lts.Need-sub-put-state-value-2 (put-value-calls t) (put-value-at t) put-value.Post put-value-Inv-loop put-value-μ-loop
-put-value-sub-put-state-value-2 t c = search needs
 
 put-value-put-state-value-requires-2 : (t : ℕ) → put-value-lts.Need-put-state-value-requires-2 (put-value-calls t) (put-value-at t) put-value.Post put-value-Inv-loop put-value-μ-loop
 put-value-put-state-value-requires-2 t c κs = (omega (arith, c .before .before .before .before .before .before .before .before .if1 .left, c .before .before .before .before .before .before .before .before .before .before .before .before .before .before .before .before .before .pre .0), (c .before .before .before .before .before .before .before .before .before .before .before .before .before .before .before .before .before .pre .1 .0, c .before .before .before .before .before .before .before .before .before .before .before .before .before .before .before .before .before .pre .1 .1, c .before .before .before .before .before .loop .inv .4))
@@ -189,11 +186,11 @@ pub +put-state-value+put-value-spec : {M : Type 1} → statement M
     put-value-Inv-loop
     put-value-μ-loop
     (put-value-returns t)
+    (put-value-sub-rest t)
     (put-value-word-requires t)
     (put-value-first-requires t)
     (put-value-loop-holds t)
     (put-value-put-test-requires t)
-    (put-value-sub-put-state-value t)
     (put-value-put-state-value-requires t)
     (put-value-word-requires-2 t)
     (put-value-sub-left t)
@@ -204,7 +201,6 @@ pub +put-state-value+put-value-spec : {M : Type 1} → statement M
     (put-value-same-length-2 t)
     (put-value-same-length-3 t)
     (put-value-returns-2 t)
-    (put-value-sub-put-state-value-2 t)
     (put-value-put-state-value-requires-2 t)
     (put-value-same-length-4 t)
     (put-value-same-length-5 t)
