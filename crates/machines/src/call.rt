@@ -182,6 +182,64 @@ fn write_all(
     finish(names, &made, &out, w, output)
 }
 
+// The same, kept apart: a function that calls itself is not inlined, so that these buffers do not stand on the stack while
+// machines are judged. No pack is longer than the check allows.
+fn write_apart(
+    s: &[u8],
+    k: Pack,
+    spots: &[u16],
+    to: &[u16],
+    ends: &[u16],
+    t: &mut [usize],
+    reg: &mut [usize],
+    lets: &mut [u8],
+    mats: &[usize],
+    ats: &[usize],
+    regs: &[usize],
+    n: usize,
+    output: &mut [u8],
+) -> Outcome
+    requires { ⌜ (length (now s) ≤ 65536) × (n ≤ 65536) × Long (now t) (now reg) (now lets) × EndsRight (now s) (k .names) (now ends) ⌝ }
+    ensures { λ r. ⌜ ((ns : List Name) → length ns ≡ k .names → (old : List ℕ) → old ≡ tabled (table (sliceOf (now (s .entry)) 2 (k .enums - 2))) → (eqs ens : ℕ → List Item) → AllWrite old (equationsAt ns (now (s .entry)) (now (spots .entry)) (now (to .entry))) (now (mats .entry)) n eqs → AllWrite old (enumsAt ns (now (s .entry)) (now (spots .entry)) (now (to .entry))) (now (mats .entry)) n ens → Gives (answered (length (now (output .entry))) (sliceOf (now (s .entry)) 2 (k .enums - 2)) (render old (sectionsT ns (now (s .entry)) (now (mats .entry)) (now (ats .entry)) (now (regs .entry)) (now (spots .entry)) n eqs ens k) unwritten)) (r .number) (r .value) (now (output .entry)) (now (output .exit))) ⌝ }
+{
+    if Pack::BYTES < s.len() {
+        let r = write_apart(
+            &s[..65536],
+            k,
+            spots,
+            to,
+            ends,
+            t,
+            reg,
+            lets,
+            mats,
+            ats,
+            regs,
+            n,
+            output,
+        );
+        return Outcome {
+            number: r.number,
+            value: 0,
+        };
+    }
+    write_all(
+        s,
+        k,
+        spots,
+        to,
+        ends,
+        t,
+        reg,
+        lets,
+        mats,
+        ats,
+        regs,
+        n,
+        output,
+    )
+}
+
 // A pack whose sections stand where k says, by tables that are filled here.
 fn lower_opened(
     s: &[u8],
@@ -224,7 +282,7 @@ fn lower_opened(
             report,
         );
     }
-    write_all(
+    write_apart(
         s,
         k,
         spots,
