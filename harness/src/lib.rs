@@ -17,6 +17,7 @@ pub mod damage;
 pub mod decode;
 pub mod deep;
 pub mod encode;
+#[cfg(feature = "reference")]
 pub mod examples;
 pub mod gen;
 pub mod ground;
