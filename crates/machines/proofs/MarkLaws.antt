@@ -1,5 +1,5 @@
--- Marks of names: the steps that look for them, and that a name with another mark is another name.
-use Prim.Native.Nat.{ℕ, zero, suc, _+_, _-_, _%_, _≤_, _<_, min}
+-- Marks of names: the steps that make them, those that look for them, and that a name with another mark is another name.
+use Prim.Native.Nat.{ℕ, zero, suc, _+_, _-_, _*_, _≤_, _<_, min}
 use native.Mathlib.Numerals.{add-one}
 use native.Mathlib.Omega.{arith}
 use mathlib.Core.List.{List, [], _∷_, _++_}
@@ -8,21 +8,52 @@ use mathlib.Core.Logic.{⊎-elim}
 use mathlib.Core.Path.{_≡_, refl, sym, ap, _∙_}
 use lib.ListN.{length, getD, set, take, drop, drop-of-length-le, length-drop, length-set}
 use lib.Seq.{drop-cons, length-take-le, take-suc-set}
-use lib.Dec.{eqb}
-use borrow.Author.Tests.{eq-eqb, le-ltb, lt-ltb, ne-eqb}
+use lib.Dec.{eqb, leb, ltb}
+use borrow.Author.Tests.{eq-eqb, le-leb, le-ltb, lt-leb, lt-ltb, ne-eqb}
 use Rattle.wire.proofs.Writers.{lt-or-le}
 use Rattle.pack.specs.Names.{Name, eqName, member}
-use Rattle.pack.specs.Table.{hash}
 use Rattle.pack.specs.Write.{enc}
 use Rattle.pack.specs.Intern.{table, tableF}
-use Rattle.machines.specs.Marks.{Marks, among, markOf, marksOf, maybe}
+use Rattle.machines.specs.Marks.{Marks, among, markOf, marksOf, maybe, sideOf, walkF, walkOf}
 use Rattle.pack.proofs.Tables.{eqName-true}
 use Rattle.pack.proofs.TableIndex.{table-enc}
 use Rattle.machines.proofs.RepeatLaws.{enc-snoc}
 
-pub mark-is : (n : Name) (h : ℕ) → h ≡ hash n → h % 4294967296 ≡ markOf n
+-- a name's way: on one side of a test or the other, a step more, a leaf, no step left
+module _ (w : List ℕ) (n : Name) (v l : ℕ) (p x : ℕ) (e : p ≡ getD w (4 * v + 2) 0) (g : l ≡ getD w (4 * v + 3) 0) (h : x ≡ getD n p 0) where
+  letter : x ≡ getD n (getD w (4 * v + 2) 0) 0
+  letter = h ∙ ap (λ j. getD n j 0) e
+
+  pub side-low : x < l → 4 * v ≡ sideOf w n v
+  unfolding sideOf
+  side-low o = sym (ap (λ b. cond b (4 * v) (4 * v + 1)) (sym (λ j. ltb (letter j) (g j)) ∙ lt-ltb x l o))
+
+  pub side-high : l ≤ x → 4 * v + 1 ≡ sideOf w n v
+  unfolding sideOf
+  side-high o = sym (ap (λ b. cond b (4 * v) (4 * v + 1)) (sym (λ j. ltb (letter j) (g j)) ∙ le-ltb x l o))
+
+module _ (w : List ℕ) (n : Name) (f i v z : ℕ) (e : v ≡ getD w i 0) where
+  walk-step : 0 < f → walkF f w n i ≡ cond (leb 512 v) i (walkF (f - 1) w n (sideOf w n v))
+  unfolding walkF
+  walk-step l = (let s : f ≡ suc (f - 1) = omega arith in ap (λ y. walkF y w n i) s) ∙ ap (λ y. cond (leb 512 y) i (walkF (f - 1) w n (sideOf w n y))) (sym e)
+
+  pub walk-leaf : 0 < f → 512 ≤ v → walkF f w n i ≡ z → i ≡ z
+  walk-leaf l h d = sym (walk-step l ∙ ap (λ b. cond b i (walkF (f - 1) w n (sideOf w n v))) (le-leb 512 v h)) ∙ d
+
+  pub walk-more : (j : ℕ) → 0 < f → v < 512 → j ≡ sideOf w n v → walkF f w n i ≡ z → walkF (f - 1) w n j ≡ z
+  walk-more j l h s d = ap (walkF (f - 1) w n) s ∙ sym (walk-step l ∙ ap (λ b. cond b i (walkF (f - 1) w n (sideOf w n v))) (lt-leb 512 v h)) ∙ d
+
+pub walk-end : (w : List ℕ) (n : Name) (f i z : ℕ) → f ≤ 0 → walkF f w n i ≡ z → i ≡ z
+unfolding walkF
+walk-end w n f i z l d = sym (let s : f ≡ 0 = omega arith in ap (λ y. walkF y w n i) s) ∙ d
+
+pub walk-start : (w : List ℕ) (n : Name) → walkF 512 w n 0 ≡ walkOf w n
+unfolding walkOf
+walk-start w n = refl
+
+pub mark-is : (w : List ℕ) (n : Name) (i m : ℕ) → i ≡ walkOf w n → m ≡ getD w i 0 → m ≡ markOf w n
 unfolding markOf
-mark-is n h e = ap (λ (x : ℕ). x % 4294967296) e
+mark-is w n i m e g = g ∙ ap (λ j. getD w j 0) e
 
 -- the search among marks, with whether it was met so far: one more, none left
 module _ (ms : List ℕ) (m i : ℕ) (hit z : Bool) where
@@ -65,37 +96,37 @@ or-none : (a b : Bool) → (a || b) ≡ false → (a ≡ false) × (b ≡ false)
 or-none true b e = absurd (let y : _≡_ {A = ℕ} 1 0 = ap (λ c. cond c 1 0) e in omega arith)
 or-none false b e = (refl, e)
 
-other-name : (n m : Name) → eqb (markOf m) (markOf n) ≡ false → eqName n m ≡ false
-other-name n m e = go (eqName n m) refl
+other-name : (w : List ℕ) (n m : Name) → eqb (markOf w m) (markOf w n) ≡ false → eqName n m ≡ false
+other-name w n m e = go (eqName n m) refl
   where
     go : (b : Bool) → eqName n m ≡ b → b ≡ false
-    go true h = sym (eq-eqb (markOf m) (markOf n) (ap markOf (sym (eqName-true n m h)))) ∙ e
+    go true h = sym (eq-eqb (markOf w m) (markOf w n) (ap (markOf w) (sym (eqName-true n m h)))) ∙ e
     go false h = refl
 
-unmarked : (n : Name) (ns : List Name) → among (markOf n) (marksOf ns) ≡ false → member n ns ≡ false
+unmarked : (w : List ℕ) (n : Name) (ns : List Name) → among (markOf w n) (marksOf w ns) ≡ false → member n ns ≡ false
 unfolding among marksOf member
-unmarked n [] e = refl
-unmarked n (m ∷ ms) e =
-    let o = or-none (eqb (markOf m) (markOf n)) (among (markOf n) (marksOf ms)) e in
-    ap (λ b. b || member n ms) (other-name n m (o .0)) ∙ unmarked n ms (o .1)
+unmarked w n [] e = refl
+unmarked w n (m ∷ ms) e =
+    let o = or-none (eqb (markOf w m) (markOf w n)) (among (markOf w n) (marksOf w ms)) e in
+    ap (λ b. b || member n ms) (other-name w n m (o .0)) ∙ unmarked w n ms (o .1)
 
-pub unmarked-out : (t n ms : List ℕ) (k m : ℕ) (r : Bool) → (m ≡ markOf n) × Marks ms k t → r ≡ maybe ms k m → r ≡ false → false ≡ member n (table t)
+pub unmarked-out : (w t n ms : List ℕ) (k m : ℕ) (r : Bool) → m ≡ markOf w n → Marks w ms k t → r ≡ maybe ms k m → r ≡ false → false ≡ member n (table t)
 unfolding maybe Marks
-unmarked-out t n ms k m r (e, h) p g = ⊎-elim (λ (l : length ms < k). over l) (λ (l : k ≤ length ms). within l) (lt-or-le (length ms) k)
+unmarked-out w t n ms k m r e h p g = ⊎-elim (λ (l : length ms < k). over l) (λ (l : k ≤ length ms). within l) (lt-or-le (length ms) k)
   where
     over : length ms < k → false ≡ member n (table t)
     over l = sym (or-none true (member n (table t)) (ap (λ b. cond b true (among m (take k ms))) (sym (lt-ltb (length ms) k l)) ∙ sym p ∙ g) .1)
 
     within : k ≤ length ms → false ≡ member n (table t)
-    within l = sym (unmarked n (table t) (sym (λ j. among (e j) (h l j)) ∙ ap (λ b. cond b true (among m (take k ms))) (sym (le-ltb (length ms) k l)) ∙ sym p ∙ g))
+    within l = sym (unmarked w n (table t) (sym (λ j. among (e j) (h l j)) ∙ ap (λ b. cond b true (among m (take k ms))) (sym (le-ltb (length ms) k l)) ∙ sym p ∙ g))
 
 -- what the search for a name that stands again knows: the bytes before are whole names, and their marks are kept
-abbrev pub Kept : List ℕ → ℕ → ℕ → List ℕ → Type 0
-Kept t at k ms = at < length t → (take at t ≡ enc (table (take at t))) × Marks ms k (take at t)
+abbrev pub Kept : List ℕ → List ℕ → ℕ → ℕ → List ℕ → Type 0
+Kept w t at k ms = at < length t → (take at t ≡ enc (table (take at t))) × Marks w ms k (take at t)
 
-pub kept-start : (t ms : List ℕ) → Kept t 0 0 ms
+pub kept-start : (w t ms : List ℕ) → Kept w t 0 0 ms
 unfolding Marks marksOf table tableF enc
-kept-start t ms l = (refl, λ h. refl)
+kept-start w t ms l = (refl, λ h. refl)
 
 -- a name more: its bytes, with the length byte before them
 cut : (n a : ℕ) (t : List ℕ) → a < length t → n ≤ length t - (a + 1) → take (a + 1 + n) t ≡ take a t ++ (getD t a 0 ∷ take n (drop (a + 1) t))
@@ -106,12 +137,12 @@ cut n (suc a) (x ∷ xs) l h = ap (λ j. take j (x ∷ xs)) (let e : suc a + 1 +
     ∙ ap (λ (r : List ℕ). x ∷ r) (cut n a xs (omega arith) (omega arith))
     ∙ ap (λ j. x ∷ (take a xs ++ (getD xs a 0 ∷ take n (drop j (x ∷ xs))))) (let e : suc (a + 1) ≡ suc a + 1 = omega arith in e)
 
-marks-snoc : (ns : List Name) (n : Name) → marksOf (ns ++ (n ∷ [])) ≡ marksOf ns ++ (markOf n ∷ [])
+marks-snoc : (w : List ℕ) (ns : List Name) (n : Name) → marksOf w (ns ++ (n ∷ [])) ≡ marksOf w ns ++ (markOf w n ∷ [])
 unfolding marksOf
-marks-snoc [] n = refl
-marks-snoc (m ∷ ms) n = ap (λ (l : List ℕ). markOf m ∷ l) (marks-snoc ms n)
+marks-snoc w [] n = refl
+marks-snoc w (m ∷ ms) n = ap (λ (l : List ℕ). markOf w m ∷ l) (marks-snoc w ms n)
 
-module _ (t ms ns : List ℕ) (at e k m : ℕ) (h : at < length t) (p : e ≡ min (at + 1 + getD t at 0) (length t)) (q : m ≡ markOf (take (e - (at + 1)) (drop (at + 1) t))) (w : ns ≡ set ms k m) where
+module _ (w t ms ns : List ℕ) (at e k : ℕ) (h : at < length t) (p : e ≡ min (at + 1 + getD t at 0) (length t)) (q : ns ≡ set ms k (markOf w (take (e - (at + 1)) (drop (at + 1) t)))) where
   word : Name
   word = take (e - (at + 1)) (drop (at + 1) t)
 
@@ -129,18 +160,18 @@ module _ (t ms ns : List ℕ) (at e k m : ℕ) (h : at < length t) (p : e ≡ mi
   names : e < length t → take at t ≡ enc (table (take at t)) → table (take e t) ≡ table (take at t) ++ (word ∷ [])
   names l g = ap table (more l g) ∙ table-enc (table (take at t) ++ (word ∷ []))
 
-  pub kept-more : Kept t at k ms → Kept t e (k + 1) ns
+  pub kept-more : Kept w t at k ms → Kept w t e (k + 1) ns
   unfolding Marks word
   kept-more d l =
       let g = d h .0 in
       let n = names l g in (
         more l g ∙ ap enc (sym n),
         λ r.
-            let s : k < length ms = omega (arith, ap length w, length-set ms k m) in
-            ap (λ (x : List ℕ). take (k + 1) x) w
-            ∙ ap (λ j. take j (set ms k m)) (add-one k)
-            ∙ take-suc-set ms k m s
-            ∙ (λ j. d h .1 (omega arith) j ++ (q j ∷ []))
-            ∙ sym (marks-snoc (table (take at t)) word)
-            ∙ ap marksOf (sym n),
+            let s : k < length ms = omega (arith, ap length q, length-set ms k (markOf w word)) in
+            ap (λ (x : List ℕ). take (k + 1) x) q
+            ∙ ap (λ j. take j (set ms k (markOf w word))) (add-one k)
+            ∙ take-suc-set ms k (markOf w word) s
+            ∙ ap (λ (x : List ℕ). x ++ (markOf w word ∷ [])) (d h .1 (omega arith))
+            ∙ sym (marks-snoc w (table (take at t)) word)
+            ∙ ap (marksOf w) (sym n),
       )

@@ -1,21 +1,36 @@
--- Marks of names: a number made of a name's bytes, so that names whose marks differ differ.
-use Prim.Native.Nat.{ℕ, _%_, _≤_}
+-- Marks of names: a number that a tree of tests gives a name, so that names whose marks differ differ.
+use Prim.Native.Nat.{ℕ, zero, suc, _+_, _*_, _≤_}
 use mathlib.Core.List.{List, [], _∷_}
 use mathlib.Core.Bool.{Bool, true, false, cond, _||_}
 use mathlib.Core.Path.{_≡_}
-use lib.ListN.{length, take}
-use lib.Dec.{eqb, ltb}
+use lib.ListN.{length, getD, take}
+use lib.Dec.{eqb, leb, ltb}
 use Rattle.pack.specs.Names.{Name}
-use Rattle.pack.specs.Table.{hash}
 use Rattle.pack.specs.Intern.{table}
 
--- a name's mark: half of the number by which pack's tables find it
-unfoldable pub markOf : Name → ℕ
-markOf n = hash n % 4294967296
+-- A tree has four words for each test: what follows where a name's letter is below the test's and where it is not, the letter's place
+-- and the letter. What follows is a test, or a leaf from 512 on. The first word is where all names begin.
 
-unfoldable pub marksOf : List Name → List ℕ
-marksOf [] = []
-marksOf (n ∷ ns) = markOf n ∷ marksOf ns
+-- the word to which a name goes from a test; a letter past the end is 0
+unfoldable pub sideOf : List ℕ → Name → ℕ → ℕ
+sideOf w n v = cond (ltb (getD n (getD w (4 * v + 2) 0) 0) (getD w (4 * v + 3) 0)) (4 * v) (4 * v + 1)
+
+-- the word at which its way from the word i ends; the first number bounds the steps
+unfoldable pub walkF : ℕ → List ℕ → Name → ℕ → ℕ
+walkF zero w n i = i
+walkF (suc f) w n i = cond (leb 512 (getD w i 0)) i (walkF f w n (sideOf w n (getD w i 0)))
+
+-- the same from the first word: no way is longer than there are tests
+unfoldable pub walkOf : List ℕ → Name → ℕ
+walkOf w n = walkF 512 w n 0
+
+-- a name's mark: the leaf at which its way ends
+unfoldable pub markOf : List ℕ → Name → ℕ
+markOf w n = getD w (walkOf w n) 0
+
+unfoldable pub marksOf : List ℕ → List Name → List ℕ
+marksOf w [] = []
+marksOf w (n ∷ ns) = markOf w n ∷ marksOf w ns
 
 -- whether a mark is among marks
 unfoldable pub among : ℕ → List ℕ → Bool
@@ -26,6 +41,6 @@ among m (x ∷ xs) = eqb x m || among m xs
 unfoldable pub maybe : List ℕ → ℕ → ℕ → Bool
 maybe marks k m = cond (ltb (length marks) k) true (among m (take k marks))
 
--- the first k marks are those of a table's names, where there is room for so many
-unfoldable pub Marks : List ℕ → ℕ → List ℕ → Type 0
-Marks marks k t = k ≤ length marks → take k marks ≡ marksOf (table t)
+-- the first k marks are those of a table's names by a tree, where there is room for so many
+unfoldable pub Marks : List ℕ → List ℕ → ℕ → List ℕ → Type 0
+Marks w marks k t = k ≤ length marks → take k marks ≡ marksOf w (table t)

@@ -1,12 +1,13 @@
 // The first name of a table that stood before it.
+use crate::marks::grow;
 use crate::marks::mark;
 use crate::marks::may_be;
-use crate::marks::put_mark;
+use crate::marks::put_word;
 use pack::intern::Found;
 use pack::intern::find_name;
 use wire::writer::capped;
 ghost use mathlib.Core.Path.{_≡_};
-ghost use lib.ListN.{take};
+ghost use lib.ListN.{set, take};
 ghost use Rattle.pack.specs.Names.{member};
 ghost use Rattle.pack.specs.Intern.{table};
 ghost use Rattle.machines.specs.Repeats.{againAt};
@@ -23,21 +24,23 @@ fn stands_in(t: &[u8], n: &[u8]) -> bool
     }
 }
 
-// The same where the marks of the table's names are known, and m is the name's own.
-fn stands_marked(t: &[u8], n: &[u8], marks: &[u32], k: usize, m: u32) -> bool
-    requires { ⌜ (m ≡ markOf (now n)) × Marks (now marks) k (now t) ⌝ }
-    ensures { λ r. ⌜ r ≡ member (now (n .entry)) (table (now (t .entry))) ⌝ }
+// The same where k marks of the table's names by some tree are known. The name's own comes next.
+fn stands_marked(t: &[u8], n: &[u8], tree: &[u32], marks: &mut [u32], k: usize) -> bool
+    requires { ⌜ Marks (now tree) (now marks) k (now t) ⌝ }
+    ensures { λ r. ⌜ (r ≡ member (now (n .entry)) (table (now (t .entry)))) × (now (marks .exit) ≡ set (now (marks .entry)) k (markOf (now (tree .entry)) (now (n .entry)))) ⌝ }
 {
-    if may_be(marks, k, m) {
-        stands_in(t, n)
-    } else {
-        false
+    let m = mark(tree, n);
+    let hit = may_be(marks, k, m);
+    put_word(marks, k, m);
+    if hit {
+        return stands_in(t, n);
     }
+    false
 }
 
-// Where the first name stands that stood before; the table's length where there is none. The marks of names are kept in
+// Where the first name stands that stood before; the table's length where there is none. The marks of names by a tree are kept in
 // `marks`, as many as there is room for.
-fn first_again(t: &[u8], marks: &mut [u32]) -> usize
+fn first_again(t: &[u8], tree: &[u32], marks: &mut [u32]) -> usize
     ensures { λ r. ⌜ r ≡ againAt (now (t .entry)) ⌝ }
 {
     let mut at = 0;
@@ -46,11 +49,9 @@ fn first_again(t: &[u8], marks: &mut [u32]) -> usize
         let b = at + 1;
         let l = t[at] as usize;
         let e = capped(t.len(), b, l);
-        let m = mark(&t[b..e]);
-        if stands_marked(&t[..at], &t[b..e], marks, k, m) {
+        if stands_marked(&t[..at], &t[b..e], tree, marks, k) {
             return at;
         }
-        put_mark(marks, k, m);
         at = e;
         k += 1;
     }
@@ -62,6 +63,8 @@ pub fn repeated_name(lets: &[u8], end: usize) -> usize
     ensures { λ r. ⌜ r ≡ againAt (take end (now (lets .entry))) ⌝ }
 {
     let e = capped(lets.len(), 0, end);
+    let mut tree = [0u32; 2048];
     let mut marks = [0u32; 512];
-    first_again(&lets[..e], &mut marks)
+    grow(&lets[..e], &mut tree);
+    first_again(&lets[..e], &tree, &mut marks)
 }
