@@ -121,7 +121,7 @@ fn last(l: usize, k: usize) -> usize
 }
 
 // The bits by which a name goes down its tree. The products of the two halves do not wait for each other.
-pub fn hash(n: &[u8]) -> usize
+fn hash(n: &[u8]) -> usize
     ensures { λ r. ⌜ r ≡ hashOf (now (n .entry)) ⌝ }
 {
     let l = n.len();

@@ -6,7 +6,6 @@ use lib.Seq.{length-take-le}
 use Rattle.machines.specs.Repeats.{againAt, againF}
 use Rattle.machines.proofs.RepeatLaws.{again-end, again-here, again-past-it, again-start}
 use Rattle.machines.proofs.MarkLaws.{Kept, kept-more, kept-start}
-use borrow.Author.Needs.{needs}
 use Rattle.machines.proofs.repeats.first_again.Statement.{statement}
 use Rattle.machines.proofs.repeats.first_again.Tie as tie
 
