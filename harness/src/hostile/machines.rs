@@ -282,17 +282,26 @@ pub fn outputs_in_turn(outputs: usize, equations: usize) -> Package {
     b.done()
 }
 
-/// So many machines that each refine one of 511 states whose full names have one number in the index; their initial
-/// state is not there.
-pub fn one_number(count: usize) -> Package {
+/// So many machines with a state of the name `holder` that refines one of 511 states; their initial state is not there.
+fn refused_copies(count: usize, holder: &str, names: impl Iterator<Item = String>) -> Package {
     let mut b = Builder::new();
-    let holder = "p".repeat(231);
-    let [big, y, x] = ["B", "y", &holder].map(|n| b.name(n));
-    let names = special::of_one_number(format!("{holder}_").as_bytes()).take(511);
-    let states: Vec<State> = names.map(|n| state(b.name(&n))).collect();
+    let [big, y, x] = ["B", "y", holder].map(|n| b.name(n));
+    let states: Vec<State> = names.take(511).map(|n| state(b.name(&n))).collect();
     b.p.machines.push(machine(big, states[0].name, states));
     b.p.machines.extend(vec![machine(y, y, vec![refining(x, big)]); count]);
     b.done()
+}
+
+/// Full names that have one number in the index.
+pub fn one_number(count: usize) -> Package {
+    let holder = "p".repeat(231);
+    refused_copies(count, &holder, special::of_one_number(format!("{holder}_").as_bytes()))
+}
+
+/// Names of which each has one letter more of those that the next begins with: a tree of tests of letters is a chain.
+pub fn rising(count: usize) -> Package {
+    let names = (0..).map(|k| format!("{}{}{}", "9".repeat(k / 9), k % 9, "0".repeat(56 - k / 9)));
+    refused_copies(count, &"p".repeat(190), names)
 }
 
 /// Packs at the limits of lowering machines.
@@ -354,6 +363,7 @@ pub fn costly() -> Vec<Hostile> {
         ("ring of 2,300 machines", ring(2_300)),
         ("511 states, 100 machines refused", large_copies(100, true)),
         ("511 long names of one number, 500 machines refused", one_number(500)),
+        ("511 names of rising letters, 500 machines refused", rising(500)),
         ("two outputs in turn, 10,000 times, refused", outputs_in_turn(10_000, 6_000)),
         ("511 states, 2,000 machines", large_copies(2_000, false)),
         ("12,000 regions without states", empty_regions(12_000)),
