@@ -1,5 +1,5 @@
 -- Marks of names: the steps that make them, those that look for them, and that a name with another mark is another name.
-use Prim.Native.Nat.{ℕ, zero, suc, _+_, _-_, _*_, _≤_, _<_, min}
+use Prim.Native.Nat.{ℕ, zero, suc, _+_, _-_, _*_, _/_, _%_, _≤_, _<_, min}
 use native.Mathlib.Numerals.{add-one}
 use native.Mathlib.Omega.{arith}
 use mathlib.Core.List.{List, [], _∷_, _++_}
@@ -14,7 +14,7 @@ use Rattle.wire.proofs.Writers.{lt-or-le}
 use Rattle.pack.specs.Names.{Name, eqName, member}
 use Rattle.pack.specs.Write.{enc}
 use Rattle.pack.specs.Intern.{table, tableF}
-use Rattle.machines.specs.Marks.{Marks, among, markOf, marksOf, maybe, sideOf, walkF, walkOf}
+use Rattle.machines.specs.Marks.{Marks, among, headOf, letterOf, markOf, marksOf, maybe, sideOf, walkF, walkOf}
 use Rattle.pack.proofs.Tables.{eqName-true}
 use Rattle.pack.proofs.TableIndex.{table-enc}
 use Rattle.machines.proofs.RepeatLaws.{enc-snoc}
@@ -47,9 +47,23 @@ pub walk-end : (w : List ℕ) (n : Name) (f i z : ℕ) → f ≤ 0 → walkF f w
 unfolding walkF
 walk-end w n f i z l d = sym (let s : f ≡ 0 = omega arith in ap (λ y. walkF y w n i) s) ∙ d
 
-pub walk-start : (w : List ℕ) (n : Name) → walkF 512 w n 0 ≡ walkOf w n
+pub walk-start : (w : List ℕ) (n : Name) (i : ℕ) → i ≡ headOf n → walkF 512 w n i ≡ walkOf w n
 unfolding walkOf
-walk-start w n = refl
+walk-start w n i e = ap (walkF 512 w n) e
+
+-- its head
+pub letter-near : (n : Name) (k x : ℕ) → x ≡ getD n (length n - k) 0 → x ≡ letterOf n k
+unfolding letterOf
+letter-near n k x e = e
+
+pub letter-far : (n : Name) (k x : ℕ) → length n ≤ k → x ≡ getD n 0 0 → x ≡ letterOf n k
+unfolding letterOf
+letter-far n k x l e = e ∙ (let z : 0 ≡ length n - k = omega arith in ap (λ i. getD n i 0) z)
+
+pub head-is : (n : Name) (a b c d e f : ℕ) → a ≡ letterOf n 1 → b ≡ letterOf n 2 → c ≡ letterOf n 3 → d ≡ letterOf n (length n / 2) → e ≡ letterOf n (length n / 4 * 3) → f ≡ letterOf n (length n)
+    → 2048 + (length n % 512 + (a + 3 * b + 29 * c) + (67 * d + 101 * e + 149 * f)) % 512 ≡ headOf n
+unfolding headOf
+head-is n a b c d e f x y z u v w = λ i. 2048 + (length n % 512 + (x i + 3 * y i + 29 * z i) + (67 * u i + 101 * v i + 149 * w i)) % 512
 
 pub mark-is : (w : List ℕ) (n : Name) (i m : ℕ) → i ≡ walkOf w n → m ≡ getD w i 0 → m ≡ markOf w n
 unfolding markOf

@@ -1,5 +1,5 @@
 -- Marks of names: a number that a tree of tests gives a name, so that names whose marks differ differ.
-use Prim.Native.Nat.{ℕ, zero, suc, _+_, _*_, _≤_}
+use Prim.Native.Nat.{ℕ, zero, suc, _+_, _*_, _-_, _/_, _%_, _≤_}
 use mathlib.Core.List.{List, [], _∷_}
 use mathlib.Core.Bool.{Bool, true, false, cond, _||_}
 use mathlib.Core.Path.{_≡_}
@@ -9,7 +9,20 @@ use Rattle.pack.specs.Names.{Name}
 use Rattle.pack.specs.Intern.{table}
 
 -- A tree has four words for each test: what follows where a name's letter is below the test's and where it is not, the letter's place
--- and the letter. What follows is a test, or a leaf from 512 on. The first word is where all names begin.
+-- and the letter. What follows is a test, or a leaf from 512 on. After 512 tests come 512 heads, at which names begin.
+
+-- the letter of a name that is the k-th from its end; the first where it is shorter
+unfoldable pub letterOf : Name → ℕ → ℕ
+letterOf n k = getD n (length n - k) 0
+
+-- the head of a name: any function of it would do, and the better names are spread by it the shorter are their ways
+unfoldable pub headOf : Name → ℕ
+headOf n =
+    2048
+    + (length n % 512
+    + (letterOf n 1 + 3 * letterOf n 2 + 29 * letterOf n 3)
+    + (67 * letterOf n (length n / 2) + 101 * letterOf n (length n / 4 * 3) + 149 * letterOf n (length n)))
+    % 512
 
 -- the word to which a name goes from a test; a letter past the end is 0
 unfoldable pub sideOf : List ℕ → Name → ℕ → ℕ
@@ -20,9 +33,9 @@ unfoldable pub walkF : ℕ → List ℕ → Name → ℕ → ℕ
 walkF zero w n i = i
 walkF (suc f) w n i = cond (leb 512 (getD w i 0)) i (walkF f w n (sideOf w n (getD w i 0)))
 
--- the same from the first word: no way is longer than there are tests
+-- the same from its head: no way is longer than there are tests
 unfoldable pub walkOf : List ℕ → Name → ℕ
-walkOf w n = walkF 512 w n 0
+walkOf w n = walkF 512 w n (headOf n)
 
 -- a name's mark: the leaf at which its way ends
 unfoldable pub markOf : List ℕ → Name → ℕ

@@ -1,12 +1,12 @@
 // Marks of names, by which names that differ are told apart without a look at all of their bytes: the leaf to which a tree of tests
-// leads a name. A test looks at one letter. The tree is grown from the names, so that each has a leaf of its own, whatever names they
-// are; no contract says so, since a mark is a function of the name for any tree.
+// leads a name from its head. A test looks at one letter. Trees are grown from the names, so that each has a leaf of its own, whatever
+// names they are; no contract says so, since a mark is a function of the name for any trees.
 use crate::table::byte;
 use wire::writer::capped;
 ghost use mathlib.Core.Path.{_≡_};
 ghost use Prim.Native.Nat.{_≤_, _<_};
 ghost use lib.ListN.{getD, length, set};
-ghost use Rattle.machines.specs.Marks.{among as isAmong, markOf, maybe, sideOf, walkOf};
+ghost use Rattle.machines.specs.Marks.{among as isAmong, headOf, letterOf, markOf, maybe, sideOf, walkOf};
 
 // 0 past the end.
 fn word(w: &[u32], i: usize) -> u32
@@ -37,12 +37,32 @@ fn side(tree: &[u32], n: &[u8], v: u32) -> usize
     r + 1
 }
 
+// The letter of a name that is the k-th from its end; the first where it is shorter.
+fn letter(n: &[u8], k: usize) -> usize
+    ensures { λ r. ⌜ (r ≡ letterOf (now (n .entry)) k) × (r < 256) ⌝ }
+{
+    if k < n.len() {
+        return byte(n, n.len() - k);
+    }
+    byte(n, 0)
+}
+
+// The word at which the way of a name begins, by its length and some of its letters.
+fn head(n: &[u8]) -> usize
+    ensures { λ r. ⌜ r ≡ headOf (now (n .entry)) ⌝ }
+{
+    let l = n.len();
+    let a = letter(n, 1) + 3 * letter(n, 2) + 29 * letter(n, 3);
+    let b = 67 * letter(n, l / 2) + 101 * letter(n, l / 4 * 3) + 149 * letter(n, l);
+    2048 + (l % 512 + a + b) % 512
+}
+
 // The word at which the way of a name ends.
 fn walk(tree: &[u32], n: &[u8]) -> usize
     ensures { λ r. ⌜ r ≡ walkOf (now (tree .entry)) (now (n .entry)) ⌝ }
 {
     let mut f: usize = 512;
-    let mut i = 0;
+    let mut i = head(n);
     while 0 < f {
         let v = word(tree, i);
         if 512 <= v {
@@ -100,7 +120,8 @@ fn put_split(tree: &mut [u32], k: u32, m: &[u8], old: u32, n: &[u8], new: u32) -
     false
 }
 
-// A leaf for the name of t from `at` to e, by the test k, beside the one to which it is led; which test comes next.
+// A leaf for the name of t from `at` to e: the first at its head, or by the test k beside the one to which it is led; which test comes
+// next.
 fn put_leaf(t: &[u8], at: usize, e: usize, tree: &mut [u32], k: u32) -> u32
     requires { ⌜ (at < e) × (e ≤ length (now t)) ⌝ }
 {
@@ -110,13 +131,17 @@ fn put_leaf(t: &[u8], at: usize, e: usize, tree: &mut [u32], k: u32) -> u32
     let b = at + 1;
     let i = walk(tree, &t[b..e]);
     let old = word(tree, i);
+    let new = (1048576 + at % 1048576) as u32;
+    if old < 1048576 {
+        put_word(tree, head(&t[b..e]), new);
+        return k;
+    }
     let o = old as usize % 1048576;
     if t.len() <= o {
         return k;
     }
     let c = o + 1;
     let z = capped(t.len(), c, t[o] as usize);
-    let new = (1048576 + at % 1048576) as u32;
     if put_split(tree, k, &t[c..z], old, &t[b..e], new) {
         put_word(tree, i, k);
         return k + 1;
@@ -124,9 +149,10 @@ fn put_leaf(t: &[u8], at: usize, e: usize, tree: &mut [u32], k: u32) -> u32
     k
 }
 
-// A tree that tells the names of t apart, where there is room for it.
+// A tree that tells the names of t apart, where there is room for it. A head that is free leads through the test 0 to a leaf that no
+// name has.
 pub fn grow(t: &[u8], tree: &mut [u32]) {
-    put_word(tree, 0, 1048576);
+    put_word(tree, 1, 512);
     let mut at = 0;
     let mut k: u32 = 1;
     while at < t.len() {

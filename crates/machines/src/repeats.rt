@@ -63,7 +63,7 @@ pub fn repeated_name(lets: &[u8], end: usize) -> usize
     ensures { λ r. ⌜ r ≡ againAt (take end (now (lets .entry))) ⌝ }
 {
     let e = capped(lets.len(), 0, end);
-    let mut tree = [0u32; 2048];
+    let mut tree = [0u32; 2560];
     let mut marks = [0u32; 512];
     grow(&lets[..e], &mut tree);
     first_again(&lets[..e], &tree, &mut marks)

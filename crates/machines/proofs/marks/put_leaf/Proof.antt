@@ -25,14 +25,41 @@ walk-requires c κs = search needs
 word-requires : tie.Need-word-requires
 word-requires c κs = search needs
 
-cast-o : tie.Need-cast-o
-cast-o c = search needs
+add-new : tie.Need-add-new
+add-new c = search needs
+
+cast-new : tie.Need-cast-new
+cast-new c = search needs
+
+sub-head : tie.Need-sub-head
+sub-head c = search needs
+
+part-head-start : tie.Need-part-head-start
+part-head-start c = search needs
+
+part-head-end : tie.Need-part-head-end
+part-head-end c = search needs
+
+head-requires : tie.Need-head-requires
+head-requires c κs = search needs
+
+put-word-requires : tie.Need-put-word-requires
+put-word-requires c κs = search needs
 
 same-length : tie.Need-same-length
 same-length c = search needs
 
 returns-2 : tie.Need-returns-2
 returns-2 c = search needs
+
+cast-o : tie.Need-cast-o
+cast-o c = search needs
+
+same-length-2 : tie.Need-same-length-2
+same-length-2 c = search needs
+
+returns-3 : tie.Need-returns-3
+returns-3 c = search needs
 
 add-c : tie.Need-add-c
 add-c c = search needs
@@ -41,16 +68,10 @@ shared-slice-read-capped : tie.Need-shared-slice-read-capped
 shared-slice-read-capped c = search needs
 
 cast-capped : tie.Need-cast-capped
-cast-capped c = omega (arith, c .shared-slice-known2 .given (c .before .before .word .result % 1048576))
+cast-capped c = omega (arith, c .shared-slice-known2 .given (c .before .before .before .word .result % 1048576))
 
 capped-requires : tie.Need-capped-requires
 capped-requires c κs = search needs
-
-add-new : tie.Need-add-new
-add-new c = search needs
-
-cast-new : tie.Need-cast-new
-cast-new c = search needs
 
 sub-put-split : tie.Need-sub-put-split
 sub-put-split c = search needs
@@ -73,23 +94,23 @@ part-put-split-end-2 c = search needs
 put-split-requires : tie.Need-put-split-requires
 put-split-requires c κs = search needs
 
-put-word-requires : tie.Need-put-word-requires
-put-word-requires c κs = search needs
+put-word-requires-2 : tie.Need-put-word-requires-2
+put-word-requires-2 c κs = search needs
 
 add-result : tie.Need-add-result
 add-result c = search needs
-
-same-length-2 : tie.Need-same-length-2
-same-length-2 c = search needs
-
-returns-3 : tie.Need-returns-3
-returns-3 c = search needs
 
 same-length-3 : tie.Need-same-length-3
 same-length-3 c = search needs
 
 returns-4 : tie.Need-returns-4
 returns-4 c = search needs
+
+same-length-4 : tie.Need-same-length-4
+same-length-4 c = search needs
+
+returns-5 : tie.Need-returns-5
+returns-5 c = search needs
 
 pub put-leaf-spec : {M : Type 1} → statement M
 put-leaf-spec =
@@ -102,15 +123,22 @@ put-leaf-spec =
     part-walk-end
     walk-requires
     word-requires
-    cast-o
+    add-new
+    cast-new
+    sub-head
+    part-head-start
+    part-head-end
+    head-requires
+    put-word-requires
     same-length
     returns-2
+    cast-o
+    same-length-2
+    returns-3
     add-c
     shared-slice-read-capped
     cast-capped
     capped-requires
-    add-new
-    cast-new
     sub-put-split
     part-put-split-start
     part-put-split-end
@@ -118,9 +146,9 @@ put-leaf-spec =
     part-put-split-start-2
     part-put-split-end-2
     put-split-requires
-    put-word-requires
+    put-word-requires-2
     add-result
-    same-length-2
-    returns-3
     same-length-3
-    returns-4)
+    returns-4
+    same-length-4
+    returns-5)

@@ -11,8 +11,11 @@ Inv-loop tree n f₀ i₀ f i = walkF f tree n i ≡ walkOf tree n
 abbrev μ-loop : tie.MeasureT-loop
 μ-loop tree n f₀ i₀ f i = f
 
+head-requires : tie.Need-head-requires Inv-loop μ-loop
+head-requires c κs = search needs
+
 loop-holds : tie.Need-loop-holds Inv-loop μ-loop
-loop-holds c = walk-start _ _
+loop-holds c = walk-start _ _ _ (c .head .ensures)
 
 word-requires : tie.Need-word-requires Inv-loop μ-loop
 word-requires c κs = search needs
@@ -41,6 +44,7 @@ walk-spec =
     (tie.spec
     Inv-loop
     μ-loop
+    head-requires
     loop-holds
     word-requires
     returns
