@@ -1,17 +1,17 @@
 // The first name of a table that stood before it.
-use crate::marks::grow;
-use crate::marks::mark;
+use crate::marks::Mark;
+use crate::marks::mark_of;
 use crate::marks::may_be;
-use crate::marks::put_word;
+use crate::marks::put_half;
 use pack::intern::Found;
 use pack::intern::find_name;
 use wire::writer::capped;
 ghost use mathlib.Core.Path.{_≡_};
-ghost use lib.ListN.{set, take};
+ghost use lib.ListN.{take};
 ghost use Rattle.pack.specs.Names.{member};
 ghost use Rattle.pack.specs.Intern.{table};
 ghost use Rattle.machines.specs.Repeats.{againAt};
-ghost use Rattle.machines.specs.Marks.{Marks, markOf};
+ghost use Rattle.machines.specs.Marks.{Halves, highOf, lowOf};
 
 // Whether a name is in a table.
 fn stands_in(t: &[u8], n: &[u8]) -> bool
@@ -24,23 +24,20 @@ fn stands_in(t: &[u8], n: &[u8]) -> bool
     }
 }
 
-// The same where k marks of the table's names by some tree are known. The name's own comes next.
-fn stands_marked(t: &[u8], n: &[u8], tree: &[u32], marks: &mut [u32], k: usize) -> bool
-    requires { ⌜ Marks (now tree) (now marks) k (now t) ⌝ }
-    ensures { λ r. ⌜ (r ≡ member (now (n .entry)) (table (now (t .entry)))) × (now (marks .exit) ≡ set (now (marks .entry)) k (markOf (now (tree .entry)) (now (n .entry)))) ⌝ }
+// The same where the marks of the table's k names are known, and m is the name's own.
+fn stands_marked(t: &[u8], n: &[u8], lows: &[u32], highs: &[u32], k: usize, m: Mark) -> bool
+    requires { ⌜ (m .low ≡ lowOf (now n)) × (m .high ≡ highOf (now n)) × Halves lowOf (now lows) k (now t) × Halves highOf (now highs) k (now t) ⌝ }
+    ensures { λ r. ⌜ r ≡ member (now (n .entry)) (table (now (t .entry))) ⌝ }
 {
-    let m = mark(tree, n);
-    let hit = may_be(marks, k, m);
-    put_word(marks, k, m);
-    if hit {
+    if may_be(lows, highs, k, m) {
         return stands_in(t, n);
     }
     false
 }
 
-// Where the first name stands that stood before; the table's length where there is none. The marks of names by a tree are kept in
-// `marks`, as many as there is room for.
-fn first_again(t: &[u8], tree: &[u32], marks: &mut [u32]) -> usize
+// Where the first name stands that stood before; the table's length where there is none. The marks of names are kept, as many as
+// there is room for.
+fn first_again(t: &[u8], lows: &mut [u32], highs: &mut [u32]) -> usize
     ensures { λ r. ⌜ r ≡ againAt (now (t .entry)) ⌝ }
 {
     let mut at = 0;
@@ -49,9 +46,12 @@ fn first_again(t: &[u8], tree: &[u32], marks: &mut [u32]) -> usize
         let b = at + 1;
         let l = t[at] as usize;
         let e = capped(t.len(), b, l);
-        if stands_marked(&t[..at], &t[b..e], tree, marks, k) {
+        let m = mark_of(&t[b..e]);
+        if stands_marked(&t[..at], &t[b..e], lows, highs, k, m) {
             return at;
         }
+        put_half(lows, k, m.low);
+        put_half(highs, k, m.high);
         at = e;
         k += 1;
     }
@@ -63,8 +63,7 @@ pub fn repeated_name(lets: &[u8], end: usize) -> usize
     ensures { λ r. ⌜ r ≡ againAt (take end (now (lets .entry))) ⌝ }
 {
     let e = capped(lets.len(), 0, end);
-    let mut tree = [0u32; 2560];
-    let mut marks = [0u32; 512];
-    grow(&lets[..e], &mut tree);
-    first_again(&lets[..e], &tree, &mut marks)
+    let mut lows = [0u32; 512];
+    let mut highs = [0u32; 512];
+    first_again(&lets[..e], &mut lows, &mut highs)
 }

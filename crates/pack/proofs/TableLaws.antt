@@ -1,5 +1,5 @@
 -- Laws of the code of a table with an index: the turns of its loops, and its answers by their tests.
-use Prim.Native.Nat.{ℕ, zero, suc, _+_, _*_, _-_, _<_, _≤_, _/_, _%_, min}
+use Prim.Native.Nat.{ℕ, zero, suc, _+_, _*_, _-_, _<_, _≤_, _/_, _%_, _^_, min}
 use native.Mathlib.Omega.{arith}
 use mathlib.Core.Bool.{true, false, cond, _&&_}
 use mathlib.Core.Logic.{⊎-elim}
@@ -7,6 +7,7 @@ use mathlib.Core.Path.{_≡_, refl, sym, ap, _∙_}
 use mathlib.Core.List.{List, [], _∷_, _++_}
 use lib.ListN.{length, take, drop, getD, drop-of-length-le, length-append, length-drop, length-take, take-append-drop, List·getD-append, List·getD-eq-default}
 use lib.Seq.{drop-append-add, drop-length, getD-append-add, take-all}
+use lib.Bits.{bitXor}
 use lib.Dec.{ltb}
 use denote.Enum.Declared.{tagOf}
 use types.Run.{OneOf}
@@ -14,46 +15,57 @@ use borrow.Author.Tests.{lt-ltb, le-ltb, le-leb, lt-leb}
 use Rattle.wire.proofs.Writers.{lt-or-le, take-capped}
 use Rattle.pack.specs.Names.{Name, eqName}
 use Rattle.pack.specs.Write.{Found, At, Missing, lookup}
+use Rattle.pack.specs.declared.table.Lanes.{Lanes}
 use Rattle.pack.specs.declared.table.Place.{Place}
 use Rattle.pack.specs.declared.table.Place.the-variants as pl
-use Rattle.pack.specs.Table.{table, rowsMost, cells, textsFrom, cellAt, spotAt, below, word, putWord, fold, mixed, joined, quadAt, hashFrom, hash, further, textAt, textOf, placeFrom, placeOf, foundIn, seek, numberIn, isFree, spare, inIndex, cellFor, linked, linkedAt, noted}
+use Rattle.pack.specs.Table.{table, rowsMost, cells, textsFrom, cellAt, spotAt, below, word, putWord, sum, turned, halfRound, rounded, mixed, joined, quadAt, lanesFor, hashFrom, hash, further, textAt, textOf, placeFrom, placeOf, foundIn, seek, numberIn, isFree, spare, inIndex, cellFor, linked, linkedAt, noted}
 use Rattle.pack.proofs.table.Place as Place-enum
 use Rattle.pack.proofs.TableIndex.{texts-is, word-append}
 use Rattle.pack.proofs.Interns.{and-false, found-number}
 
--- eight bytes more of a hash
-hash-step : (n : Name) (a b i x y k : ℕ) → x ≡ quadAt n i → y ≡ quadAt n (i + 4) → hashFrom k (fold ((a + x) * 1540483477)) (fold ((b + y) * 2083697005)) n (i + 8) ≡ hashFrom (suc k) a b n i
-unfolding hashFrom mixed
-hash-step n a b i x y k e f = rw (e, f)
+-- half a round of a hash, its end, a word more
+pub half-is : (h : Lanes) (j k e f t u v : ℕ) → e ≡ (h .a + h .b) % 2 ^ 64 → f ≡ (h .c + h .d) % 2 ^ 64 → t ≡ turned (h .b) j → u ≡ turned e 32 → v ≡ turned (h .d) k
+    → _≡_ {A = Lanes} (record { a = f; b = bitXor t e; c = u; d = bitXor v f }) (halfRound h j k)
+unfolding halfRound sum
+half-is h j k e f t u v x y z w r = λ i. record { a = y i; b = bitXor (z i) (x i); c = (w ∙ ap (λ g. turned g 32) x) i; d = bitXor (r i) (y i) }
 
-pub hash-turn : (n : Name) (a b c d i x y : ℕ) → i + 8 < length n → x ≡ quadAt n i → c ≡ fold ((a + x) * 1540483477) → y ≡ quadAt n (i + 4) → d ≡ fold ((b + y) * 2083697005)
-    → hashFrom ((length n - 1 - (i + 8)) / 8) c d n (i + 8) ≡ hashFrom ((length n - 1 - i) / 8) a b n i
-hash-turn n a b c d i x y l e g f h =
+pub joined-is : (h g r : Lanes) → g ≡ rounded (record { a = h .a; b = h .b; c = bitXor (h .c) 255; d = h .d }) → r ≡ rounded g → bitXor (bitXor (bitXor (r .a) (r .b)) (r .c)) (r .d) ≡ joined h
+unfolding joined
+joined-is h g r e f = ap (λ (x : Lanes). bitXor (bitXor (bitXor (x .a) (x .b)) (x .c)) (x .d)) (f ∙ ap rounded e)
+
+pub mixed-is : (h r : Lanes) (x y : ℕ) → r ≡ rounded (record { a = h .a; b = h .b; c = h .c; d = bitXor (h .d) (x + 4294967296 * y) })
+    → _≡_ {A = Lanes} (record { a = bitXor (r .a) (x + 4294967296 * y); b = r .b; c = r .c; d = r .d }) (mixed h x y)
+unfolding mixed
+mixed-is h r x y e = λ i. record { a = bitXor (e i .a) (x + 4294967296 * y); b = e i .b; c = e i .c; d = e i .d }
+
+-- eight bytes more of a hash
+pub hash-turn : (n : Name) (h g : Lanes) (i x y : ℕ) → i + 8 < length n → x ≡ quadAt n i → y ≡ quadAt n (i + 4) → g ≡ mixed h x y
+    → hashFrom ((length n - 1 - (i + 8)) / 8) g n (i + 8) ≡ hashFrom ((length n - 1 - i) / 8) h n i
+unfolding hashFrom
+hash-turn n h g i x y l e f m =
     let z : suc ((length n - 1 - (i + 8)) / 8) ≡ (length n - 1 - i) / 8 = omega arith in
-    (λ j. hashFrom ((length n - 1 - (i + 8)) / 8) (g j) (h j) n (i + 8)) ∙ hash-step n a b i x y ((length n - 1 - (i + 8)) / 8) e f ∙ ap (λ k. hashFrom k a b n i) z
+    ap (λ w. hashFrom ((length n - 1 - (i + 8)) / 8) w n (i + 8)) (m ∙ (λ j. mixed h (e j) (f j))) ∙ ap (λ k. hashFrom k h n i) z
 
 -- what is computed of two names, as the harness has it to make names that share a head
-strongroom-hash : hash (83 ∷ 116 ∷ 114 ∷ 111 ∷ 110 ∷ 103 ∷ 114 ∷ 111 ∷ 111 ∷ 109 ∷ []) ≡ 12513859832795880374
-unfolding hash hashFrom joined mixed fold quadAt
+strongroom-hash : hash (83 ∷ 116 ∷ 114 ∷ 111 ∷ 110 ∷ 103 ∷ 114 ∷ 111 ∷ 111 ∷ 109 ∷ []) ≡ 13997899697041881454
+unfolding hash hashFrom lanesFor joined mixed rounded halfRound sum turned quadAt
 strongroom-hash = refl
 
-vault-hash : hash (86 ∷ 97 ∷ 117 ∷ 108 ∷ 116 ∷ []) ≡ 16136412811578076142
-unfolding hash hashFrom joined mixed fold quadAt
+vault-hash : hash (86 ∷ 97 ∷ 117 ∷ 108 ∷ 116 ∷ []) ≡ 7398859739978200447
+unfolding hash hashFrom lanesFor joined mixed rounded halfRound sum turned quadAt
 vault-hash = refl
 
-pub hash-begun : (n : Name) → hashFrom ((length n - 1 - 0) / 8) (length n % 4294967296) 0 n 0 ≡ hash n
+pub hash-begun : (n : Name) (h : Lanes) → h ≡ lanesFor (length n) → hashFrom ((length n - 1 - 0) / 8) h n 0 ≡ hash n
 unfolding hash
-hash-begun n = let z : length n - 1 - 0 ≡ length n - 1 = omega arith in ap (λ k. hashFrom (k / 8) (length n % 4294967296) 0 n 0) z
+hash-begun n h e = let z : length n - 1 - 0 ≡ length n - 1 = omega arith in (λ j. hashFrom (z j / 8) (e j) n 0)
 
-pub hash-done : (n : Name) (a b i p q u v x y z : ℕ) → length n ≤ i + 8 → p ≡ length n - 8 → u ≡ quadAt n p → x ≡ fold ((a + u) * 1540483477) → q ≡ length n - 4 → v ≡ quadAt n q → y ≡ fold ((b + v) * 2083697005)
-    → z ≡ fold ((x + y) * 1540483477) → z + 4294967296 * ((z + y) % 4294967296) ≡ hashFrom ((length n - 1 - i) / 8) a b n i
-unfolding hashFrom joined mixed
-hash-done n a b i p q u v x y z l e f g e' f' g' h =
+pub hash-done : (n : Name) (h g : Lanes) (r i p q u v : ℕ) → length n ≤ i + 8 → p ≡ length n - 8 → u ≡ quadAt n p → q ≡ length n - 4 → v ≡ quadAt n q → g ≡ mixed h u v → r ≡ joined g
+    → r ≡ hashFrom ((length n - 1 - i) / 8) h n i
+unfolding hashFrom
+hash-done n h g r i p q u v l e f e' f' m w =
     let k : 0 ≡ (length n - 1 - i) / 8 = omega arith in
-    let x' : x ≡ fold ((a + quadAt n (length n - 8)) * 1540483477) = g ∙ ap (λ w. fold ((a + w) * 1540483477)) (f ∙ ap (quadAt n) e) in
-    let y' : y ≡ fold ((b + quadAt n (length n - 4)) * 2083697005) = g' ∙ ap (λ w. fold ((b + w) * 2083697005)) (f' ∙ ap (quadAt n) e') in
-    let z' : z ≡ fold ((fold ((a + quadAt n (length n - 8)) * 1540483477) + fold ((b + quadAt n (length n - 4)) * 2083697005)) * 1540483477) = h ∙ (λ j. fold ((x' j + y' j) * 1540483477)) in
-    (λ j. z' j + 4294967296 * ((z' j + y' j) % 4294967296)) ∙ ap (λ w. hashFrom w a b n i) k
+    let z : g ≡ mixed h (quadAt n (length n - 8)) (quadAt n (length n - 4)) = m ∙ (λ j. mixed h ((f ∙ ap (quadAt n) e) j) ((f' ∙ ap (quadAt n) e') j)) in
+    w ∙ ap joined z ∙ ap (λ x. hashFrom x h n i) k
 
 -- the way down, further
 pub further-on : (n : Name) (f h : ℕ) → 4 ≤ h → h / 2 ≡ further n f h

@@ -64,7 +64,7 @@ pub fn check() -> Vec<Set> {
         one("short names, mixed", mixed()),
         one("short names, last repeated", special::repeated(mixed(), mixed().old - 1)),
         one("names of one tree", special::names_of(MAX_PACK, special::crowded(special::HEAD_BITS))),
-        one("names of one number", special::names_of(MAX_PACK, special::of_one_number(b""))),
+        one("names of one tree, 16 bits alike", special::names_of(MAX_PACK, special::crowded(16))),
         one("long names all alike", special::alike_names(MAX_PACK)),
         one("long names, last repeated", special::repeated(special::alike_names(MAX_PACK), 254)),
         one("long names of two stems", special::stem_names(MAX_PACK, 2)),

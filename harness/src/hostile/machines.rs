@@ -292,12 +292,6 @@ fn refused_copies(count: usize, holder: &str, names: impl Iterator<Item = String
     b.done()
 }
 
-/// Full names that have one number in the index.
-pub fn one_number(count: usize) -> Package {
-    let holder = "p".repeat(231);
-    refused_copies(count, &holder, special::of_one_number(format!("{holder}_").as_bytes()))
-}
-
 /// Names of which each has one letter more of those that the next begins with: a tree of tests of letters is a chain.
 pub fn rising(count: usize) -> Package {
     let names = (0..).map(|k| format!("{}{}{}", "9".repeat(k / 9), k % 9, "0".repeat(56 - k / 9)));
@@ -362,7 +356,6 @@ pub fn costly() -> Vec<Hostile> {
         ("507 long names alike, 20 machines refused", alike(20, true)),
         ("ring of 2,300 machines", ring(2_300)),
         ("511 states, 100 machines refused", large_copies(100, true)),
-        ("511 long names of one number, 500 machines refused", one_number(500)),
         ("511 names of rising letters, 500 machines refused", rising(500)),
         ("two outputs in turn, 10,000 times, refused", outputs_in_turn(10_000, 6_000)),
         ("511 states, 2,000 machines", large_copies(2_000, false)),

@@ -10,10 +10,10 @@ use Rattle.machines.proofs.marks.among.Statement.{statement}
 use Rattle.machines.proofs.marks.among.Tie as tie
 
 abbrev Inv-loop : tie.InvT-loop
-Inv-loop marks m hit₀ i₀ hit i = (i ≤ length marks) × (hit || among m (drop i marks) ≡ among m marks)
+Inv-loop halves m hit₀ i₀ hit i = (i ≤ length halves) × (hit || among m (drop i halves) ≡ among m halves)
 
 abbrev μ-loop : tie.MeasureT-loop
-μ-loop marks m hit₀ i₀ hit i = length marks - i
+μ-loop halves m hit₀ i₀ hit i = length halves - i
 
 loop-holds : tie.Need-loop-holds Inv-loop μ-loop
 loop-holds c = (omega arith, refl)
@@ -34,7 +34,7 @@ loop-again : tie.Need-loop-again Inv-loop μ-loop
 loop-again c = (omega arith, among-more _ _ _ (c .before .before .loop .hit) _ (c .before .loop-test .taken) (c .before .before .loop .inv .1))
 
 returns : tie.Need-returns Inv-loop μ-loop
-returns c = among-done (c .before .before .args .marks .now) _ _ (c .before .loop .hit) _ (c .loop-test .left) (c .before .loop .inv .1)
+returns c = among-done (c .before .before .args .halves .now) _ _ (c .before .loop .hit) _ (c .loop-test .left) (c .before .loop .inv .1)
 
 pub among-spec : {M : Type 1} → statement M
 among-spec = tie.close (tie.spec Inv-loop μ-loop loop-holds mul-hit shared-slice-read-hit add-i loop-less loop-again returns)

@@ -9,17 +9,8 @@ use Rattle.machines.proofs.repeats.repeated_name.Tie as tie
 capped-requires : tie.Need-capped-requires
 capped-requires c κs = search needs
 
-slice-aggregate-grow : tie.Need-slice-aggregate-grow
-slice-aggregate-grow c = sym (length-take-le _ _ (omega (arith, c .before .capped .ensures)))
-
-slice-aggregate-grow-2 : tie.Need-slice-aggregate-grow-2
-slice-aggregate-grow-2 c = search needs
-
-grow-requires : tie.Need-grow-requires
-grow-requires c κs = search needs
-
 slice-aggregate-first-again : tie.Need-slice-aggregate-first-again
-slice-aggregate-first-again c = sym (length-take-le _ _ (omega (arith, c .before .before .before .before .before .capped .ensures)))
+slice-aggregate-first-again c = sym (length-take-le _ _ (omega (arith, c .before .capped .ensures)))
 
 slice-aggregate-first-again-2 : tie.Need-slice-aggregate-first-again-2
 slice-aggregate-first-again-2 c = search needs
@@ -31,16 +22,13 @@ first-again-requires : tie.Need-first-again-requires
 first-again-requires c κs = search needs
 
 returns : tie.Need-returns
-returns c = again-cut _ _ _ _ (c .before .before .before .before .before .before .before .before .before .capped .ensures) (c .before .first-again .ensures)
+returns c = again-cut _ _ _ _ (c .before .before .before .before .before .before .capped .ensures) (c .before .before .first-again .ensures)
 
 pub repeated-name-spec : {M : Type 1} → statement M
 repeated-name-spec =
     tie.close
     (tie.spec
     capped-requires
-    slice-aggregate-grow
-    slice-aggregate-grow-2
-    grow-requires
     slice-aggregate-first-again
     slice-aggregate-first-again-2
     slice-aggregate-first-again-3
