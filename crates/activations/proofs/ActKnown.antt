@@ -39,6 +39,7 @@ use Rattle.activations.specs.Places.{actAt}
 use Rattle.activations.specs.Walks.{LastIs}
 use Rattle.activations.specs.Asked.{Asked}
 use Rattle.activations.specs.TypesAt.{Coded, TypesAre}
+use Rattle.activations.specs.FirstsAt.{FirstsAre}
 use Rattle.activations.specs.SoughtAt.{RowIs, RowsFrom, wordT}
 use Rattle.activations.specs.HeldAs.{KnownAt}
 use Rattle.activations.specs.HoldersAt.{rowItems}
@@ -158,8 +159,8 @@ module _ (ns : List Name) (fresh : Fresh [] ns) (legal : All LegalName ns) (few 
   fit-else = scope-fits (Has xs) (A .otherwise) (all-rest (Asked (Has xs)) (bodies (A .branches)) (rightSides (A .otherwise)) asked) (or-none (leftlessBranch (A .branches)) (leftless (A .otherwise)) filled .1)
 
   -- THE LINK: the equations of holders
-  pub holder-equations : (b : Base) (to : ℕ) → counted (enumIn ns s) s (b .enums) ≡ value enums to → (z : State) → render (tabled ns) (eachT (rowItems ns s b spots (A .name) env table) rows 0) z ≡ render (tabled ns) (each equationItems gs) z
-  holder-equations b to E z = holders-written ns fresh legal under-few s by b enums to E spots placed (A .name) env table rows xs base (A .outputs) ps gs count (found-once (expressions A)) R H K z
+  pub holder-equations : (b : Base) (to : ℕ) → counted (enumIn ns s) s (b .enums) ≡ value enums to → FirstsAre ns s (b .enums) spots → (z : State) → render (tabled ns) (eachT (rowItems ns s b spots (A .name) env table) rows 0) z ≡ render (tabled ns) (each equationItems gs) z
+  holder-equations b to E F z = holders-written ns fresh legal under-few s by b enums to E spots F placed (A .name) env table rows xs base (A .outputs) ps gs count (found-once (expressions A)) R H K z
 
   -- THE LINK: the equations of scopes
   pub scopes-written : (z : State) → scopesT (tabled ns) s spots (length ns) made ns last table rows env outs (A .name) (actAt ns s at .n) (actAt ns s at .branches) (actAt ns s at .other) z

@@ -4,7 +4,7 @@ use native.Mathlib.Omega.{arith}
 use mathlib.Core.List.{List, [], _∷_, _++_}
 use mathlib.Core.Bool.{Bool}
 use mathlib.Core.Path.{_≡_, sym, ap, subst, _∙_}
-use lib.ListN.{length, length-replicate, replicate}
+use lib.ListN.{getD, length, length-replicate, replicate}
 use Rattle.wire.specs.Answer.{counted}
 use Rattle.wire.specs.Bytes.{two}
 use Rattle.wire.specs.Lists.{Bytes}
@@ -31,7 +31,7 @@ use Rattle.machines.specs.Sure.{numberIn}
 use Rattle.machines.specs.Tables.{namesPlaced}
 use Rattle.machine_rules.specs.Call.{finished}
 use Rattle.machines.proofs.Answered.{answers-as, written-quiet}
-use Rattle.machines.proofs.CallScratch.{scratch-empty}
+use Rattle.machines.proofs.CallScratch.{scratch-empty, zeros}
 use Rattle.machines.proofs.NamesPlaced.{names-few, section-read}
 use Rattle.machines.proofs.Opened.{names-stand, pack-known}
 use Rattle.machines.proofs.Walked.{ready}
@@ -47,25 +47,38 @@ use Rattle.activations.proofs.Joined.{activations-refusals}
 use Rattle.activations.specs.Basis.{Basis, Scratch}
 use Rattle.activations.specs.Bringing.{Settled}
 use Rattle.activations.specs.CallAt.{Blank, baseT}
+use Rattle.activations.specs.FirstsAt.{FirstsAre, firstsT}
 use Rattle.activations.specs.Fates.{Drawn, Fates, NodesFrom, Unowned}
 use Rattle.activations.specs.Placing.{placeActsT, placeNodesT}
 use Rattle.activations.specs.ReportAt.{entryT, isRefusedT}
 use Rattle.activations.proofs.ActCounts.{acts-few}
 use Rattle.activations.proofs.ActsPlaced.{Placed, placed, placed-drawn, placed-fate}
+use Rattle.activations.proofs.FirstsKept.{firsts-kept, firsts-length}
 use Rattle.activations.proofs.ReportKnown.{accepted-known, reported-known}
 
 module _ (s : List ℕ) (k : Pack) (p : Package) (h : Stands s k p) (bytes : Bytes s) (short : length s ≤ 65536) where
   few : 2 + 2 * length (p .names) ≤ length s
   few = names-few s (p .names) (section-read s (p .names) (k .enums) (h .names))
 
-  module _ (spots₀ spots old : List ℕ) (b : Base) (room : 32768 ≤ length spots₀) (es : spots ≡ namesPlaced s (k .names) 2 0 spots₀) (eo : old ≡ tabled (table (sliceOf s 2 (k .enums - 2)))) (eb : b ≡ baseT old s k spots) where
+  -- the table of names as it was, with what enums start from, and with the names' places; all names; what is known of the pack
+  module _ (spots₀ spots₁ spots old : List ℕ) (b : Base) (room : 50176 ≤ length spots₀) (bare : (x : ℕ) → getD spots₀ (32768 + x) 0 ≡ 0) (ef : (ns : List Name) → length ns ≡ k .names → spots₁ ≡ firstsT ns s (k .enums) spots₀)
+      (es : spots ≡ namesPlaced s (k .names) 2 0 spots₁) (eo : old ≡ tabled (table (sliceOf s 2 (k .enums - 2)))) (eb : b ≡ baseT old s k spots) where
     known : PackOf (p .names) s old spots
     known =
         let f = few in
         let l = length-replicate {A = ℕ} 32768 0 in
+        let m : length spots₁ ≡ length spots₀ = ap length (ef (p .names) (h .count)) ∙ firsts-length (p .names) s (k .enums) spots₀ in
         subst (λ (y : List ℕ). PackOf (p .names) s y spots) (sym eo)
         (subst (λ (y : List ℕ). PackOf (p .names) s (tabled (table (sliceOf s 2 (k .enums - 2)))) y) (sym es)
-        (pack-known s k p h bytes (namesPlaced s (k .names) 2 0 spots₀) _ (ready s k p spots₀ (replicate 32768 0) h short (omega arith) (omega arith) (scratch-empty .noMachine))))
+        (pack-known s k p h bytes (namesPlaced s (k .names) 2 0 spots₁) _ (ready s k p spots₁ (replicate 32768 0) h short (omega arith) (omega arith) (scratch-empty .noMachine))))
+
+    -- the names' places leave what enums start from
+    kept : FirstsAre (p .names) s (k .enums) spots
+    kept =
+        let f = few in
+        let c = h .count in
+        subst (FirstsAre (p .names) s (k .enums)) (sym (es ∙ ap (namesPlaced s (k .names) 2 0) (ef (p .names) (h .count))))
+        (firsts-kept (p .names) (omega arith) s (k .enums) (p .enums) (k .nodes) (h .enums) (k .names) (omega arith) spots₀ room bare)
 
     -- what is known of the pack as a whole
     pub basis : Basis (p .names) (p .enums) old s spots b
@@ -82,6 +95,7 @@ module _ (s : List ℕ) (k : Pack) (p : Package) (h : Stands s k p) (bytes : Byt
           made = subst (MadeIs (p .names)) (sym (ap (λ (y : Base). y .made) eb ∙ ap (someMadeT s spots) (sym (h .count)))) (some-made-is (p .names) s spots (known .placed));
           to = k .nodes;
           enums = ap (λ (y : Base). counted (enumIn (p .names) s) s (y .enums)) eb ∙ h .enums;
+          firsts = subst (λ (y : ℕ). FirstsAre (p .names) s y spots) (sym (ap (λ (y : Base). y .enums) eb)) kept;
         }
 
     pub names-low : b .names ≤ 65536
@@ -140,13 +154,13 @@ pub base-is : (old s : List ℕ) (x : Pack) (spots : List ℕ) (last : ℕ) (mad
 unfolding baseT lastName
 base-is old s x spots last made e f = λ i. record { names = x .names; last = e i; enums = x .enums; made = f i }
 
--- the tables that a call starts with are long enough
-pub blank : Blank (replicate 32768 0) (replicate 6656 0) (replicate 39936 0)
+-- the tables that a call starts with are long enough, and empty
+pub blank : Blank (replicate 50176 0) (replicate 6656 0) (replicate 39936 0)
 blank =
-    let a = length-replicate {A = ℕ} 32768 0 in
+    let a = length-replicate {A = ℕ} 50176 0 in
     let b = length-replicate {A = ℕ} 6656 0 in
     let c = length-replicate {A = ℕ} 39936 0 in
-    record { forNames = omega arith; forNodes = omega arith; forActs = omega arith }
+    record { forNames = omega arith; noFirst = λ x. zeros 50176 (32768 + x); forNodes = omega arith; forActs = omega arith }
 
 pub scratch : Scratch (replicate 32768 0) (replicate 65536 0) (replicate 32768 0) (replicate 24576 0) (replicate 21848 0) (replicate 21848 0)
 scratch =

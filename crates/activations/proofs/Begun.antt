@@ -166,7 +166,7 @@ module _ (ns : List Name) (es : List Enum) (old s spots : List ℕ) (b : Base) (
       let t : TypesAre ns s (copyT later (b .names) env) (lastTyped (variables n)) = subst (λ (k : ℕ). TypesAre ns s (copyT later k env) (lastTyped (variables n))) (sym (B .names)) (copied-typed ns s later env (lastTyped (variables n)) (omega arith) T) in
       let l : length (copyT later (b .names) env) ≡ length env = fill-length (λ i. getD later i 0) (b .names) 0 env in
       let h : HeldAs ns s (A .name) (holdFrom ns (tabled ns) s b spots (A .name) (firstPortsT ns s (actAt ns s at .outputs) (clearT (b .names) outs)) (z .count) 0 (copyT later (b .names) env) (z .table)) (z .count) (variables n) (asked A) (holding es A n) =
-      hold-is ns fresh (B .pack .legal) few s by (B .short) spots (B .pack .placed) b (B .names) (B .made) es (B .to) (B .enums) (A .name) _ (A .outputs) o (z .count) (asked A) (variables n) (copyT later (b .names) env) (z .table) (r .1) (r .0) t (omega arith) (r .2) in
+      hold-is ns fresh (B .pack .legal) few s by (B .short) spots (B .pack .placed) b (B .names) (B .made) es (B .to) (B .enums) (B .firsts) (A .name) _ (A .outputs) o (z .count) (asked A) (variables n) (copyT later (b .names) env) (z .table) (r .1) (r .0) t (omega arith) (r .2) in
       subst (λ (y : Act). BegunAs ns es s A n (begunT ns old s b spots (A .name) y later env outs table)) (sym (R .parts))
       (subst (λ (y : List ℕ). BegunAs ns es s A n (begunT ns y s b spots (A .name) (actAt ns s at) later env outs table)) (sym (B .pack .names))
       (record { outs = o; rows = r .1; held = h }))
@@ -205,7 +205,7 @@ module _ (ns : List Name) (es : List Enum) (old s spots : List ℕ) (b : Base) (
     pub begun-equations : (z : State) → actEquationsT ns old s b spots (A .name) (x .hold .held) (x .rows) (x .hold .env) (x .outs) act (conditionsOf (A .name) (A .branches)) z ≡ render old (each equationItems (actEquations A gs (readable (variables n ++ ps) (A .outputs)))) z
     begun-equations z =
         let few = B .few in
-        let e = equations-known ns (B .pack .fresh) (B .pack .legal) (omega arith) under s (B .pack .bytes) (B .short) (b .last) (B .last) spots (B .pack .placed) (b .made) (B .made) es at A (R .end) (R .read) filled (x .hold .env) (x .hold .held) (x .outs) (x .rows) (variables n) ps gs (G .rows) (known .2) H (known .1) (G .outs) low b (B .to) (B .enums) (B .names) refl refl z in
+        let e = equations-known ns (B .pack .fresh) (B .pack .legal) (omega arith) under s (B .pack .bytes) (B .short) (b .last) (B .last) spots (B .pack .placed) (b .made) (B .made) es at A (R .end) (R .read) filled (x .hold .env) (x .hold .held) (x .outs) (x .rows) (variables n) ps gs (G .rows) (known .2) H (known .1) (G .outs) low b (B .to) (B .enums) (B .firsts) (B .names) refl refl z in
         ap (λ (y : Act). actEquationsT ns old s b spots (A .name) (x .hold .held) (x .rows) (x .hold .env) (x .outs) y (conditionsOf (A .name) (A .branches)) z) (R .parts)
         ∙ ap (λ (y : List ℕ). actEquationsT ns y s b spots (A .name) (x .hold .held) (x .rows) (x .hold .env) (x .outs) (actAt ns s at) (conditionsOf (A .name) (A .branches)) z) (B .pack .names)
         ∙ e

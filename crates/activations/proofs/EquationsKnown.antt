@@ -38,6 +38,7 @@ use Rattle.activations.specs.Places.{actAt}
 use Rattle.activations.specs.Walks.{LastIs}
 use Rattle.activations.specs.FlagsAt.{flagsT}
 use Rattle.activations.specs.TypesAt.{TypesAre}
+use Rattle.activations.specs.FirstsAt.{FirstsAre}
 use Rattle.activations.specs.SoughtAt.{RowsFrom}
 use Rattle.activations.specs.HeldAs.{KnownAt}
 use Rattle.activations.specs.ScopesAt.{scopesT}
@@ -86,10 +87,10 @@ module _ (ns : List Name) (fresh : Fresh [] ns) (legal : All LegalName ns) (few 
       ∙ merges-read ns s spots (tabled ns) placed (numbered ns fresh legal under s by) (A .name) conds (A .outputs) (r .to-outputs) (r .to-branches) (r .outputs) z
 
   -- THE LINK: all equations of the activation
-  pub equations-known : (b : Base) (to : ℕ) → counted (enumIn ns s) s (b .enums) ≡ value enums to → b .names ≡ length ns → b .last ≡ last → b .made ≡ made → (z : State)
+  pub equations-known : (b : Base) (to : ℕ) → counted (enumIn ns s) s (b .enums) ≡ value enums to → FirstsAre ns s (b .enums) spots → b .names ≡ length ns → b .last ≡ last → b .made ≡ made → (z : State)
       → actEquationsT ns (tabled ns) s b spots (A .name) table rows env outs (actAt ns s at) (conditionsOf (A .name) (A .branches)) z ≡ render (tabled ns) (each equationItems (actEquations A gs (readable (base ++ ps) (A .outputs)))) z
   unfolding actEquationsT actEquations
-  equations-known b to E en el em z =
+  equations-known b to E T en el em z =
       let old = tabled ns in
       let a = A .name in
       let act = actAt ns s at in
@@ -97,7 +98,7 @@ module _ (ns : List Name) (fresh : Fresh [] ns) (legal : All LegalName ns) (few 
       let B = branchEquations a (length conds) vars 0 (A .branches) in
       let S = scopeEquations a (length conds) vars other [] (A .otherwise) in
       let F = flagEquations a none 0 conds in
-      (λ i. render old (portMergesT ns s spots a conds (act .outputs)) (scopesT old s spots (en i) (em i) ns (el i) table rows env outs a (act .n) (act .branches) (act .other) (render old G (flagsT ns s (el i) old spots a (act .branches) (holder-equations ns fresh legal few s by short last L spots placed made M enums at A q d filled env table outs rows base ps gs count R H K O low b to E z i)))))
+      (λ i. render old (portMergesT ns s spots a conds (act .outputs)) (scopesT old s spots (en i) (em i) ns (el i) table rows env outs a (act .n) (act .branches) (act .other) (render old G (flagsT ns s (el i) old spots a (act .branches) (holder-equations ns fresh legal few s by short last L spots placed made M enums at A q d filled env table outs rows base ps gs count R H K O low b to E T z i)))))
       ∙ ap (λ (y : State). render old (portMergesT ns s spots a conds (act .outputs)) (scopesT old s spots (length ns) made ns last table rows env outs a (act .n) (act .branches) (act .other) (render old G y))) (flags-written ns fresh under legal s by short last L spots placed a at A q (render old (each equationItems gs) z) d)
       ∙ ap (render old (portMergesT ns s spots a conds (act .outputs))) (scoped (render old G (render old (each equationItems F) (render old (each equationItems gs) z))))
       ∙ merged (render old (each equationItems (B ++ S)) (render old G (render old (each equationItems F) (render old (each equationItems gs) z))))

@@ -36,6 +36,7 @@ use Rattle.activations.specs.Lookups.{MadeIs}
 use Rattle.activations.specs.Walks.{InitAt}
 use Rattle.activations.specs.TypeCodes.{typedT}
 use Rattle.activations.specs.TypesAt.{Coded, TypesAre, isMissing, startExpr, startT}
+use Rattle.activations.specs.FirstsAt.{FirstsAre}
 use Rattle.activations.specs.SoughtAt.{RowInit, RowIs, RowsFrom, wordT}
 use Rattle.activations.specs.HoldAt.{Hold, holdFrom, holdOf, holdRow, holderT, knownT, needsT}
 use Rattle.activations.specs.HeldAs.{HeldAs, KnownAt, asHeld, asNeedsInit, asUnknown}
@@ -68,11 +69,11 @@ start-choice ns (sr.Name v) o e = something _ refl (sym e)
 
 module _ (ns : List Name) (fresh : Fresh [] ns) (legal : All LegalName ns) (few : length ns + length ns < 65536) (s : List ℕ) (by : Bytes s) (short : length s ≤ 65536)
     (spots : List ℕ) (placed : (i : ℕ) → i < length ns → packName s spots i ≡ nameAt ns i) (b : Base) (names : b .names ≡ length ns) (M : MadeIs ns (b .made))
-    (enums : List Enum) (q : ℕ) (E : counted (enumIn ns s) s (b .enums) ≡ value enums q) (a : Name) (outs : List ℕ) (outputs : List Port) (O : TypesAre ns s outs (firstTyped outputs)) where
-  needs-choice : (i : Option Expr) (init c : ℕ) (t : Ty) → RowInit ns s i init → Coded ns s c (some t) → Choice (needsT ns s b init c) (firstOf i (startOf enums t))
+    (enums : List Enum) (q : ℕ) (E : counted (enumIn ns s) s (b .enums) ≡ value enums q) (F : FirstsAre ns s (b .enums) spots) (a : Name) (outs : List ℕ) (outputs : List Port) (O : TypesAre ns s outs (firstTyped outputs)) where
+  needs-choice : (i : Option Expr) (init c : ℕ) (t : Ty) → RowInit ns s i init → Coded ns s c (some t) → Choice (needsT ns s b spots init c) (firstOf i (startOf enums t))
   unfolding needsT RowInit InitAt firstOf
-  needs-choice none init c t r h = subst (λ y. Choice (cond y (isMissing (startT ns s (b .enums) c)) false) (startOf enums t)) (sym (eq-eqb init 0 (r .1))) (start-choice ns (startT ns s (b .enums) c) (startOf enums t) (start-is ns fresh (omega arith) s by (b .enums) enums q E c t h .0))
-  needs-choice (some e) init c t r h = something e (ap (λ y. cond y (isMissing (startT ns s (b .enums) c)) false) (ne-eqb init 0 (λ z. let l = r .1 .0 in omega arith))) refl
+  needs-choice none init c t r h = subst (λ y. Choice (cond y (isMissing (startT ns s (b .enums) spots c)) false) (startOf enums t)) (sym (eq-eqb init 0 (r .1))) (start-choice ns (startT ns s (b .enums) spots c) (startOf enums t) (start-is ns fresh (omega arith) s by (b .enums) enums q E spots F c t h .0))
+  needs-choice (some e) init c t r h = something e (ap (λ y. cond y (isMissing (startT ns s (b .enums) spots c)) false) (ne-eqb init 0 (λ z. let l = r .1 .0 in omega arith))) refl
 
   -- a code fits a word
   coded-low : (c : ℕ) (t : Ty) → Coded ns s c (some t) → c < 65536
@@ -198,11 +199,11 @@ module _ (ns : List Name) (fresh : Fresh [] ns) (legal : All LegalName ns) (few 
     unfolding result c v
     unknown z = subst (λ y. HeldAs ns s a y (h + suc n) ports all (unheld (lastUnknown a (x .var)))) (sym (step-to n h e d (holdOf e d 15 v) (row-unknown ns (tabled ns) s b spots a outs h v c e d refl refl z))) (asUnknown refl small (ap (lastUnknown a) (sym named)))
 
-    needing : (c ≡ 0 → ⊥) → needsT ns s b (wordT d h 1) c ≡ true → HeldAs ns s a result (h + suc n) ports all (unheld (lastNeedsInit a (x .var)))
+    needing : (c ≡ 0 → ⊥) → needsT ns s b spots (wordT d h 1) c ≡ true → HeldAs ns s a result (h + suc n) ports all (unheld (lastNeedsInit a (x .var)))
     unfolding result c v
     needing z w = subst (λ y. HeldAs ns s a y (h + suc n) ports all (unheld (lastNeedsInit a (x .var)))) (sym (step-to n h e d (holdOf e d 16 v) (row-needs ns (tabled ns) s b spots a outs h v c (wordT d h 1) true e d refl refl z refl (sym w) refl))) (asNeedsInit refl small (ap (lastNeedsInit a) (sym named)))
 
-    goes : (c ≡ 0 → ⊥) → needsT ns s b (wordT d h 1) c ≡ false → result ≡ holdFrom ns (tabled ns) s b spots a outs n (suc h) (putT e (holderId ns a v) c) (putT d (3 * h + 2) (holderId ns a v))
+    goes : (c ≡ 0 → ⊥) → needsT ns s b spots (wordT d h 1) c ≡ false → result ≡ holdFrom ns (tabled ns) s b spots a outs n (suc h) (putT e (holderId ns a v) c) (putT d (3 * h + 2) (holderId ns a v))
     unfolding result c v knownT
     goes z w =
         step-to n h e d (holdOf (putT e (holderT (tabled ns) s b spots a v) c) (putT d (3 * h + 2) (holderT (tabled ns) s b spots a v)) 0 v) (row-known ns (tabled ns) s b spots a outs h v c (wordT d h 1) false e d _ refl refl z refl (sym w) refl refl)
@@ -214,7 +215,7 @@ module _ (ns : List Name) (fresh : Fresh [] ns) (legal : All LegalName ns) (few 
     inits : (w : ℕ) → wordT (putT d (3 * h + 2) (holderId ns a v)) w 1 ≡ wordT d w 1
     inits w = put-other d (3 * h + 2) (holderId ns a v) (3 * w + 1) (λ z. omega arith)
 
-    known : (t : Ty) → Coded ns s c (some t) → (c ≡ 0 → ⊥) → needsT ns s b (wordT d h 1) c ≡ false → (g : Equation) → HeldAs ns s a result (h + suc n) ports all (also (holderPort a (x .var) t) g (after (holderPort a (x .var) t)))
+    known : (t : Ty) → Coded ns s c (some t) → (c ≡ 0 → ⊥) → needsT ns s b spots (wordT d h 1) c ≡ false → (g : Equation) → HeldAs ns s a result (h + suc n) ports all (also (holderPort a (x .var) t) g (after (holderPort a (x .var) t)))
     unfolding after now port table v
     known t k z w g =
         let f = put-length e (holderId ns a v) c in
@@ -228,7 +229,7 @@ module _ (ns : List Name) (fresh : Fresh [] ns) (legal : All LegalName ns) (few 
         (subst (λ y. KnownAt ns s a (putT e (holderId ns a v) c) (putT d (3 * h + 2) (holderId ns a v)) (suc h) (ports ++ (holderPort a y t ∷ []))) named (known-more e long v small c t k ports d h refl (omega arith) K))
         (omega arith) (omega arith))))
 
-    by-choice : (t : Ty) (g : Bool) (o : Option Expr) → Coded ns s c (some t) → (c ≡ 0 → ⊥) → needsT ns s b (wordT d h 1) c ≡ g → Choice g o → HeldAs ns s a result (h + suc n) ports all (withInit a (x .var) t o after)
+    by-choice : (t : Ty) (g : Bool) (o : Option Expr) → Coded ns s c (some t) → (c ≡ 0 → ⊥) → needsT ns s b spots (wordT d h 1) c ≡ g → Choice g o → HeldAs ns s a result (h + suc n) ports all (withInit a (x .var) t o after)
     unfolding withInit
     by-choice t g o k z w (nothing y u) = subst (λ i. HeldAs ns s a result (h + suc n) ports all (withInit a (x .var) t i after)) (sym u) (needing z (w ∙ y))
     by-choice t g o k z w (something i y u) = subst (λ j. HeldAs ns s a result (h + suc n) ports all (withInit a (x .var) t j after)) (sym u) (known t k z (w ∙ y) (holderEquation a (x .var) i))
@@ -236,7 +237,7 @@ module _ (ns : List Name) (fresh : Fresh [] ns) (legal : All LegalName ns) (few 
     by-type : (o : Option Ty) → Coded ns s c o → HeldAs ns s a result (h + suc n) ports all (withType enums a x o after)
     unfolding withType Coded
     by-type none k = unknown k
-    by-type (some t) k = by-choice t (needsT ns s b (wordT d h 1) c) (firstOf (x .init) (startOf enums t)) k (λ z. let l = k .0 in omega arith) refl (needs-choice (x .init) (wordT d h 1) c t given k)
+    by-type (some t) k = by-choice t (needsT ns s b spots (wordT d h 1) c) (firstOf (x .init) (startOf enums t)) k (λ z. let l = k .0 in omega arith) refl (needs-choice (x .init) (wordT d h 1) c t given k)
 
     one-row : HeldAs ns s a (holdFrom ns (tabled ns) s b spots a outs (suc n) h e d) (h + suc n) ports all (withType enums a x (typed ports outputs (x .var)) (λ p. hold enums a (ports ++ (p ∷ [])) outputs xs))
     unfolding result after

@@ -39,13 +39,13 @@ module _ (old s : List ℕ) (b : Base) (spots : List ℕ) (a : Name) where
   unfolding holderT
   holder-is v r n e f = f ∙ ap (λ y. holderNumber old b (lastVar a y) v) e
 
-pub needs-asked : (ns : List Name) (s : List ℕ) (b : Base) (init c : ℕ) (t : Start) (r : Bool) → init ≡ 0 → t ≡ startT ns s (b .enums) c → r ≡ isMissing t → r ≡ needsT ns s b init c
+pub needs-asked : (ns : List Name) (s : List ℕ) (b : Base) (spots : List ℕ) (init c : ℕ) (t : Start) (r : Bool) → init ≡ 0 → t ≡ startT ns s (b .enums) spots c → r ≡ isMissing t → r ≡ needsT ns s b spots init c
 unfolding needsT
-needs-asked ns s b init c t r e f g = yes init 0 _ _ r e (g ∙ ap isMissing f)
+needs-asked ns s b spots init c t r e f g = yes init 0 _ _ r e (g ∙ ap isMissing f)
 
-pub needs-given : (ns : List Name) (s : List ℕ) (b : Base) (init c : ℕ) → (init ≡ 0 → ⊥) → false ≡ needsT ns s b init c
+pub needs-given : (ns : List Name) (s : List ℕ) (b : Base) (spots : List ℕ) (init c : ℕ) → (init ≡ 0 → ⊥) → false ≡ needsT ns s b spots init c
 unfolding needsT
-needs-given ns s b init c e = no init 0 _ _ false e refl
+needs-given ns s b spots init c e = no init 0 _ _ false e refl
 
 pub known-is : (h v c id k : ℕ) (e d x y : List ℕ) → id ≡ k → y ≡ putT d (3 * h + 2) id → x ≡ set e id (c % 65536) → holdOf x y 0 v ≡ knownT h v c k e d
 unfolding knownT putT
@@ -60,21 +60,21 @@ module _ (ns : List Name) (old s : List ℕ) (b : Base) (spots : List ℕ) (a : 
   unfolding holdCode
   code-unknown h v c e d f = yes c 0 _ _ _ f refl
 
-  code-needs : (h v c i : ℕ) (r : Bool) (e d : List ℕ) → (c ≡ 0 → ⊥) → i ≡ wordT d h 1 → r ≡ needsT ns s b i c → r ≡ true → holdOf e d 16 v ≡ holdCode ns old s b spots a outs h v c e d
+  code-needs : (h v c i : ℕ) (r : Bool) (e d : List ℕ) → (c ≡ 0 → ⊥) → i ≡ wordT d h 1 → r ≡ needsT ns s b spots i c → r ≡ true → holdOf e d 16 v ≡ holdCode ns old s b spots a outs h v c e d
   unfolding holdCode
-  code-needs h v c i r e d f g k l = no c 0 _ _ _ f (ap (λ y. cond y (holdOf e d 16 v) (knownT h v c (holderT old s b spots a v) e d)) (sym l ∙ k ∙ ap (λ y. needsT ns s b y c) g))
+  code-needs h v c i r e d f g k l = no c 0 _ _ _ f (ap (λ y. cond y (holdOf e d 16 v) (knownT h v c (holderT old s b spots a v) e d)) (sym l ∙ k ∙ ap (λ y. needsT ns s b spots y c) g))
 
-  code-known : (h v c i : ℕ) (r : Bool) (e d : List ℕ) (z : Hold) → (c ≡ 0 → ⊥) → i ≡ wordT d h 1 → r ≡ needsT ns s b i c → r ≡ false → z ≡ knownT h v c (holderT old s b spots a v) e d → z ≡ holdCode ns old s b spots a outs h v c e d
+  code-known : (h v c i : ℕ) (r : Bool) (e d : List ℕ) (z : Hold) → (c ≡ 0 → ⊥) → i ≡ wordT d h 1 → r ≡ needsT ns s b spots i c → r ≡ false → z ≡ knownT h v c (holderT old s b spots a v) e d → z ≡ holdCode ns old s b spots a outs h v c e d
   unfolding holdCode
-  code-known h v c i r e d z f g k l m = no c 0 _ _ _ f (m ∙ ap (λ y. cond y (holdOf e d 16 v) (knownT h v c (holderT old s b spots a v) e d)) (sym l ∙ k ∙ ap (λ y. needsT ns s b y c) g))
+  code-known h v c i r e d z f g k l m = no c 0 _ _ _ f (m ∙ ap (λ y. cond y (holdOf e d 16 v) (knownT h v c (holderT old s b spots a v) e d)) (sym l ∙ k ∙ ap (λ y. needsT ns s b spots y c) g))
 
   pub row-unknown : (h v c : ℕ) (e d : List ℕ) → v ≡ wordT d h 0 → c ≡ typedT e outs (b .names) v → c ≡ 0 → holdOf e d 15 v ≡ holdRow ns old s b spots a outs h e d
   row-unknown h v c e d f g k = at-row h v c e d _ f g (code-unknown h v c e d k)
 
-  pub row-needs : (h v c i : ℕ) (r : Bool) (e d : List ℕ) → v ≡ wordT d h 0 → c ≡ typedT e outs (b .names) v → (c ≡ 0 → ⊥) → i ≡ wordT d h 1 → r ≡ needsT ns s b i c → r ≡ true → holdOf e d 16 v ≡ holdRow ns old s b spots a outs h e d
+  pub row-needs : (h v c i : ℕ) (r : Bool) (e d : List ℕ) → v ≡ wordT d h 0 → c ≡ typedT e outs (b .names) v → (c ≡ 0 → ⊥) → i ≡ wordT d h 1 → r ≡ needsT ns s b spots i c → r ≡ true → holdOf e d 16 v ≡ holdRow ns old s b spots a outs h e d
   row-needs h v c i r e d f g k l m n = at-row h v c e d _ f g (code-needs h v c i r e d k l m n)
 
-  pub row-known : (h v c i : ℕ) (r : Bool) (e d : List ℕ) (z : Hold) → v ≡ wordT d h 0 → c ≡ typedT e outs (b .names) v → (c ≡ 0 → ⊥) → i ≡ wordT d h 1 → r ≡ needsT ns s b i c → r ≡ false → z ≡ knownT h v c (holderT old s b spots a v) e d → z ≡ holdRow ns old s b spots a outs h e d
+  pub row-known : (h v c i : ℕ) (r : Bool) (e d : List ℕ) (z : Hold) → v ≡ wordT d h 0 → c ≡ typedT e outs (b .names) v → (c ≡ 0 → ⊥) → i ≡ wordT d h 1 → r ≡ needsT ns s b spots i c → r ≡ false → z ≡ knownT h v c (holderT old s b spots a v) e d → z ≡ holdRow ns old s b spots a outs h e d
   row-known h v c i r e d z f g k l m n o = at-row h v c e d z f g (code-known h v c i r e d z k l m n o)
 
   -- one row after the other

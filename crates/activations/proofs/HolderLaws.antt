@@ -62,19 +62,19 @@ start-literal t tag x z e f = f ∙ literal-bytes tag z ∙ ap (λ (y : Start). 
 pub start-name : (t : Start) (v : ℕ) (x y z : State) → t ≡ sr.Name v → y ≡ put 1 z → x ≡ puts (two v) y → x ≡ puts (startBytes t) z
 start-name t v x y z e f g = g ∙ ap (puts (two v)) f ∙ name-bytes v z ∙ ap (λ (y : Start). puts (startBytes y) z) (sym e)
 
-module _ (ns : List Name) (s : List ℕ) (b : Base) where
-  pub init-start : (init c : ℕ) (t : Start) (x z : State) → init ≡ 0 → t ≡ startT ns s (b .enums) c → x ≡ puts (startBytes t) z → x ≡ puts (initBytes ns s b init c) z
+module _ (ns : List Name) (s : List ℕ) (b : Base) (spots : List ℕ) where
+  pub init-start : (init c : ℕ) (t : Start) (x z : State) → init ≡ 0 → t ≡ startT ns s (b .enums) spots c → x ≡ puts (startBytes t) z → x ≡ puts (initBytes ns s b spots init c) z
   unfolding initBytes
   init-start init c t x z e f g = g ∙ ap (λ y. puts y z) (yes init 0 _ _ _ e (ap startBytes f))
 
-  pub init-copied : (init c e : ℕ) (bs : List ℕ) (x z : State) → (init ≡ 0 → ⊥) → e ≡ endOf (exprIn ns s init) → bs ≡ sliceOf s init (e - init) → x ≡ puts bs z → x ≡ puts (initBytes ns s b init c) z
+  pub init-copied : (init c e : ℕ) (bs : List ℕ) (x z : State) → (init ≡ 0 → ⊥) → e ≡ endOf (exprIn ns s init) → bs ≡ sliceOf s init (e - init) → x ≡ puts bs z → x ≡ puts (initBytes ns s b spots init c) z
   unfolding initBytes
   init-copied init c e bs x z n f g h = h ∙ ap (λ y. puts y z) (no init 0 _ _ _ n (g ∙ ap (λ y. sliceOf s init (y - init)) f))
 
-  pub row-items : (old spots : List ℕ) (a : Name) (env held : List ℕ) (h v i j c : ℕ) (x z : State) → v ≡ wordT held h 0 → i ≡ wordT held h 1 → j ≡ wordT held h 2 → c ≡ getD env j 0
-      → x ≡ render old (holderItems s spots a v (initBytes ns s b i c)) z → x ≡ render old (rowItems ns s b spots a env held h) z
+  pub row-items : (old : List ℕ) (a : Name) (env held : List ℕ) (h v i j c : ℕ) (x z : State) → v ≡ wordT held h 0 → i ≡ wordT held h 1 → j ≡ wordT held h 2 → c ≡ getD env j 0
+      → x ≡ render old (holderItems s spots a v (initBytes ns s b spots i c)) z → x ≡ render old (rowItems ns s b spots a env held h) z
   unfolding rowItems
-  row-items old spots a env held h v i j c x z e f g k l = l ∙ (λ o. render old (holderItems s spots a (e o) (initBytes ns s b (f o) ((k ∙ ap (λ y. getD env y 0) g) o))) z)
+  row-items old a env held h v i j c x z e f g k l = l ∙ (λ o. render old (holderItems s spots a (e o) (initBytes ns s b spots (f o) ((k ∙ ap (λ y. getD env y 0) g) o))) z)
 
 holder-steps : (old s spots : List ℕ) (a : Name) (v : ℕ) (bs : List ℕ) (w : State) → puts (two v) (puts (5 ∷ 1 ∷ []) (puts bs (put 6 (putName old (lastVar a (packName s spots v)) (puts (two 1) w))))) ≡ render old (holderItems s spots a v bs) w
 unfolding holderItems render putItem puts

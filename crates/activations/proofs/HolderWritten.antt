@@ -35,6 +35,7 @@ use Rattle.activation_rules.specs.Sought.{Sought}
 use Rattle.activation_rules.specs.Holders.{holderEquation}
 use Rattle.activations.specs.Walks.{InitAt}
 use Rattle.activations.specs.TypesAt.{Coded, StartIn, startExpr, startT, zeroOf}
+use Rattle.activations.specs.FirstsAt.{FirstsAre}
 use Rattle.activations.specs.SoughtAt.{RowInit, RowIs, wordT}
 use Rattle.activations.specs.HoldersAt.{holderItems, initBytes, rowItems, startBytes}
 use Rattle.activations.proofs.Starts.{start-is}
@@ -73,12 +74,12 @@ module _ (ns : List Name) (fresh : Fresh [] ns) (legal : All LegalName ns) (few 
   start-written (sr.Literal tag) e h i z = literal-written tag z ∙ ap (λ y. render (tabled ns) (exprItems (exprOr e y)) z) h
   start-written (sr.Name v) e h i z = name-written v i z ∙ ap (λ y. render (tabled ns) (exprItems (exprOr e y)) z) h
 
-  module _ (b : Base) (enums : List Enum) (q : ℕ) (E : counted (enumIn ns s) s (b .enums) ≡ value enums q) where
-    init-written : (i : Option Expr) (init c : ℕ) (t : Ty) (e : Expr) → RowInit ns s i init → Coded ns s c (some t) → firstOf i (startOf enums t) ≡ some e → (z : State) → puts (initBytes ns s b init c) z ≡ render (tabled ns) (exprItems e) z
+  module _ (b : Base) (enums : List Enum) (q : ℕ) (E : counted (enumIn ns s) s (b .enums) ≡ value enums q) (spots : List ℕ) (F : FirstsAre ns s (b .enums) spots) where
+    init-written : (i : Option Expr) (init c : ℕ) (t : Ty) (e : Expr) → RowInit ns s i init → Coded ns s c (some t) → firstOf i (startOf enums t) ≡ some e → (z : State) → puts (initBytes ns s b spots init c) z ≡ render (tabled ns) (exprItems e) z
     unfolding initBytes RowInit InitAt firstOf exprOr sliceOf
     init-written none init c t e r h f z =
-        let k = start-is ns fresh few s by (b .enums) enums q E c t h in
-        rw (eq-eqb init 0 (r .1)) (start-written (startT ns s (b .enums) c) e (k .0 ∙ f) (k .1) z)
+        let k = start-is ns fresh few s by (b .enums) enums q E spots F c t h in
+        rw (eq-eqb init 0 (r .1)) (start-written (startT ns s (b .enums) spots c) e (k .0 ∙ f) (k .1) z)
     init-written (some d) init c t e r h f z =
         rw (ne-eqb init 0 (λ y. let l = r .1 .0 in omega arith))
         (ap (λ y. puts (take (y - init) (drop init s)) z) (end-to (exprIn ns s init) d (r .0) (r .1 .1))
@@ -86,14 +87,14 @@ module _ (ns : List Name) (fresh : Fresh [] ns) (legal : All LegalName ns) (few 
         ∙ ap (λ y. render (tabled ns) (exprItems (exprOr e y)) z) f)
 
     -- THE LINK: a row whose type and initial value are known
-    pub row-written : (spots : List ℕ) → ((i : ℕ) → i < length ns → packName s spots i ≡ nameAt ns i) → (a : Name) (env held : List ℕ) (h : ℕ) (x : Sought) (t : Ty) (e : Expr) → RowIs ns s held h x → Coded ns s (getD env (wordT held h 2) 0) (some t) → firstOf (x .init) (startOf enums t) ≡ some e
+    pub row-written : ((i : ℕ) → i < length ns → packName s spots i ≡ nameAt ns i) → (a : Name) (env held : List ℕ) (h : ℕ) (x : Sought) (t : Ty) (e : Expr) → RowIs ns s held h x → Coded ns s (getD env (wordT held h 2) 0) (some t) → firstOf (x .init) (startOf enums t) ≡ some e
         → (z : State) → render (tabled ns) (rowItems ns s b spots a env held h) z ≡ render (tabled ns) (equationItems (holderEquation a (x .var) e)) z
     unfolding rowItems holderItems RowIs holderEquation render putItem puts
-    row-written spots placed a env held h x t e r k f z =
+    row-written placed a env held h x t e r k f z =
         let v = wordT held h 0 in
         let n : packName s spots v ≡ x .var = placed v (r .0) ∙ r .1 in
         let y = put 6 (putName (tabled ns) (lastVar a (x .var)) (puts (two 1) z)) in
-        ap (λ m. puts (two v) (put 1 (put 5 (puts (initBytes ns s b (wordT held h 1) (getD env (wordT held h 2) 0)) (put 6 (putName (tabled ns) (lastVar a m) (puts (two 1) z))))))) n
+        ap (λ m. puts (two v) (put 1 (put 5 (puts (initBytes ns s b spots (wordT held h 1) (getD env (wordT held h 2) 0)) (put 6 (putName (tabled ns) (lastVar a m) (puts (two 1) z))))))) n
         ∙ ap (λ w. puts (two v) (put 1 (put 5 w))) (init-written (x .init) (wordT held h 1) (getD env (wordT held h 2) 0) t e (r .2) k f y)
         ∙ numbered v (r .0) (put 1 (put 5 (render (tabled ns) (exprItems e) y)))
         ∙ ap (λ m. putName (tabled ns) m (put 1 (put 5 (render (tabled ns) (exprItems e) y)))) (r .1)

@@ -29,6 +29,7 @@ use Rattle.activation_rules.specs.Types.{lastTyped, portNames, typed}
 use Rattle.activation_rules.specs.Sought.{Sought}
 use Rattle.activation_rules.specs.Holders.{Holding, also, held, hold, holderEquation, holderPort, unheld, withInit, withType}
 use Rattle.activations.specs.TypesAt.{Coded}
+use Rattle.activations.specs.FirstsAt.{FirstsAre}
 use Rattle.activations.specs.SoughtAt.{RowIs, RowsFrom, wordT}
 use Rattle.activations.specs.HoldAt.{Hold}
 use Rattle.activations.specs.HeldAs.{HeldAs, KnownAt, asHeld}
@@ -132,7 +133,7 @@ module _ (ns : List Name) (s : List ℕ) (a : Name) (env table : List ℕ) (port
       subst (Coded ns s (getD env (wordT table h 2) 0)) w c
 
 module _ (ns : List Name) (fresh : Fresh [] ns) (legal : All LegalName ns) (few : length ns < 65536) (s : List ℕ) (by : Bytes s) (b : Base) (enums : List Enum) (q : ℕ) (E : counted (enumIn ns s) s (b .enums) ≡ value enums q)
-    (spots : List ℕ) (placed : (i : ℕ) → i < length ns → packName s spots i ≡ nameAt ns i) (a : Name) (env table : List ℕ) (ports : List Port) where
+    (spots : List ℕ) (F : FirstsAre ns s (b .enums) spots) (placed : (i : ℕ) → i < length ns → packName s spots i ≡ nameAt ns i) (a : Name) (env table : List ℕ) (ports : List Port) where
   rows-written : (n h : ℕ) (xs : List Sought) (ps : List Port) (gs : List Equation) (pre : List Port) (z : State) → n ≡ length xs → RowsFrom ns s table h xs → Holds enums a xs ps gs → VarsOnce xs → pre ++ ps ≡ ports → RowTypes ns s a env table ports (h + n)
       → render (tabled ns) (eachT (rowItems ns s b spots a env table) n h) z ≡ render (tabled ns) (each equationItems gs) z
   unfolding RowsFrom VarsOnce eachT each render
@@ -143,15 +144,15 @@ module _ (ns : List Name) (fresh : Fresh [] ns) (legal : All LegalName ns) (few 
       let m : member (lastVar a (x .var)) (portNames ps) ≡ false = holders-told enums a (x .var) xs ps gs d ∙ o .0 in
       let k = row-coded ns s a env table ports h x p ps pre t (r .0) u m g (c h (omega arith)) in
       render-append (tabled ns) (rowItems ns s b spots a env table h) (eachT (rowItems ns s b spots a env table) n (suc h)) z
-      ∙ ap (render (tabled ns) (eachT (rowItems ns s b spots a env table) n (suc h))) (row-written ns fresh legal few s by b enums q E spots placed a env table h x t i (r .0) k w z ∙ ap (λ (y : Equation). render (tabled ns) (equationItems y) z) (sym v))
+      ∙ ap (render (tabled ns) (eachT (rowItems ns s b spots a env table) n (suc h))) (row-written ns fresh legal few s by b enums q E spots F placed a env table h x t i (r .0) k w z ∙ ap (λ (y : Equation). render (tabled ns) (equationItems y) z) (sym v))
       ∙ rows-written n (suc h) xs ps gs (pre ++ (p ∷ [])) (render (tabled ns) (equationItems f) z) (omega arith) (r .1) d (o .1) (append-assoc pre (p ∷ []) ps ∙ g) (λ j l. c j (omega arith))
       ∙ sym (render-append (tabled ns) (equationItems f) (each equationItems gs) z)
 
 -- THE LINK: the equations of all holders
 pub holders-written : (ns : List Name) → Fresh [] ns → All LegalName ns → length ns < 65536 → (s : List ℕ) → Bytes s → (b : Base) (enums : List Enum) (q : ℕ) → counted (enumIn ns s) s (b .enums) ≡ value enums q
-    → (spots : List ℕ) → ((i : ℕ) → i < length ns → packName s spots i ≡ nameAt ns i) → (a : Name) (env table : List ℕ) (n : ℕ) (xs : List Sought) (base outputs ps : List Port) (gs : List Equation)
+    → (spots : List ℕ) → FirstsAre ns s (b .enums) spots → ((i : ℕ) → i < length ns → packName s spots i ≡ nameAt ns i) → (a : Name) (env table : List ℕ) (n : ℕ) (xs : List Sought) (base outputs ps : List Port) (gs : List Equation)
     → n ≡ length xs → VarsOnce xs → RowsFrom ns s table 0 xs → hold enums a base outputs xs ≡ held ps gs → KnownAt ns s a env table n (base ++ ps)
     → (z : State) → render (tabled ns) (eachT (rowItems ns s b spots a env table) n 0) z ≡ render (tabled ns) (each equationItems gs) z
-holders-written ns fresh legal few s by b enums q E spots placed a env table n xs base outputs ps gs e o r h K z =
-    rows-written ns fresh legal few s by b enums q E spots placed a env table (base ++ ps) n 0 xs ps gs base z e r (hold-holds enums a outputs xs base ps gs h) o refl
+holders-written ns fresh legal few s by b enums q E spots F placed a env table n xs base outputs ps gs e o r h K z =
+    rows-written ns fresh legal few s by b enums q E spots F placed a env table (base ++ ps) n 0 xs ps gs base z e r (hold-holds enums a outputs xs base ps gs h) o refl
     (λ j l. known-types ns s a env table (base ++ ps) n K j (omega arith))

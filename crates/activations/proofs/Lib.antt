@@ -28,6 +28,7 @@ pub mod CheckLaws
 pub mod ChecksFound
 pub mod IdLaws
 pub mod TypeLaws
+pub mod FirstLaws
 pub mod TypesKnown
 pub mod Starts
 pub mod NumberLaws
@@ -39,6 +40,7 @@ pub mod ScopeLocalLaws
 pub mod SoughtLaws
 pub mod HoldLaws
 pub mod RowsNoted
+pub mod FirstsKept
 pub mod IdsKnown
 pub mod Keeping
 pub mod SoughtFound

@@ -33,7 +33,8 @@ use Rattle.activations.specs.declared.types.Start.{Start}
 use Rattle.activations.specs.declared.types.Start.the-variants as sr
 use Rattle.activations.specs.Places.{eachOf}
 use Rattle.activation_rules.specs.Defaults.{asVariable, firstName, firstVariant, startOf}
-use Rattle.activations.specs.TypesAt.{Coded, StartIn, enumEnd, firstVariantT, plainStart, startAt, startExpr, startT, variantAt, variantOr, zeroOf}
+use Rattle.activations.specs.TypesAt.{Coded, StartIn, enumEnd, firstVariantT, plainStart, startAt, startExpr, startT, variantAt, variantOr, variantT, zeroOf}
+use Rattle.activations.specs.FirstsAt.{FirstsAre}
 use Rattle.activations.proofs.ActRead.{counted-value}
 use Rattle.activations.proofs.TypesKnown.{coded-one, coded-read, lies-type}
 
@@ -43,18 +44,18 @@ first-nothing none = refl
 first-nothing (some x) = refl
 
 -- an enum that was read
-record EnumRead (ns : List Name) (s : List ℕ) (at : ℕ) (x : Enum) (q : ℕ) : Type 0 where
-  i : ℕ
-  to : ℕ
-  b : ℕ
-  is : u16 s at ≡ value i to
-  small : i < length ns
-  named : nameAt ns i ≡ x .name
-  count : u16 s to ≡ value (length (x .variants)) b
-  variants : many (nameIn ns s) (length (x .variants)) b ≡ value (x .variants) q
-  over : enumEnd ns s at ≡ q
+pub record EnumRead (ns : List Name) (s : List ℕ) (at : ℕ) (x : Enum) (q : ℕ) : Type 0 where
+  pub i : ℕ
+  pub to : ℕ
+  pub b : ℕ
+  pub is : u16 s at ≡ value i to
+  pub small : i < length ns
+  pub named : nameAt ns i ≡ x .name
+  pub count : u16 s to ≡ value (length (x .variants)) b
+  pub variants : many (nameIn ns s) (length (x .variants)) b ≡ value (x .variants) q
+  pub over : enumEnd ns s at ≡ q
 
-enum-read : (ns : List Name) (s : List ℕ) (at : ℕ) (x : Enum) (q : ℕ) → enumIn ns s at ≡ value x q → EnumRead ns s at x q
+pub enum-read : (ns : List Name) (s : List ℕ) (at : ℕ) (x : Enum) (q : ℕ) → enumIn ns s at ≡ value x q → EnumRead ns s at x q
 unfolding enumIn enumEnd namesIn
 enum-read ns s at x q e =
     let b = bind-value (nameIn ns s at) _ x q e in
@@ -138,7 +139,7 @@ module _ (ns : List Name) (fresh : Fresh [] ns) (few : length ns < 65536) (s : L
       (subst (λ y. Varies (eachOf (variantAt s x) (enumEnd ns s) n y (variantAt s x p r)) (firstOf (firstVariant es (nameAt ns x)) (firstOf (cond (eqName (e .name) (nameAt ns x)) (firstName (e .variants)) none) o))) (sym (k .over))
       (variants-read x n (a .0) es q (variantAt s x p r) (firstOf (cond (eqName (e .name) (nameAt ns x)) (firstName (e .variants)) none) o) l (a .2) (variant-read x p e (a .0) r o l (a .1) h)))
 
-  module _ (enums : ℕ) (es : List Enum) (q : ℕ) (E : counted (enumIn ns s) s enums ≡ value es q) where
+  module _ (enums : ℕ) (es : List Enum) (q : ℕ) (E : counted (enumIn ns s) s enums ≡ value es q) (spots : List ℕ) (F : FirstsAre ns s enums spots) where
     variant-is : (x : ℕ) → x < length ns → Varies (firstVariantT ns s enums x) (firstVariant es (nameAt ns x))
     unfolding firstVariantT
     variant-is x l =
@@ -146,6 +147,11 @@ module _ (ns : List Name) (fresh : Fresh [] ns) (few : length ns < 65536) (s : L
         subst (λ y. Varies y (firstVariant es (nameAt ns x))) (sym (number-to s enums (length es) (a .0) (λ n p. eachOf (variantAt s x) (enumEnd ns s) n p sr.Missing) (a .1)))
         (subst (Varies (eachOf (variantAt s x) (enumEnd ns s) (length es) (a .0) sr.Missing)) (first-nothing (firstVariant es (nameAt ns x)))
         (variants-read x (length es) (a .0) es q sr.Missing none l (a .2) missing))
+
+    -- what is looked up is what is sought
+    looked-up : (x : ℕ) → variantT ns s enums spots x ≡ firstVariantT ns s enums x
+    unfolding variantT FirstsAre
+    looked-up x = ⊎-elim (λ l. rw (lt-ltb x 17408 l) (F x l)) (λ l. rw (le-ltb x 17408 l)) (lt-or-le x 17408)
 
     -- what is read of a start
     abbrev pub StartIs : Start → Option Expr → Type 0
@@ -160,25 +166,26 @@ module _ (ns : List Name) (fresh : Fresh [] ns) (few : length ns < 65536) (s : L
     varies-start (sr.Name v) (some n) h = (ap (λ y. some (eVar y)) (h .1), h .0)
 
     -- by the tag of a type
-    plain-read : (c k : ℕ) (rest : List ℕ) → drop c s ≡ k ∷ rest → k < 256 → (k ≡ 13 → ⊥) → startAt ns s enums c ≡ plainStart k
+    plain-read : (c k : ℕ) (rest : List ℕ) → drop c s ≡ k ∷ rest → k < 256 → (k ≡ 13 → ⊥) → startAt ns s enums spots c ≡ plainStart k
     unfolding startAt single
     plain-read c k rest d l n =
         let b = formatByte .back s c k rest l d in
-        byte-to s c k (b .to) (λ tag p. cond (eqb tag 13) (with (numberIn s p) λ x q. firstVariantT ns s enums x) (plainStart tag)) (b .reads)
+        byte-to s c k (b .to) (λ tag p. cond (eqb tag 13) (with (numberIn s p) λ x q. variantT ns s enums spots x) (plainStart tag)) (b .reads)
         ∙ (rw (ne-eqb k 13 n))
 
-    named-read : (c i : ℕ) (rest : List ℕ) → drop c s ≡ 13 ∷ (two i ++ rest) → i < length ns → startAt ns s enums c ≡ firstVariantT ns s enums i
+    named-read : (c i : ℕ) (rest : List ℕ) → drop c s ≡ 13 ∷ (two i ++ rest) → i < length ns → startAt ns s enums spots c ≡ firstVariantT ns s enums i
     unfolding startAt single
     named-read c i rest d l =
         let b = formatByte .back s c 13 (two i ++ rest) (omega arith) d in
         let n = format16 .back s (b .to) i rest (omega arith) (b .rest) in
-        byte-to s c 13 (b .to) (λ tag p. cond (eqb tag 13) (with (numberIn s p) λ x q. firstVariantT ns s enums x) (plainStart tag)) (b .reads)
-        ∙ number-to s (b .to) i (n .to) (λ x q. firstVariantT ns s enums x) (n .reads)
+        byte-to s c 13 (b .to) (λ tag p. cond (eqb tag 13) (with (numberIn s p) λ x q. variantT ns s enums spots x) (plainStart tag)) (b .reads)
+        ∙ number-to s (b .to) i (n .to) (λ x q. variantT ns s enums spots x) (n .reads)
+        ∙ looked-up i
 
-    plain-start : (c k : ℕ) (rest : List ℕ) (o : Option Expr) → drop c s ≡ k ∷ rest → k < 256 → (k ≡ 13 → ⊥) → StartIs (plainStart k) o → StartIs (startAt ns s enums c) o
+    plain-start : (c k : ℕ) (rest : List ℕ) (o : Option Expr) → drop c s ≡ k ∷ rest → k < 256 → (k ≡ 13 → ⊥) → StartIs (plainStart k) o → StartIs (startAt ns s enums spots c) o
     plain-start c k rest o d l n h = subst (λ y. StartIs y o) (sym (plain-read c k rest d l n)) h
 
-    type-start : (c : ℕ) (t : Ty) (e : ℕ) → Lies ns s c (tyItems t) e → StartIs (startAt ns s enums c) (startOf es t)
+    type-start : (c : ℕ) (t : Ty) (e : ℕ) → Lies ns s c (tyItems t) e → StartIs (startAt ns s enums spots c) (startOf es t)
     unfolding code tyItems one startOf plainStart startExpr StartIn zeroOf Each two
     type-start c tBool e l = plain-start c 0 _ _ (l .bytes) (omega arith) (λ z. omega arith) (refl, tt)
     type-start c tInt8 e l = plain-start c 1 _ _ (l .bytes) (omega arith) (λ z. omega arith) (refl, tt)
@@ -199,14 +206,14 @@ module _ (ns : List Name) (fresh : Fresh [] ns) (few : length ns < 65536) (s : L
         (varies-start (firstVariantT ns s enums (place ns n)) (firstVariant es n)
         (subst (λ y. Varies (firstVariantT ns s enums (place ns n)) (firstVariant es y)) (name-at-place ns n k) (variant-is (place ns n) k)))
 
-    bool-start : (c : ℕ) (t : Ty) → Coded ns s c (some t) → c < 2 → StartIs (startT ns s enums c) (startOf es t)
+    bool-start : (c : ℕ) (t : Ty) → Coded ns s c (some t) → c < 2 → StartIs (startT ns s enums spots c) (startOf es t)
     unfolding startT startExpr StartIn zeroOf startOf
     bool-start c t h l = rw (lt-ltb c 2 l) (subst (λ y. StartIs (sr.Literal 0) (startOf es y)) (sym (coded-one ns s c t h l)) (refl, tt))
 
-    read-start : (c : ℕ) (t : Ty) → Coded ns s c (some t) → 2 ≤ c → StartIs (startT ns s enums c) (startOf es t)
+    read-start : (c : ℕ) (t : Ty) → Coded ns s c (some t) → 2 ≤ c → StartIs (startT ns s enums spots c) (startOf es t)
     unfolding startT
     read-start c t h l = rw (le-ltb c 2 l) (type-start c t (endOf (typeIn ns s c)) (lies-type ns fresh few s by c t (endOf (typeIn ns s c)) (coded-read ns s c t h l)))
 
     -- THE LINK: what a holder of a type starts from
-    pub start-is : (c : ℕ) (t : Ty) → Coded ns s c (some t) → StartIs (startT ns s enums c) (startOf es t)
+    pub start-is : (c : ℕ) (t : Ty) → Coded ns s c (some t) → StartIs (startT ns s enums spots c) (startOf es t)
     start-is c t h = ⊎-elim (λ l. bool-start c t h l) (λ l. read-start c t h l) (lt-or-le c 2)

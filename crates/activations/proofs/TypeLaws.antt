@@ -1,5 +1,5 @@
 -- Laws for the code that fills and reads tables of types, step by step.
-use Prim.Native.Nat.{ℕ, _-_, _%_, _<_, _≤_}
+use Prim.Native.Nat.{ℕ, _+_, _-_, _%_, _<_, _≤_}
 use native.Mathlib.Omega.{arith}
 use mathlib.Core.List.{List, [], _∷_}
 use mathlib.Core.Bool.{true, false}
@@ -26,7 +26,7 @@ use Rattle.activations.specs.declared.types.Start.the-variants as sr
 use Rattle.activations.specs.Cells.{clearT, putT}
 use Rattle.activations.specs.Places.{along, eachOf, rightSideIn}
 use Rattle.activations.specs.TypeCodes.{codeOr, outT, typedT, valueTypeT}
-use Rattle.activations.specs.TypesAt.{enumEnd, firstPortT, firstPortsT, firstVariantT, inputsIn, isMissing, plainStart, portEnd, portT, portsEnd, portsT, startAt, startT, threePortsT, typeBytes, variablesT, variantAt, variantOr}
+use Rattle.activations.specs.TypesAt.{enumEnd, firstPortT, firstPortsT, firstVariantT, inputsIn, isMissing, plainStart, portEnd, portT, portsEnd, portsT, startAt, startT, threePortsT, typeBytes, variablesT, variantAt, variantOr, variantT, wordStart}
 use Rattle.activations.proofs.PlaceLaws.{along-end, each-end}
 
 pub inputs-is : (s : List ℕ) (at : ℕ) (i : Num) (r : Read) (k : Num) → i ≡ numberIn s at → r ≡ readOf (byte s (i .next)) → k ≡ sureOf r → k .next ≡ inputsIn s at
@@ -87,26 +87,36 @@ module _ (ns : List Name) (s : List ℕ) where
     unfolding firstVariantT
     variants-done x c n p r e l h = on c _ _ _ e (each-end (variantAt s x) (enumEnd ns s) n p r _ l h)
 
-    pub start-bool : (c : ℕ) → c < 2 → sr.Literal 0 ≡ startT ns s enums c
+  -- by the table of names
+  module _ (enums : ℕ) (spots : List ℕ) where
+    pub variant-near : (x c : ℕ) (t : Start) → x < 17408 → c ≡ getD spots (32768 + x) 0 → t ≡ wordStart c → t ≡ variantT ns s enums spots x
+    unfolding variantT
+    variant-near x c t l e f = rw (lt-ltb x 17408 l) (f ∙ ap wordStart e)
+
+    pub variant-far : (x : ℕ) (t : Start) → 17408 ≤ x → t ≡ firstVariantT ns s enums x → t ≡ variantT ns s enums spots x
+    unfolding variantT
+    variant-far x t l e = rw (le-ltb x 17408 l) e
+
+    pub start-bool : (c : ℕ) → c < 2 → sr.Literal 0 ≡ startT ns s enums spots c
     unfolding startT
     start-bool c l = rw (lt-ltb c 2 l)
 
-    at-code : (c : ℕ) (t : Start) → 2 ≤ c → t ≡ startAt ns s enums c → t ≡ startT ns s enums c
+    at-code : (c : ℕ) (t : Start) → 2 ≤ c → t ≡ startAt ns s enums spots c → t ≡ startT ns s enums spots c
     unfolding startT
     at-code c t l e = rw (le-ltb c 2 l) e
 
-    named-at : (c : ℕ) (r : Read) (k x : Num) (t : Start) → r ≡ readOf (byte s c) → k ≡ sureOf r → k .value ≡ 13 → x ≡ numberIn s (k .next) → t ≡ firstVariantT ns s enums (x .value) → t ≡ startAt ns s enums c
+    named-at : (c : ℕ) (r : Read) (k x : Num) (t : Start) → r ≡ readOf (byte s c) → k ≡ sureOf r → k .value ≡ 13 → x ≡ numberIn s (k .next) → t ≡ variantT ns s enums spots (x .value) → t ≡ startAt ns s enums spots c
     unfolding startAt
     named-at c r k x t e f g h i = on k _ _ _ (byte-is s c r k e f) (yes (k .value) 13 _ _ _ g (on x _ _ _ h i))
 
-    plain-at : (c : ℕ) (r : Read) (k : Num) (t : Start) → r ≡ readOf (byte s c) → k ≡ sureOf r → (k .value ≡ 13 → ⊥) → t ≡ plainStart (k .value) → t ≡ startAt ns s enums c
+    plain-at : (c : ℕ) (r : Read) (k : Num) (t : Start) → r ≡ readOf (byte s c) → k ≡ sureOf r → (k .value ≡ 13 → ⊥) → t ≡ plainStart (k .value) → t ≡ startAt ns s enums spots c
     unfolding startAt
     plain-at c r k t e f g h = on k _ _ _ (byte-is s c r k e f) (no (k .value) 13 _ _ _ g h)
 
-    pub start-named : (c : ℕ) (r : Read) (k x : Num) (t : Start) → 2 ≤ c → r ≡ readOf (byte s c) → k ≡ sureOf r → k .value ≡ 13 → x ≡ numberIn s (k .next) → t ≡ firstVariantT ns s enums (x .value) → t ≡ startT ns s enums c
+    pub start-named : (c : ℕ) (r : Read) (k x : Num) (t : Start) → 2 ≤ c → r ≡ readOf (byte s c) → k ≡ sureOf r → k .value ≡ 13 → x ≡ numberIn s (k .next) → t ≡ variantT ns s enums spots (x .value) → t ≡ startT ns s enums spots c
     start-named c r k x t l e f g h i = at-code c t l (named-at c r k x t e f g h i)
 
-    pub start-plain : (c : ℕ) (r : Read) (k : Num) (t : Start) → 2 ≤ c → r ≡ readOf (byte s c) → k ≡ sureOf r → (k .value ≡ 13 → ⊥) → t ≡ plainStart (k .value) → t ≡ startT ns s enums c
+    pub start-plain : (c : ℕ) (r : Read) (k : Num) (t : Start) → 2 ≤ c → r ≡ readOf (byte s c) → k ≡ sureOf r → (k .value ≡ 13 → ⊥) → t ≡ plainStart (k .value) → t ≡ startT ns s enums spots c
     start-plain c r k t l e f g h = at-code c t l (plain-at c r k t e f g h)
 
 pub out-old : (outs : List ℕ) (names x r : ℕ) → x < names → r ≡ getD outs x 0 → r ≡ outT outs names x
@@ -132,6 +142,14 @@ typed-is env outs names x c d r e f g = g ∙ (λ j. codeOr (e j) (f j))
 pub value-is : (env outs : List ℕ) (names x c b d r : ℕ) → c ≡ outT outs names x → b ≡ getD env x 0 → d ≡ codeOr b 1 → r ≡ codeOr c d → r ≡ valueTypeT env outs names x
 unfolding valueTypeT
 value-is env outs names x c b d r e f g h = h ∙ (λ j. codeOr (e j) (g j)) ∙ ap (λ y. codeOr (outT outs names x) (codeOr y 1)) f
+
+pub word-none : (c : ℕ) → c ≡ 0 → sr.Missing ≡ wordStart c
+unfolding wordStart
+word-none c e = yes c 0 _ _ _ e refl
+
+pub word-some : (c : ℕ) → (c ≡ 0 → ⊥) → sr.Name (c - 1) ≡ wordStart c
+unfolding wordStart
+word-some c e = no c 0 _ _ _ e refl
 
 pub variant-none : (s : List ℕ) (k p : ℕ) (r : Start) → k ≡ 0 → r ≡ variantOr s k p r
 unfolding variantOr

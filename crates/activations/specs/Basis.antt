@@ -16,6 +16,7 @@ use Rattle.activations.specs.Places.{actAt}
 use Rattle.activation_rules.specs.Types.{lastTyped, variables}
 use Rattle.activations.specs.Walks.{LastIs}
 use Rattle.activations.specs.TypesAt.{TypesAre}
+use Rattle.activations.specs.FirstsAt.{FirstsAre}
 
 -- the names ns, the enums es
 pub record Basis (ns : List Name) (es : List Enum) (old s spots : List ℕ) (b : Base) : Type 0 where
@@ -27,6 +28,7 @@ pub record Basis (ns : List Name) (es : List Enum) (old s spots : List ℕ) (b :
   pub made : MadeIs ns (b .made)
   pub to : ℕ
   pub enums : counted (enumIn ns s) s (b .enums) ≡ value es to
+  pub firsts : FirstsAre ns s (b .enums) spots
 
 -- the activation A was read there, and its parts are those of `act`
 pub record ReadAt (ns : List Name) (s : List ℕ) (at : ℕ) (A : Activation) (act : Act) : Type 0 where

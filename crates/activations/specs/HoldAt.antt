@@ -35,8 +35,8 @@ abbrev pub holdOf : List ℕ → List ℕ → ℕ → ℕ → Hold
 holdOf e d k v = record { env = e; held = d; kind = k; var = v }
 
 -- whether a holder of the type of code c has nothing to start from
-unfoldable pub needsT : List Name → List ℕ → Base → ℕ → ℕ → Bool
-needsT ns s b init c = cond (eqb init 0) (isMissing (startT ns s (b .enums) c)) false
+unfoldable pub needsT : List Name → List ℕ → Base → List ℕ → ℕ → ℕ → Bool
+needsT ns s b spots init c = cond (eqb init 0) (isMissing (startT ns s (b .enums) spots c)) false
 
 -- the row h of the variable v, of a type of code c, is known by the number id
 unfoldable pub knownT : ℕ → ℕ → ℕ → ℕ → List ℕ → List ℕ → Hold
@@ -45,7 +45,7 @@ knownT h v c id e d = holdOf (putT e id c) (putT d (3 * h + 2) id) 0 v
 module _ (ns : List Name) (old s : List ℕ) (b : Base) (spots : List ℕ) (a : Name) (outs : List ℕ) where
   -- Report, kinds 15 (LastUnknown) and 16 (LastNeedsInit), or known
   unfoldable pub holdCode : ℕ → ℕ → ℕ → List ℕ → List ℕ → Hold
-  holdCode h v c e d = cond (eqb c 0) (holdOf e d 15 v) (cond (needsT ns s b (wordT d h 1) c) (holdOf e d 16 v) (knownT h v c (holderT old s b spots a v) e d))
+  holdCode h v c e d = cond (eqb c 0) (holdOf e d 15 v) (cond (needsT ns s b spots (wordT d h 1) c) (holdOf e d 16 v) (knownT h v c (holderT old s b spots a v) e d))
 
   unfoldable pub holdRow : ℕ → List ℕ → List ℕ → Hold
   holdRow h e d = holdCode h (wordT d h 0) (typedT e outs (b .names) (wordT d h 0)) e d

@@ -25,8 +25,8 @@ startBytes (sr.Literal tag) = 0 ∷ litBytes (zeroOf tag)
 startBytes (sr.Name v) = 1 ∷ two v
 
 -- the given initial value as it stands, else what the type of code c starts from
-unfoldable pub initBytes : List Name → List ℕ → Base → ℕ → ℕ → List ℕ
-initBytes ns s b init c = cond (eqb init 0) (startBytes (startT ns s (b .enums) c)) (sliceOf s init (endOf (exprIn ns s init) - init))
+unfoldable pub initBytes : List Name → List ℕ → Base → List ℕ → ℕ → ℕ → List ℕ
+initBytes ns s b spots init c = cond (eqb init 0) (startBytes (startT ns s (b .enums) spots c)) (sliceOf s init (endOf (exprIn ns s init) - init))
 
 -- the equation of the holder of v
 unfoldable pub holderItems : List ℕ → List ℕ → Name → ℕ → List ℕ → List Item
@@ -34,4 +34,4 @@ holderItems s spots a v bs = raw (two 1) ∷ nm (lastVar a (packName s spots v))
 
 -- of the row h
 unfoldable pub rowItems : List Name → List ℕ → Base → List ℕ → Name → List ℕ → List ℕ → ℕ → List Item
-rowItems ns s b spots a env held h = holderItems s spots a (wordT held h 0) (initBytes ns s b (wordT held h 1) (getD env (wordT held h 2) 0))
+rowItems ns s b spots a env held h = holderItems s spots a (wordT held h 0) (initBytes ns s b spots (wordT held h 1) (getD env (wordT held h 2) 0))

@@ -15,6 +15,7 @@ pub mod Passes
 pub mod FlagsAt
 pub mod ChecksAt
 pub mod TypesAt
+pub mod FirstsAt
 pub mod NumbersAt
 pub mod ReadsAt
 pub mod RewriteAt

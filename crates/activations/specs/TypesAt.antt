@@ -1,5 +1,5 @@
 -- Tables of types, as the code fills and reads them.
-use Prim.Native.Nat.{ℕ, _-_, _<_}
+use Prim.Native.Nat.{ℕ, _+_, _-_, _<_}
 use mathlib.Core.List.{List, [], _∷_}
 use mathlib.Core.Bool.{Bool, true, false, cond}
 use mathlib.Core.Option.{Option, none, some}
@@ -83,9 +83,18 @@ module _ (ns : List Name) (s : List ℕ) (enums : ℕ) where
   unfoldable pub firstVariantT : ℕ → Start
   firstVariantT x = with (numberIn s enums) λ n p. eachOf (variantAt s x) (enumEnd ns s) n p sr.Missing
 
+-- the same as a word of a table: one more than the variant's index, 0 for none
+unfoldable pub wordStart : ℕ → Start
+wordStart c = cond (eqb c 0) sr.Missing (sr.Name (c - 1))
+
+module _ (ns : List Name) (s : List ℕ) (enums : ℕ) (spots : List ℕ) where
+  -- the first variant by the table of names, which past their places has those words for 17,408 names; of others it is sought
+  unfoldable pub variantT : ℕ → Start
+  variantT x = cond (ltb x 17408) (wordStart (getD spots (32768 + x) 0)) (firstVariantT ns s enums x)
+
   -- of a type that stands in the pack, by its tag
   unfoldable pub startAt : ℕ → Start
-  startAt c = with (byteIn s c) λ tag p. cond (eqb tag 13) (with (numberIn s p) λ x q. firstVariantT x) (plainStart tag)
+  startAt c = with (byteIn s c) λ tag p. cond (eqb tag 13) (with (numberIn s p) λ x q. variantT x) (plainStart tag)
 
   -- what a holder of the type of a code starts from
   unfoldable pub startT : ℕ → Start

@@ -2,6 +2,7 @@
 use crate::base::Base;
 use crate::base::lookup;
 use crate::base::some_made;
+use crate::firsts::keep_firsts;
 use crate::judging::judge_nodes;
 use crate::placing::place_acts;
 use crate::placing::place_nodes;
@@ -118,6 +119,7 @@ fn lower_opened(
     ensures fits { λ r. ⌜ (r .number ≤ 9) × (r .value < 4294967296) ⌝ }
 {
     let names = x.names;
+    keep_firsts(s, names, x.enums, spots);
     place_names(s, names, spots);
     let b = base_of(old, s, x, spots);
     let m = place_nodes(s, names, x.nodes, nodes);
@@ -162,13 +164,14 @@ fn lower_opened(
     )
 }
 
-// The scratch of a call: a pack of 65,536 bytes has at most 32,767 names, 5,957 nodes and 6,553 activations.
+// The scratch of a call: a pack of 65,536 bytes has at most 32,767 names, 5,957 nodes and 6,553 activations. Past the names'
+// places there is room for what 17,408 enums start from.
 fn lower_whole(s: &[u8], x: Pack, output: &mut [u8], report: &mut [u8]) -> Outcome
     requires { ⌜ (length (now s) ≤ 65536) × OpenedAs (now s) x ⌝ }
     ensures answers { λ r. ⌜ ((p : Package) → Stands (now (s .entry)) x p → Answers (activationsOf (length (now (output .entry))) (length (now (report .entry))) p) (r .number) (r .value) (now (output .entry)) (now (output .exit)) (now (report .entry)) (now (report .exit))) ⌝ }
     ensures fits { λ r. ⌜ (r .number ≤ 9) × (r .value < 4294967296) ⌝ }
 {
-    let mut spots = [0u16; 32768];
+    let mut spots = [0u16; 50176];
     let mut nodes = [0u16; 6656];
     let mut acts = [0u16; 39936];
     let mut env = [0u16; 65536];

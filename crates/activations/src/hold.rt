@@ -21,11 +21,11 @@ pub struct Held {
 }
 
 // Whether a holder of the type of code c has nothing to start from.
-fn needs_init(s: &[u8], b: Base, init: usize, c: usize) -> bool
-    ensures { λ r. ⌜ ((ns : List Name) → length ns ≡ b .names → r ≡ needsT ns (now (s .entry)) b init c) ⌝ }
+fn needs_init(s: &[u8], b: Base, spots: &[u16], init: usize, c: usize) -> bool
+    ensures { λ r. ⌜ ((ns : List Name) → length ns ≡ b .names → r ≡ needsT ns (now (s .entry)) b (now (spots .entry)) init c) ⌝ }
 {
     if init == 0 {
-        let t = start_of(s, b.names, b.enums, c);
+        let t = start_of(s, b.names, b.enums, spots, c);
         return is_missing(t);
     }
     false
@@ -73,7 +73,7 @@ fn hold_row(
         return Held { kind: 15, var: v };
     }
     let i = word(held, 3 * h, 1);
-    if needs_init(s, b, i, c) {
+    if needs_init(s, b, spots, i, c) {
         return Held { kind: 16, var: v };
     }
     known(old, s, b, spots, a, env, held, h, v, c);

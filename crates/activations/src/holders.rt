@@ -56,12 +56,20 @@ fn put_start(t: Start, out: &mut [u8], w: Writer) -> Writer
 }
 
 // The given initial value as it stands, else what the type of code c starts from.
-fn put_init(s: &[u8], b: Base, init: usize, c: usize, out: &mut [u8], w: Writer) -> Writer
+fn put_init(
+    s: &[u8],
+    b: Base,
+    spots: &[u16],
+    init: usize,
+    c: usize,
+    out: &mut [u8],
+    w: Writer,
+) -> Writer
     requires { ⌜ length (now s) ≤ 65536 ⌝ }
-    ensures { λ r. ⌜ ((ns : List Name) → length ns ≡ b .names → (m : List ℕ) → stateOf (now (out .exit)) m r ≡ puts (initBytes ns (now (s .entry)) b init c) (stateOf (now (out .entry)) m w)) ⌝ }
+    ensures { λ r. ⌜ ((ns : List Name) → length ns ≡ b .names → (m : List ℕ) → stateOf (now (out .exit)) m r ≡ puts (initBytes ns (now (s .entry)) b (now (spots .entry)) init c) (stateOf (now (out .entry)) m w)) ⌝ }
 {
     if init == 0 {
-        let t = start_of(s, b.names, b.enums, c);
+        let t = start_of(s, b.names, b.enums, spots, c);
         return put_start(t, out, w);
     }
     let e = after_expr(s, b.names, init);
@@ -83,13 +91,13 @@ fn put_holder(
     w: Writer,
 ) -> Writer
     requires { ⌜ length (now s) ≤ 65536 ⌝ }
-    ensures { λ r. ⌜ ((ns : List Name) → length ns ≡ b .names → stateOf (now (out .exit)) (now (made .exit)) r ≡ render (now (old .entry)) (holderItems (now (s .entry)) (now (spots .entry)) (now (a .entry)) v (initBytes ns (now (s .entry)) b init c)) (stateOf (now (out .entry)) (now (made .entry)) w)) ⌝ }
+    ensures { λ r. ⌜ ((ns : List Name) → length ns ≡ b .names → stateOf (now (out .exit)) (now (made .exit)) r ≡ render (now (old .entry)) (holderItems (now (s .entry)) (now (spots .entry)) (now (a .entry)) v (initBytes ns (now (s .entry)) b (now (spots .entry)) init c)) (stateOf (now (out .entry)) (now (made .entry)) w)) ⌝ }
 {
     let n = pack_name(s, spots, v);
     let x = put_u16(out, w, 1);
     let y = put_last(old, a, n, out, made, x);
     let z = put_byte(out, y, 6);
-    let i = put_init(s, b, init, c, out, z);
+    let i = put_init(s, b, spots, init, c, out, z);
     let p = put_bytes(b"\x05\x01", out, i);
     put_u16(out, p, v)
 }

@@ -13,6 +13,7 @@ pub mod guards; // guards of branches
 pub mod merges; // outputs, merged from the scopes
 pub mod unlast; // expressions with calls of `last` replaced
 pub mod types; // the types of variables
+pub mod firsts; // what enums start from, read once
 pub mod numbers; // names by number, written and found
 pub mod reads; // what an equation of a scope reads
 pub mod rewrite; // right sides over samples

@@ -21,7 +21,7 @@ ghost use Rattle.wire.specs.Writer.{stateOf, puts};
 ghost use Rattle.pack.specs.Names.{Name};
 ghost use Rattle.activations.specs.Cells.{clearT};
 ghost use Rattle.activations.specs.TypeCodes.{codeOr, outT, typedT, valueTypeT};
-ghost use Rattle.activations.specs.TypesAt.{inputsIn, firstPortT, portsT, portsEnd, firstPortsT, variablesT, typeBytes, plainStart, variantOr, variantAt, firstVariantT, startT, isMissing};
+ghost use Rattle.activations.specs.TypesAt.{inputsIn, firstPortT, portsT, portsEnd, firstPortsT, variablesT, typeBytes, plainStart, variantOr, variantAt, firstVariantT, wordStart, variantT, startT, isMissing};
 
 // What a holder starts from: nothing, a literal of this tag with value 0, or a name.
 pub enum Start {
@@ -182,6 +182,28 @@ fn first_variant(s: &[u8], names: usize, enums: usize, x: usize) -> Start
     r
 }
 
+// What a word of the table of first variants says: one more than the variant's index, 0 for none.
+fn word_start(c: usize) -> Start
+    ensures { λ t. ⌜ t ≡ wordStart c ⌝ }
+{
+    if c == 0 {
+        return Start::Missing;
+    }
+    Start::Name(c - 1)
+}
+
+// The first variant by the table of names, which past their places has it for 17,408 names. A call has no room on the stack for
+// more; of others it is sought.
+fn variant_of(s: &[u8], names: usize, enums: usize, spots: &[u16], x: usize) -> Start
+    ensures { λ t. ⌜ ((ns : List Name) → length ns ≡ names → t ≡ variantT ns (now (s .entry)) enums (now (spots .entry)) x) ⌝ }
+{
+    if x < 17408 {
+        let c = cell(spots, 32768 + x);
+        return word_start(c);
+    }
+    first_variant(s, names, enums, x)
+}
+
 // What a holder of a type with this tag starts from, where the type is no named one.
 fn plain_start(tag: usize) -> Start
     ensures { λ t. ⌜ t ≡ plainStart tag ⌝ }
@@ -205,8 +227,8 @@ fn plain_start(tag: usize) -> Start
 }
 
 // What a holder of the type of a code starts from where no initial value is given.
-pub fn start_of(s: &[u8], names: usize, enums: usize, c: usize) -> Start
-    ensures { λ t. ⌜ ((ns : List Name) → length ns ≡ names → t ≡ startT ns (now (s .entry)) enums c) ⌝ }
+pub fn start_of(s: &[u8], names: usize, enums: usize, spots: &[u16], c: usize) -> Start
+    ensures { λ t. ⌜ ((ns : List Name) → length ns ≡ names → t ≡ startT ns (now (s .entry)) enums (now (spots .entry)) c) ⌝ }
 {
     if c < 2 {
         return Start::Literal(0);
@@ -214,7 +236,7 @@ pub fn start_of(s: &[u8], names: usize, enums: usize, c: usize) -> Start
     let t = sure(read_byte(s, c));
     if t.value == 13 {
         let x = number(s, t.next);
-        return first_variant(s, names, enums, x.value);
+        return variant_of(s, names, enums, spots, x.value);
     }
     plain_start(t.value)
 }

@@ -30,7 +30,7 @@ put-u16-requires-2 : tie.Need-put-u16-requires-2
 put-u16-requires-2 c κs = search needs
 
 same-length : tie.Need-same-length
-same-length c = c .before .before .put-u162 .kept .0 ∙ c .before .before .before .before .before .before .put-bytes .kept .1 .0 ∙ c .before .before .before .before .before .before .before .before .before .before .before .put-init .kept .1 .1 .1 .1 .0 ∙ c .before .before .before .before .before .before .before .before .before .before .before .before .before .before .before .put-byte .kept .0 ∙ c .before .before .before .before .before .before .before .before .before .before .before .before .before .before .before .before .before .before .before .before .before .put-last .kept .1 .1 .1 .0 ∙ c .before .before .before .before .before .before .before .before .before .before .before .before .before .before .before .before .before .before .before .before .before .before .before .before .before .before .put-u16 .kept .0
+same-length c = c .before .before .put-u162 .kept .0 ∙ c .before .before .before .before .before .before .put-bytes .kept .1 .0 ∙ c .before .before .before .before .before .before .before .before .before .before .before .put-init .kept .1 .1 .1 .1 .1 .0 ∙ c .before .before .before .before .before .before .before .before .before .before .before .before .before .before .before .put-byte .kept .0 ∙ c .before .before .before .before .before .before .before .before .before .before .before .before .before .before .before .before .before .before .before .before .before .put-last .kept .1 .1 .1 .0 ∙ c .before .before .before .before .before .before .before .before .before .before .before .before .before .before .before .before .before .before .before .before .before .before .before .before .before .before .put-u16 .kept .0
 
 same-length-2 : tie.Need-same-length-2
 same-length-2 c = search needs

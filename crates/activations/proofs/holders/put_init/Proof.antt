@@ -14,7 +14,7 @@ same-length : tie.Need-same-length
 same-length c = search needs
 
 returns : tie.Need-returns
-returns c = λ ns e m. init-start ns _ _ _ _ _ _ _ (c .before .before .before .before .before .if1 .taken) (c .before .before .before .before .start-of .ensures ns e) (c .before .before .put-start .ensures m)
+returns c = λ ns e m. init-start ns _ _ _ _ _ _ _ _ (c .before .before .before .before .before .if1 .taken) (c .before .before .before .before .start-of .ensures ns e) (c .before .before .put-start .ensures m)
 
 after-expr-requires : tie.Need-after-expr-requires
 after-expr-requires c κs = search needs
@@ -29,7 +29,7 @@ same-length-2 : tie.Need-same-length-2
 same-length-2 c = search needs
 
 returns-2 : tie.Need-returns-2
-returns-2 c = λ ns e m. init-copied ns _ _ _ _ _ _ _ _ (c .before .before .before .before .before .before .if1 .left) (c .before .before .before .before .before .after-expr .ensures ns e) (c .before .before .before .before .between .ensures) (c .before .before .put-bytes .ensures m)
+returns-2 c = λ ns e m. init-copied ns _ _ _ _ _ _ _ _ _ (c .before .before .before .before .before .before .if1 .left) (c .before .before .before .before .before .after-expr .ensures ns e) (c .before .before .before .before .between .ensures) (c .before .before .put-bytes .ensures m)
 
 pub put-init-spec : {M : Type 1} → statement M
 put-init-spec =
