@@ -12,6 +12,7 @@ pub mod Moving
 pub mod Views
 pub mod Walking
 pub mod HeadCopies
+pub mod Mapped
 pub mod PlaceLaws
 pub mod ActRead
 pub mod MisusedLaws

@@ -34,10 +34,10 @@ use Rattle.activations.specs.RewriteAt.{hasConstT, pinItems, pinT, pinne
 use Rattle.activations.proofs.Views.{View, toCome, vArray, vArrow, vBad, vBinary, vCall, vCast, vConst, vField, vIf, vIndex, vIterate, vLast, vMerge, vPre, vStruct, vTuple, vUnary, vVar, vWhen}
 use Rattle.activations.proofs.Walking.{walks-one}
 use Rattle.activations.proofs.HeadCopies.{Kept, head-copied, items-split, kept-come}
+use Rattle.activations.proofs.Mapped.{array-items, call-items, iterate-items, struct-items, tuple-items}
 use Rattle.activations.proofs.UnlastWritten.{bad-call, each-through, last-call, plain-call, unlast-written}
 use Rattle.activations.proofs.ClockLaws.{onto-items, onto-then}
 use Rattle.activations.proofs.MisusedFound.{one-after, or-assoc, or-false, three-after, two-after}
-use Rattle.activations.proofs.RewriteKnown.{array-items, call-items, iterate-items, struct-items, tuple-items}
 
 -- constants
 module _ (a : Name) where

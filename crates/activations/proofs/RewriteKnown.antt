@@ -1,8 +1,8 @@
 -- What the code writes of a right side that was read is the right side over samples of what it reads.
-use Prim.Native.Nat.{ℕ, suc, _+_, _-_, _<_, _≤_}
+use Prim.Native.Nat.{ℕ, _+_, _-_, _<_, _≤_}
 use native.Mathlib.Omega.{arith}
 use mathlib.Core.List.{List, [], _∷_, _++_}
-use mathlib.Core.Bool.{Bool, true, false}
+use mathlib.Core.Bool.{Bool}
 use mathlib.Core.Path.{_≡_, refl, sym, ap, subst, _∙_}
 use lib.ListN.{length, take, drop}
 use Rattle.wire.specs.Answer.{value}
@@ -10,11 +10,11 @@ use Rattle.wire.specs.Bytes.{two}
 use Rattle.wire.specs.Lists.{All, Bytes}
 use Rattle.wire.specs.Writer.{State, puts}
 use Rattle.pack.specs.Names.{Name}
-use Rattle.pack.specs.Syntax.{Expr, Exprs, IterKind, eArray, eCall, eIterate, eMerge, eStruct, eTuple, eWhen, xCons, xNil}
+use Rattle.pack.specs.Syntax.{Expr, Exprs, eMerge, eWhen, xCons, xNil}
 use Rattle.pack.specs.Forms.{nameAt}
 use Rattle.pack.specs.Legal.{Fresh, LegalName}
 use Rattle.pack.specs.Read.{exprIn}
-use Rattle.pack.specs.Write.{Item, arrays, countOf, each, exprItems, flagByte, iterByte, nm, raw}
+use Rattle.pack.specs.Write.{Item, each, exprItems, flagByte, raw}
 use Rattle.pack.specs.Table.{tabled}
 use Rattle.pack.specs.Intern.{putItem, putName, render}
 use Rattle.pack.proofs.Interns.{render-append}
@@ -30,7 +30,7 @@ use Rattle.activation_rules.specs.Unlast.{unlast, unlasts}
 use Rattle.activation_rules.specs.Renames.{rename, renames}
 use Rattle.activation_rules.specs.Samples.{renamed}
 use Rattle.activations.specs.Lookups.{MadeIs}
-use Rattle.activations.specs.Kids.{headItems, kids, listOf}
+use Rattle.activations.specs.Kids.{headItems, kids}
 use Rattle.activations.specs.Met.{metAt, onwardT}
 use Rattle.activations.specs.Walks.{LastIs, through, writeStep}
 use Rattle.activations.specs.Ids.{IsId, heldId, holderId, nameOf, namesOf, oldId}
@@ -41,49 +41,12 @@ use Rattle.activations.specs.RewriteAt.{chosenItems, clockedItems, renam
 use Rattle.activations.proofs.Views.{View, toCome, vArray, vArrow, vBad, vBinary, vCall, vCast, vConst, vField, vIf, vIndex, vIterate, vLast, vMerge, vPre, vStruct, vTuple, vUnary, vVar, vWhen}
 use Rattle.activations.proofs.Walking.{walks-by}
 use Rattle.activations.proofs.HeadCopies.{Kept, head-copied, head-lies, items-split, kept-come}
+use Rattle.activations.proofs.Mapped.{array-items, call-items, iterate-items, struct-items, tuple-items}
 use Rattle.activations.proofs.UnlastWritten.{bad-call, each-through, last-call, plain-call}
 use Rattle.activations.proofs.AskedLaws.{asked-last, asked-under}
 use Rattle.activations.proofs.IdLaws.{name-of-holder, name-of-old}
 use Rattle.activations.proofs.NumbersKnown.{renamed-written}
 use Rattle.activations.proofs.ReadsKnown.{lies-length}
-
--- expressions mapped one by one: as many as there were, and their items
-module _ (G : Expr → Expr) (GS : Exprs → Exprs) (none : GS xNil ≡ xNil) (more : (x : Expr) (xs : Exprs) → GS (xCons x xs) ≡ xCons (G x) (GS xs)) where
-  counted : (xs : Exprs) → countOf (GS xs) ≡ countOf xs
-  unfolding countOf
-  counted xNil = ap countOf none
-  counted (xCons x xs) = ap countOf (more x xs) ∙ ap suc (counted xs)
-
-  arrayed : (i : Bool) (xs : Exprs) → arrays i (GS xs) ≡ arrays i xs
-  unfolding arrays
-  arrayed i xNil = ap (arrays i) none
-  arrayed true (xCons x xs) = ap (arrays true) (more x xs) ∙ counted xs
-  arrayed false (xCons x xs) = ap (arrays false) (more x xs) ∙ ap suc (counted xs)
-
-  all-items : (xs : Exprs) → each exprItems (listOf (GS xs)) ≡ each (λ x. exprItems (G x)) (listOf xs)
-  unfolding each listOf
-  all-items xNil = ap (λ (l : Exprs). each exprItems (listOf l)) none
-  all-items (xCons x xs) = ap (λ (l : Exprs). each exprItems (listOf l)) (more x xs) ∙ ap (λ (l : List Item). exprItems (G x) ++ l) (all-items xs)
-
-  pub call-items : (f : Name) (xs : Exprs) → exprItems (eCall f (GS xs)) ≡ headItems (eCall f xs) ++ each (λ x. exprItems (G x)) (listOf xs)
-  unfolding headItems kids
-  call-items f xs = items-split (eCall f (GS xs)) ∙ λ j. (raw (7 ∷ []) ∷ nm f ∷ raw (two (counted xs j)) ∷ []) ++ all-items xs j
-
-  pub tuple-items : (xs : Exprs) → exprItems (eTuple (GS xs)) ≡ headItems (eTuple xs) ++ each (λ x. exprItems (G x)) (listOf xs)
-  unfolding headItems kids
-  tuple-items xs = items-split (eTuple (GS xs)) ∙ λ j. (raw (10 ∷ two (counted xs j)) ∷ []) ++ all-items xs j
-
-  pub array-items : (xs : Exprs) → exprItems (eArray (GS xs)) ≡ headItems (eArray xs) ++ each (λ x. exprItems (G x)) (listOf xs)
-  unfolding headItems kids
-  array-items xs = items-split (eArray (GS xs)) ∙ λ j. (raw (11 ∷ two (counted xs j)) ∷ []) ++ all-items xs j
-
-  pub struct-items : (n : Name) (fs : List Name) (xs : Exprs) → exprItems (eStruct n fs (GS xs)) ≡ headItems (eStruct n fs xs) ++ each (λ x. exprItems (G x)) (listOf xs)
-  unfolding headItems kids
-  struct-items n fs xs = items-split (eStruct n fs (GS xs)) ∙ ap (λ (l : List Item). headItems (eStruct n fs xs) ++ l) (all-items xs)
-
-  pub iterate-items : (k : IterKind) (f : Name) (i : Bool) (xs : Exprs) → exprItems (eIterate k f i (GS xs)) ≡ headItems (eIterate k f i xs) ++ each (λ x. exprItems (G x)) (listOf xs)
-  unfolding headItems kids
-  iterate-items k f i xs = items-split (eIterate k f i (GS xs)) ∙ λ j. (raw (16 ∷ iterByte k ∷ []) ∷ nm f ∷ raw (flagByte i ∷ two (arrayed i xs j)) ∷ []) ++ all-items xs j
 
 -- nodes without a name of their own: those that a renaming leaves
 unfoldable Bare : Met → Type 0

@@ -1,20 +1,18 @@
 -- What the code writes of an expression is the expression with its calls of `last` replaced.
-use Prim.Native.Nat.{ℕ, suc, _-_, _<_, _≤_}
+use Prim.Native.Nat.{ℕ, _-_, _<_, _≤_}
 use mathlib.Core.List.{List, [], _∷_, _++_}
-use mathlib.Core.Bool.{Bool, true, false}
 use mathlib.Core.Option.{Option}
 use mathlib.Core.Path.{_≡_, refl, sym, ap, subst, _∙_}
 use lib.ListN.{length}
 use Rattle.wire.specs.Answer.{value}
-use Rattle.wire.specs.Bytes.{two}
 use Rattle.wire.specs.Lists.{All, Bytes}
 use Rattle.wire.specs.Writer.{State, puts}
 use Rattle.pack.specs.Names.{Name}
-use Rattle.pack.specs.Syntax.{Expr, Exprs, eArray, eCall, eIterate, eStruct, eTuple, eVar, xCons, xNil}
+use Rattle.pack.specs.Syntax.{Expr, Exprs, eCall, eVar, xCons, xNil}
 use Rattle.pack.specs.Forms.{nameAt}
 use Rattle.pack.specs.Legal.{Fresh, LegalName}
 use Rattle.pack.specs.Read.{exprIn}
-use Rattle.pack.specs.Write.{Item, arrays, countOf, each, exprItems, flagByte, iterByte, nm, raw}
+use Rattle.pack.specs.Write.{Item, each, exprItems, nm, raw}
 use Rattle.pack.specs.Table.{tabled}
 use Rattle.pack.specs.Intern.{putItem, render}
 use Rattle.pack.proofs.Interns.{render-append}
@@ -25,37 +23,25 @@ use Rattle.activations.specs.declared.met.Met.the-variants as mt
 use Rattle.activation_rules.specs.LastCalls.{CallKind, badLast, callKind, lastOf, plain}
 use Rattle.activation_rules.specs.MadeNames.{lastVar}
 use Rattle.activation_rules.specs.Unlast.{unlast, unlasts}
-use Rattle.activations.specs.Kids.{headItems, kids, listOf}
+use Rattle.activations.specs.Kids.{headItems, kids}
 use Rattle.activations.specs.Met.{metAt, onwardT}
 use Rattle.activations.specs.Walks.{LastIs, through, writeStep}
 use Rattle.activations.specs.UnlastAt.{copyItems, metItems, unlastT}
 use Rattle.activations.proofs.Views.{View, toCome, vArray, vArrow, vBad, vBinary, vCall, vCast, vConst, vField, vIf, vIndex, vIterate, vLast, vMerge, vPre, vStruct, vTuple, vUnary, vVar, vWhen}
 use Rattle.activations.proofs.Walking.{walks-one}
 use Rattle.activations.proofs.HeadCopies.{Kept, head-copied, items-split, kept-come}
+use Rattle.activations.proofs.Mapped.{array-items, call-items, iterate-items, struct-items, tuple-items}
 
 module _ (a : Name) where
-  -- as many expressions as there were
-  counted : (xs : Exprs) → countOf (unlasts a xs) ≡ countOf xs
-  unfolding countOf unlasts
-  counted xNil = refl
-  counted (xCons x xs) = ap suc (counted xs)
+  none : unlasts a xNil ≡ xNil
+  unfolding unlasts
+  none = refl
 
-  arrayed : (i : Bool) (xs : Exprs) → arrays i (unlasts a xs) ≡ arrays i xs
-  unfolding arrays unlasts
-  arrayed i xNil = refl
-  arrayed true (xCons x xs) = counted xs
-  arrayed false (xCons x xs) = ap suc (counted xs)
-
-  all-items : (xs : Exprs) → each exprItems (listOf (unlasts a xs)) ≡ each (λ x. exprItems (unlast a x)) (listOf xs)
-  unfolding each listOf unlasts
-  all-items xNil = refl
-  all-items (xCons x xs) = ap (λ (l : List Item). exprItems (unlast a x) ++ l) (all-items xs)
+  more : (x : Expr) (xs : Exprs) → unlasts a (xCons x xs) ≡ xCons (unlast a x) (unlasts a xs)
+  unfolding unlasts
+  more x xs = refl
 
   -- calls, by their kind
-  called : (f : Name) (xs : Exprs) → exprItems (eCall f (unlasts a xs)) ≡ headItems (eCall f xs) ++ each (λ x. exprItems (unlast a x)) (listOf xs)
-  unfolding headItems kids
-  called f xs = items-split (eCall f (unlasts a xs)) ∙ λ j. (raw (7 ∷ []) ∷ nm f ∷ raw (two (counted xs j)) ∷ []) ++ all-items xs j
-
   pub plain-call : (f : Name) (xs : Exprs) (k : CallKind) → callKind f xs ≡ k → k ≡ plain → unlast a (eCall f xs) ≡ eCall f (unlasts a xs)
   unfolding unlast
   plain-call f xs k e g = ap (λ (y : CallKind). elim y [ plain ↦ eCall f (unlasts a xs) | badLast ↦ eCall f (unlasts a xs) | lastOf v i ↦ eVar (lastVar a v) ]) (e ∙ g)
@@ -72,8 +58,8 @@ module _ (a : Name) where
   splits : (ns : List Name) (s : List ℕ) (e : Expr) (m : Met) → View ns s e m → Kept m → exprItems (unlast a e) ≡ headItems e ++ each (λ x. exprItems (unlast a x)) (kids e)
   unfolding unlast headItems kids each Kept
   splits ns s e m (vLast k l n d) h = absurd h
-  splits ns s e m (vBad {f = f} {xs = xs} k) h = ap exprItems (bad-call f xs k) ∙ called f xs
-  splits ns s e m (vCall {f = f} {xs = xs} k) h = ap exprItems (plain-call f xs plain k refl) ∙ called f xs
+  splits ns s e m (vBad {f = f} {xs = xs} k) h = ap exprItems (bad-call f xs k) ∙ call-items (unlast a) (unlasts a) none more f xs
+  splits ns s e m (vCall {f = f} {xs = xs} k) h = ap exprItems (plain-call f xs plain k refl) ∙ call-items (unlast a) (unlasts a) none more f xs
   splits ns s e m vConst h = items-split _
   splits ns s e m (vVar l n) h = items-split _
   splits ns s e m (vWhen l n) h = items-split _
@@ -85,11 +71,11 @@ module _ (a : Name) where
   splits ns s e m vArrow h = items-split _
   splits ns s e m vField h = items-split _
   splits ns s e m vIndex h = items-split _
-  splits ns s e m (vTuple {xs = xs}) h = items-split (eTuple (unlasts a xs)) ∙ λ j. (raw (10 ∷ two (counted xs j)) ∷ []) ++ all-items xs j
-  splits ns s e m (vArray {xs = xs}) h = items-split (eArray (unlasts a xs)) ∙ λ j. (raw (11 ∷ two (counted xs j)) ∷ []) ++ all-items xs j
-  splits ns s e m (vStruct {n = n} {fs = fs} {xs = xs}) h = items-split (eStruct n fs (unlasts a xs)) ∙ ap (λ (l : List Item). headItems (eStruct n fs xs) ++ l) (all-items xs)
+  splits ns s e m (vTuple {xs = xs}) h = tuple-items (unlast a) (unlasts a) none more xs
+  splits ns s e m (vArray {xs = xs}) h = array-items (unlast a) (unlasts a) none more xs
+  splits ns s e m (vStruct {n = n} {fs = fs} {xs = xs}) h = struct-items (unlast a) (unlasts a) none more n fs xs
   splits ns s e m vCast h = items-split _
-  splits ns s e m (vIterate {k = k} {f = f} {i = i} {xs = xs}) h = items-split (eIterate k f i (unlasts a xs)) ∙ λ j. (raw (16 ∷ iterByte k ∷ []) ∷ nm f ∷ raw (flagByte i ∷ two (arrayed i xs j)) ∷ []) ++ all-items xs j
+  splits ns s e m (vIterate {k = k} {f = f} {i = i} {xs = xs}) h = iterate-items (unlast a) (unlasts a) none more k f i xs
 
 -- expressions one after the other
 pub each-through : (old : List ℕ) (f : Expr → Expr) (es : List Expr) (z : State) → through (λ (e : Expr) (y : State). render old (exprItems (f e)) y) es z ≡ render old (each (λ e. exprItems (f e)) es) z
