@@ -6,37 +6,23 @@ use lib.ListN.{length}
 use Rattle.wire.specs.Answer.{counted, many, u16, value}
 use Rattle.wire.specs.Bytes.{two}
 use Rattle.wire.specs.Writer.{State, puts}
-use Rattle.wire.proofs.Answers.{bind-value, map-value}
+use Rattle.wire.proofs.Answers.{bind-value}
 use Rattle.pack.specs.Names.{Name}
 use Rattle.pack.specs.Syntax.{Expr, Port}
 use Rattle.pack.specs.Forms.{nameAt}
-use Rattle.pack.specs.Read.{nameIn, portIn, portsIn, typeIn}
+use Rattle.pack.specs.Read.{portIn, portsIn}
 use Rattle.pack.specs.Write.{Item, each, equationItems, exprItems, list, nameItems, nm, raw}
 use Rattle.pack.specs.Intern.{putItem, putName, render}
 use Rattle.machines.specs.Stands.{endOf}
 use Rattle.machines.specs.Sure.{numberIn}
 use Rattle.machines.specs.Emits.{packName}
-use Rattle.machines.proofs.Reading.{many-cut, many-more, many-over, name-number}
-use Rattle.machines.proofs.SureLaws.{end-to, number-num, number-to}
+use Rattle.machines.proofs.Reading.{many-cut, many-more, many-over}
+use Rattle.machines.proofs.SureLaws.{end-to, number-to}
 use Rattle.machines.proofs.ChainsEmitted.{Alike, alike-append, alike-by}
+use Rattle.machines.proofs.OutputsEmitted.{port-value}
 use Rattle.activation_rules.specs.Defines.{eqn}
 use Rattle.activation_rules.specs.Merges.{mergeEquations, mergeFrom}
 use Rattle.activations.specs.ByNumber.{mergeItems, mergesT, portMergesT}
-
--- a port that was read: the number of its name
-record PortAt (ns : List Name) (s : List ℕ) (at : ℕ) (x : Port) : Type 0 where
-  i : ℕ
-  is : numberIn s at .value ≡ i
-  small : i < length ns
-  named : nameAt ns i ≡ x .name
-
-port-value : (ns : List Name) (s : List ℕ) (at : ℕ) (x : Port) (q : ℕ) → portIn ns s at ≡ value x q → PortAt ns s at x
-unfolding portIn
-port-value ns s at x q e =
-    let b = bind-value (nameIn ns s at) _ x q e in
-    let m = map-value _ (typeIn ns s (b .1)) x q (b .3) in
-    let n = name-number ns s at (b .0) (b .1) (b .2) in
-    record { i = n .i; is = ap (λ y. y .value) (number-num s at (n .i) (b .1) (n .is)); small = n .small; named = n .named ∙ ap (λ (y : Port). y .name) (m .2) }
 
 merge-parts : (n : Name) (e : Expr) → equationItems (eqn n e) ≡ raw (two 1) ∷ nm n ∷ exprItems e
 unfolding equationItems eqn list each nameItems

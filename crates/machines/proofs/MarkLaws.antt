@@ -10,7 +10,7 @@ use mathlib.Core.Path.{_≡_, refl, sym, ap, _∙_}
 use lib.ListN.{length, getD, set, take, drop, drop-of-length-le, length-drop, length-set}
 use lib.Seq.{drop-cons, length-take-le, take-suc-set}
 use lib.Dec.{eqb}
-use borrow.Author.Tests.{eq-eqb, le-ltb, lt-ltb}
+use borrow.Author.Tests.{eq-eqb, le-ltb, lt-ltb, ne-eqb}
 use Rattle.wire.proofs.Writers.{lt-or-le}
 use Rattle.pack.specs.Names.{Name, eqName, member}
 use Rattle.pack.specs.Write.{enc}
@@ -34,6 +34,20 @@ module _ (ms : List ℕ) (m i : ℕ) (hit z : Bool) where
   pub among-done : length ms ≤ i → hit || among m (drop i ms) ≡ z → hit ≡ z
   unfolding among
   among-done l e = sym (or-false hit) ∙ sym (ap (λ (x : List ℕ). hit || among m x) (drop-of-length-le ms l)) ∙ e
+
+-- the search that stops where it is met: here, not here, not at all
+module _ (ms : List ℕ) (m i : ℕ) (z : Bool) where
+  pub among-here : i < length ms → getD ms i 0 ≡ m → among m (drop i ms) ≡ z → true ≡ z
+  unfolding among
+  among-here l g e = sym (ap (λ b. b || among m (drop (suc i) ms)) (eq-eqb _ _ g)) ∙ ap (among m) (sym (drop-cons ms i 0 l)) ∙ e
+
+  pub among-past : i < length ms → (getD ms i 0 ≡ m → ⊥) → among m (drop i ms) ≡ z → among m (drop (i + 1) ms) ≡ z
+  unfolding among
+  among-past l g e = ap (λ j. among m (drop j ms)) (add-one i) ∙ sym (ap (λ b. b || among m (drop (suc i) ms)) (ne-eqb _ _ g)) ∙ ap (among m) (sym (drop-cons ms i 0 l)) ∙ e
+
+  pub among-end : length ms ≤ i → among m (drop i ms) ≡ z → false ≡ z
+  unfolding among
+  among-end l e = ap (among m) (sym (drop-of-length-le ms l)) ∙ e
 
 pub maybe-over : (ms : List ℕ) (k m : ℕ) → length ms < k → true ≡ maybe ms k m
 unfolding maybe

@@ -32,13 +32,13 @@ use Rattle.machines.proofs.ValuesEmitted.{value-held}
 use Rattle.machines.proofs.Accepted.{Accepted, output-covered}
 
 -- a port that was read: the number of its name
-record PortAt (ns : List Name) (s : List ℕ) (at : ℕ) (x : Port) : Type 0 where
-  i : ℕ
-  is : numberIn s at .value ≡ i
-  small : i < length ns
-  named : nameAt ns i ≡ x .name
+pub record PortAt (ns : List Name) (s : List ℕ) (at : ℕ) (x : Port) : Type 0 where
+  pub i : ℕ
+  pub is : numberIn s at .value ≡ i
+  pub small : i < length ns
+  pub named : nameAt ns i ≡ x .name
 
-port-value : (ns : List Name) (s : List ℕ) (at : ℕ) (x : Port) (q : ℕ) → portIn ns s at ≡ value x q → PortAt ns s at x
+pub port-value : (ns : List Name) (s : List ℕ) (at : ℕ) (x : Port) (q : ℕ) → portIn ns s at ≡ value x q → PortAt ns s at x
 unfolding portIn
 port-value ns s at x q e =
     let b = bind-value (nameIn ns s at) _ x q e in
