@@ -276,8 +276,8 @@ pub fn names_only(size: usize) -> Package {
     names_of(size, (0..).map(short_name))
 }
 
-/// How many bits of its number choose a name's tree in the library's index (crates/pack/specs/Table), which has 8,192
-/// heads.
+/// How many bits of its number (crates/pack/specs/Siphash) choose a name's tree in the library's index (specs/Table),
+/// which has 8,192 heads.
 pub const HEAD_BITS: u32 = 13;
 
 /// A round of SipHash.
@@ -430,7 +430,7 @@ mod tests {
         assert!(count > 140, "{count}");
     }
 
-    /// The numbers that crates/pack/proofs/TableLaws computes of the definition.
+    /// The numbers that crates/pack/proofs/SiphashLaws computes of the definition.
     #[test]
     fn names_have_the_library_s_numbers() {
         assert_eq!(index_number(b"Strongroom"), 13_997_899_697_041_881_454);

@@ -1,4 +1,4 @@
--- Marks of names: the two halves of the bits by which pack's tables find a name. A half is a function of the name, so that names
+-- Marks of names: the two halves of the number by which pack's tables find a name. A half is a function of the name, so that names
 -- which differ in one differ; whichever function it is, the laws hold.
 use Prim.Native.Nat.{ℕ, _/_, _%_, _≤_}
 use mathlib.Core.List.{List, [], _∷_}
@@ -7,7 +7,7 @@ use mathlib.Core.Path.{_≡_}
 use lib.ListN.{length, take}
 use lib.Dec.{eqb, ltb}
 use Rattle.pack.specs.Names.{Name}
-use Rattle.pack.specs.Table.{hash}
+use Rattle.pack.specs.Siphash.{hash}
 use Rattle.pack.specs.Intern.{table}
 
 unfoldable pub lowOf : Name → ℕ

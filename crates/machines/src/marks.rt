@@ -1,7 +1,7 @@
-// Marks of names, by which names that differ are told apart without a look at all of their letters: the two halves of the bits by
+// Marks of names, by which names that differ are told apart without a look at all of their letters: the two halves of the number by
 // which pack's tables find a name. They are kept apart, since a low half is looked for more quickly than both, and where names were
 // made of one low half the high ones differ.
-use pack::table::hash;
+use pack::siphash::hash;
 ghost use mathlib.Core.Bool.{_&&_};
 ghost use mathlib.Core.Path.{_≡_};
 ghost use lib.ListN.{set};

@@ -20,6 +20,7 @@ pub mod RoundTripAt
 pub mod TableIndex
 pub mod Interns
 pub mod NamesTabled
+pub mod SiphashLaws
 pub mod TableLaws
 pub mod Written
 pub mod Finished

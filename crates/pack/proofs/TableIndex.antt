@@ -14,7 +14,8 @@ use Rattle.pack.specs.Names.{Name, eqName}
 use Rattle.pack.specs.Write.{enc, Found, At, Missing, lookup}
 use Rattle.pack.specs.declared.table.Place.{Place}
 use Rattle.pack.specs.declared.table.Place.the-variants as pl
-use Rattle.pack.specs.Table.{tableF, table, rowsMost, heads, cells, spotsFrom, textsFrom, cellAt, spotAt, below, word, putWord, hash, way, further, textAt, textOf, placeFrom, placeOf, foundIn, seek, numberIn, isMissing, isFree, spare, inIndex, cellFor, hasRow, linked, unindexed, linkedAt, noted, enter, blank, entered, tabled}
+use Rattle.pack.specs.Siphash.{hash}
+use Rattle.pack.specs.Table.{tableF, table, rowsMost, heads, cells, spotsFrom, textsFrom, cellAt, spotAt, below, word, putWord, way, further, textAt, textOf, placeFrom, placeOf, foundIn, seek, numberIn, isMissing, isFree, spare, inIndex, cellFor, hasRow, linked, unindexed, linkedAt, noted, enter, blank, entered, tabled}
 use Rattle.pack.proofs.Tables.{enc-append, eqName-refl, eqName-true}
 
 -- NAMES, EACH AFTER ITS LENGTH BYTE

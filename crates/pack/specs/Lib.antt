@@ -5,6 +5,7 @@ pub mod Forms
 pub mod Read
 pub mod Write
 pub mod Legal
+pub mod Siphash
 pub mod Table
 pub mod Intern
 pub mod Report

@@ -8,6 +8,7 @@ pub mod parts; // ports, equations, transitions
 pub mod charts; // states and regions
 pub mod sections; // the sections after the names
 pub mod check; // the check, and where a pack's sections stand
+pub mod siphash; // the number of a name
 pub mod table; // a table of names with an index
 pub mod intern; // names by number, new ones added in order of first use
 pub mod finish; // what was written, copied to the caller's buffer

@@ -1,7 +1,7 @@
-use Rattle.pack.proofs.TableLaws.{half-is}
+use Rattle.pack.proofs.SiphashLaws.{half-is}
 use borrow.Author.Needs.{needs}
-use Rattle.pack.proofs.table.half_round.Statement.{statement}
-use Rattle.pack.proofs.table.half_round.Tie as tie
+use Rattle.pack.proofs.siphash.half_round.Statement.{statement}
+use Rattle.pack.proofs.siphash.half_round.Tie as tie
 
 wrapping-add-u64-requires : tie.Need-wrapping-add-u64-requires
 wrapping-add-u64-requires c κs = search needs

@@ -1,8 +1,8 @@
 use mathlib.Core.Path.{_∙_, ap}
-use Rattle.pack.specs.Table.{halfRound, rounded}
+use Rattle.pack.specs.Siphash.{halfRound, rounded}
 use borrow.Author.Needs.{needs}
-use Rattle.pack.proofs.table.round.Statement.{statement}
-use Rattle.pack.proofs.table.round.Tie as tie
+use Rattle.pack.proofs.siphash.round.Statement.{statement}
+use Rattle.pack.proofs.siphash.round.Tie as tie
 
 half-round-requires : tie.Need-half-round-requires
 half-round-requires c κs = search needs

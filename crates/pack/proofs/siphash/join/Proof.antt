@@ -1,7 +1,7 @@
-use Rattle.pack.proofs.TableLaws.{joined-is}
+use Rattle.pack.proofs.SiphashLaws.{joined-is}
 use borrow.Author.Needs.{needs}
-use Rattle.pack.proofs.table.join.Statement.{statement}
-use Rattle.pack.proofs.table.join.Tie as tie
+use Rattle.pack.proofs.siphash.join.Statement.{statement}
+use Rattle.pack.proofs.siphash.join.Tie as tie
 
 round-requires : tie.Need-round-requires
 round-requires c κs = search needs

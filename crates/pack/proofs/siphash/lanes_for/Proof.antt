@@ -1,7 +1,7 @@
 use mathlib.Core.Path.{refl}
-use Rattle.pack.specs.Table.{lanesFor}
-use Rattle.pack.proofs.table.lanes_for.Statement.{statement}
-use Rattle.pack.proofs.table.lanes_for.Tie as tie
+use Rattle.pack.specs.Siphash.{lanesFor}
+use Rattle.pack.proofs.siphash.lanes_for.Statement.{statement}
+use Rattle.pack.proofs.siphash.lanes_for.Tie as tie
 
 returns : tie.Need-returns
 unfolding lanesFor

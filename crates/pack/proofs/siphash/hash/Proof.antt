@@ -2,10 +2,10 @@ use Prim.Native.Nat.{_≤_, _-_, _/_}
 use native.Mathlib.Omega.{arith}
 use mathlib.Core.Path.{_≡_, _∙_}
 use lib.ListN.{length}
-use Rattle.pack.specs.Table.{hash, hashFrom}
-use Rattle.pack.proofs.TableLaws.{hash-begun, hash-turn, hash-done}
-use Rattle.pack.proofs.table.hash.Statement.{statement}
-use Rattle.pack.proofs.table.hash.Tie as tie
+use Rattle.pack.specs.Siphash.{hash, hashFrom}
+use Rattle.pack.proofs.SiphashLaws.{hash-begun, hash-turn, hash-done}
+use Rattle.pack.proofs.siphash.hash.Statement.{statement}
+use Rattle.pack.proofs.siphash.hash.Tie as tie
 
 abbrev Inv-loop : tie.InvT-loop
 Inv-loop n l h₀ i₀ h i = (i ≤ length n) × (hashFrom ((length n - 1 - i) / 8) h n i ≡ hash n)

@@ -1,8 +1,8 @@
 use mathlib.Core.Path.{refl}
-use Rattle.pack.specs.Table.{turned}
+use Rattle.pack.specs.Siphash.{turned}
 use borrow.Author.Needs.{needs}
-use Rattle.pack.proofs.table.turn.Statement.{statement}
-use Rattle.pack.proofs.table.turn.Tie as tie
+use Rattle.pack.proofs.siphash.turn.Statement.{statement}
+use Rattle.pack.proofs.siphash.turn.Tie as tie
 
 shl-result : tie.Need-shl-result
 shl-result c = search needs

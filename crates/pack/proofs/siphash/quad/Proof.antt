@@ -1,11 +1,11 @@
 use Prim.Native.Nat.{_+_}
 use native.Mathlib.Omega.{arith}
 use mathlib.Core.Path.{refl}
-use Rattle.pack.specs.Table.{quadAt}
-use Rattle.pack.proofs.TableLaws.{quad-end}
+use Rattle.pack.specs.Siphash.{quadAt}
+use Rattle.pack.proofs.SiphashLaws.{quad-end}
 use borrow.Author.Needs.{needs}
-use Rattle.pack.proofs.table.quad.Statement.{statement}
-use Rattle.pack.proofs.table.quad.Tie as tie
+use Rattle.pack.proofs.siphash.quad.Statement.{statement}
+use Rattle.pack.proofs.siphash.quad.Tie as tie
 
 add-if1 : tie.Need-add-if1
 add-if1 c = omega (arith, c .before .good .0 .1)

@@ -1,7 +1,7 @@
-use Rattle.pack.proofs.TableLaws.{mixed-is}
+use Rattle.pack.proofs.SiphashLaws.{mixed-is}
 use borrow.Author.Needs.{needs}
-use Rattle.pack.proofs.table.mix.Statement.{statement}
-use Rattle.pack.proofs.table.mix.Tie as tie
+use Rattle.pack.proofs.siphash.mix.Statement.{statement}
+use Rattle.pack.proofs.siphash.mix.Tie as tie
 
 mul-m : tie.Need-mul-m
 mul-m c = search needs
