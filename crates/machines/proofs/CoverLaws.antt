@@ -12,7 +12,7 @@ use Rattle.pack.specs.Read.{equationIn}
 use Rattle.machines.specs.declared.cover.Told.{Told}
 use Rattle.machines.specs.declared.sure.Num.{Num}
 use Rattle.machines.specs.Stands.{endOf}
-use Rattle.machines.specs.Sure.{numberIn}
+use Rattle.machines.specs.Sure.{numberIn, with}
 use Rattle.machines.specs.Covers.{allMiss, asked, firstMiss, givesT, missT, orNext, ownT, tells, told, uncoveredT}
 use Rattle.machines.proofs.SureLaws.{on}
 
@@ -36,6 +36,18 @@ module _ (k : ℕ → Told) where
   tells-found (suc n) at e z l g h d =
       sym (tells-yes n (e .next)) ∙ ap (λ (y : Bool). tells k _||_ n (e .next) y .yes) (sym h) ∙ ap (λ (y : Told). tells k _||_ n (y .next) (y .yes) .yes) g ∙ d
 
+  -- what one of the others gives, all give
+  pub tells-rest : (n at q : ℕ) → 0 < n → q ≡ k at .next → tells k _||_ (n - 1) q false .yes ≡ true → tells k _||_ n at false .yes ≡ true
+  unfolding tells asked
+  tells-rest zero at q l e d = absurd (omega arith)
+  tells-rest (suc n) at q l e d =
+      let i : suc n - 1 ≡ n = omega arith in
+      go (k at .yes) ((λ j. tells k _||_ (sym i j) (sym e j) false .yes) ∙ d)
+    where
+      go : (b : Bool) → tells k _||_ n (k at .next) false .yes ≡ true → tells k _||_ n (k at .next) b .yes ≡ true
+      go true h = tells-yes n (k at .next)
+      go false h = h
+
   pub tells-done : (n at : ℕ) (z : Bool) → n ≤ 0 → tells k _||_ n at false .yes ≡ z → false ≡ z
   unfolding tells
   tells-done zero at z l d = d
@@ -46,6 +58,11 @@ module _ (ns : List Name) (s : List ℕ) where
   unfolding givesT
   gives-is out at q k i x y r a b c d e f =
       on k _ _ _ a (on i _ _ _ b (ap (λ z. told z q) (f ∙ ap (λ z. z && y) d ∙ ap (λ z. eqb (k .value) 1 && z) e) ∙ ap (told (eqb (k .value) 1 && eqb (i .value) out)) c))
+
+  -- where an equation ends does not depend on the output
+  pub gives-next : (out x at : ℕ) (e : Told) → e ≡ givesT ns s out at → e .next ≡ givesT ns s x at .next
+  unfolding givesT with
+  gives-next out x at e h = ap (λ (y : Told). y .next) h
 
   pub own-is : (out at : ℕ) (i t : Num) (a : Bool) → i ≡ numberIn s at → t ≡ numberIn s (i .next) → a ≡ tells (givesT ns s out) _||_ (t .value) (t .next) false .yes → a ≡ ownT ns s out at
   unfolding ownT

@@ -86,7 +86,7 @@ state-put-is t u v w x z p l m o r b hp hl hm ho hr h e1 e2 e3 e4 e5 =
     ∙ (λ i. set (set (set (set (set t (h i) (mod-eq-of-lt hp i)) (h i + 1) l) (h i + 2) m) (h i + 3) o) (h i + 4) r)
 
 -- where a cell is not 0 there is one
-reached : (t : List ℕ) (i : ℕ) → 0 < getD t i 0 → i < length t
+pub reached : (t : List ℕ) (i : ℕ) → 0 < getD t i 0 → i < length t
 reached t i h = go (ltb i (length t)) refl
   where
     go : (b : Bool) → ltb i (length t) ≡ b → i < length t

@@ -1,5 +1,6 @@
 // Whether a machine is accepted, or why it is refused: resolving, then its states' names, initial states and targets,
 // then its outputs.
+use crate::cover::TOLD;
 use crate::cover::uncovered_region;
 use crate::lay::lay_machine;
 use crate::refusal::Called;
@@ -132,8 +133,8 @@ fn uncovered_output(
 }
 
 // The outputs of a machine that is laid out, `count` from the offset `from` on: the first that a state does not give. What drawn
-// states give is remembered, a cell for ten bytes of the pack, and which outputs are given, a cell for each name: no pack has more
-// than 17,408, since they are different and of 63 letters.
+// states give is remembered, and which outputs are given, a cell for each name: no pack has more than 17,408, since they are
+// different and of 63 letters.
 fn judge_outputs(
     s: &[u8],
     names: usize,
@@ -146,7 +147,7 @@ fn judge_outputs(
     requires { ⌜ (length (now s) ≤ 65536) × EndsRight (now s) names (now ends) ⌝ }
     ensures { λ r. ⌜ ((ns : List Name) → length ns ≡ names → r ≡ outputsJ ns (now (s .entry)) (now (t .entry)) regions count from) ⌝ }
 {
-    let mut told = [0u16; 6554];
+    let mut told = [0u16; TOLD];
     let mut given = [0u8; 17408];
     let mut n = count;
     let mut p = from;

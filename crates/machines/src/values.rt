@@ -1,6 +1,7 @@
 // The value of each output: a chain over the states of a region, in which a state's first covering region goes before its own
 // equation. Right sides are copied from the pack.
 use crate::chains::put_test;
+use crate::cover::TOLD;
 use crate::cover::both;
 use crate::cover::uncovered_region;
 use crate::ends::end_of;
@@ -214,7 +215,7 @@ fn put_output(
     )
 }
 
-// The equations of its outputs, whose count stands at `at`. What drawn states give is remembered, a cell for ten bytes of the pack.
+// The equations of its outputs, whose count stands at `at`. What drawn states give is remembered.
 pub fn put_outputs(
     old: &[u8],
     s: &[u8],
@@ -230,7 +231,7 @@ pub fn put_outputs(
     requires { ⌜ (length (now s) ≤ 65536) × EndsRight (now s) names (now ends) ⌝ }
     ensures { λ r. ⌜ ((ns : List Name) → length ns ≡ names → stateOf (now (out .exit)) (now (made .exit)) r ≡ render (now (old .entry)) (portOutputsT (now (s .entry)) (now (t .entry)) (now (lets .entry)) ns at) (stateOf (now (out .entry)) (now (made .entry)) w)) ⌝ }
 {
-    let mut told = [0u16; 6554];
+    let mut told = [0u16; TOLD];
     let c = number(s, at);
     let mut n = c.value;
     let mut p = c.next;

@@ -19,7 +19,7 @@ abbrev μ-loop : tie.MeasureT-loop
 μ-loop s names ends t count from regions told₀ given₀ n₀ p₀ told given n p = n
 
 loop-holds : tie.Need-loop-holds Inv-loop μ-loop
-loop-holds c = (λ ns e. refl, blank-told _ _ _ _ (zeros 6554), blank-given _ _ _ _ (zeros 17408), refl, refl)
+loop-holds c = (λ ns e. refl, blank-told _ _ _ _ (zeros 7322), blank-given _ _ _ _ (zeros 17408), refl, refl)
 
 number-requires : tie.Need-number-requires Inv-loop μ-loop
 number-requires c κs = search needs

@@ -25,7 +25,7 @@ number-requires : tie.Need-number-requires Inv-loop μ-loop
 number-requires c κs = search needs
 
 loop-holds : tie.Need-loop-holds Inv-loop μ-loop
-loop-holds c = (refl, refl, λ ns e. refl, blank-told _ _ _ _ (zeros 6554), refl)
+loop-holds c = (refl, refl, λ ns e. refl, blank-told _ _ _ _ (zeros 7322), refl)
 
 number-requires-2 : tie.Need-number-requires-2 Inv-loop μ-loop
 number-requires-2 c κs = search needs
