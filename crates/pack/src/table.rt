@@ -15,6 +15,7 @@ ghost use Prim.Native.Nat.{_+_, _*_, _-_, _/_, _≤_, _<_, _^_};
 ghost use lib.ListN.{length, getD, set};
 ghost use Rattle.pack.specs.Names.{eqName};
 ghost use Rattle.pack.specs.Intern.{foundOf};
+ghost use Rattle.pack.specs.Siphash.{hash as hashOf};
 ghost use Rattle.pack.specs.Table.{word as wordIn, putWord, further as furtherOf, textsFrom, textAt, placeFrom, placeOf, Near, cellAt, seek, numberIn, isFree, spare as spareIn, inIndex, cellFor, hasRow, linked, unindexed, linkedAt, noted};
 
 // How many names can have rows.
@@ -35,6 +36,12 @@ pub enum Place {
     Taken(usize),
     Free(usize),
     Lost,
+}
+
+// The same, with the number of the name.
+pub struct Placed {
+    pub place: Place,
+    pub number: usize,
 }
 
 // A byte of t and x, one after the other.
@@ -129,13 +136,23 @@ fn descend(t: &[u8], x: &[u8], n: &[u8], bits: usize, cell: usize) -> Place
     Place::Lost
 }
 
-// Where a name is from the head of its hash on.
-fn place_of(t: &[u8], x: &[u8], n: &[u8]) -> Place
+// Where a name is from the head of its number on.
+fn place_of(t: &[u8], x: &[u8], n: &[u8]) -> Placed
     requires { ⌜ length (now t) ≤ textsFrom ⌝ }
-    ensures { λ r. ⌜ (r ≡ placeOf (now (t .entry) ++ now (x .entry)) (now (n .entry))) × Near r ⌝ }
+    ensures { λ r. ⌜ (r .place ≡ placeOf (now (t .entry) ++ now (x .entry)) (now (n .entry))) × Near (r .place) × (r .number ≡ hashOf (now (n .entry))) ⌝ }
 {
-    let h = hash(n);
-    descend(t, x, n, h / HEADS + 2251799813685248, h % HEADS)
+    let number = hash(n);
+    let place = descend(t, x, n, number / HEADS + 2251799813685248, number % HEADS);
+    Placed { place, number }
+}
+
+// A name's number, from a search in a table of nothing: what is called from one place only is inlined there, and a search takes
+// twice as long where `hash` is not.
+pub fn number_of(n: &[u8]) -> usize
+    ensures { λ r. ⌜ r ≡ hashOf (now (n .entry)) ⌝ }
+{
+    let r = place_of(&n[..0], &n[..0], n);
+    r.number
 }
 
 // The place of the name n in a table with an index.
@@ -147,7 +164,8 @@ pub fn seek_name(t: &[u8], n: &[u8]) -> Found
     if ROWS < c {
         return find_name(&t[b..], n);
     }
-    let p = place_of(&t[..b], &t[b..], n);
+    let r = place_of(&t[..b], &t[b..], n);
+    let p = r.place;
     match p {
         Place::Taken(k) => Found::At(k),
         Place::Free(_) => Found::Missing(c),
@@ -180,10 +198,11 @@ fn cell_for(t: &[u8], x: &[u8], n: &[u8]) -> Place
     ensures { λ r. ⌜ (r ≡ cellFor (now (t .entry) ++ now (x .entry)) (now (n .entry))) × Near r ⌝ }
 {
     if spare(t, x) {
-        in_index(place_of(t, x, n))
-    } else {
-        Place::Lost
+        let r = place_of(t, x, n);
+        let p = r.place;
+        return in_index(p);
     }
+    Place::Lost
 }
 
 // The next row, whose cell is i and whose spot is p.
