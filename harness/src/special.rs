@@ -289,8 +289,8 @@ fn round([a, b, c, d]: [u64; 4]) -> [u64; 4] {
     half(half([a, b, c, d], 13, 16), 17, 21)
 }
 
-/// The number under which the library's index keeps a name: the lowest `HEAD_BITS` choose a tree, the others the way
-/// down.
+/// The number of a name in the library. In a table of names the lowest `HEAD_BITS` choose a tree, the others the way
+/// down; where names are told apart as they are read (specs/Distinct), the lowest 15 choose the first cell.
 pub fn index_number(name: &[u8]) -> u64 {
     let quad = |at: usize| name[at..].iter().take(4).rev().fold(0, |x, byte| x << 8 | u64::from(*byte));
     let mixed = |[a, b, c, d]: [u64; 4], x: usize, y: usize| {
@@ -306,13 +306,18 @@ pub fn index_number(name: &[u8]) -> u64 {
     round(round([a, b, c ^ 255, d])).into_iter().fold(0, |x, lane| x ^ lane)
 }
 
-/// Names of five letters, all with the same lowest `bits` of their numbers in the index.
-pub fn crowded(bits: u32) -> impl Iterator<Item = String> {
+/// Names of a stem and five letters, all with the same lowest `bits` of their numbers.
+pub fn crowded(stem: &'static str, bits: u32) -> impl Iterator<Item = String> {
     let letters = || ALPHABET.iter().copied();
-    let stems = letters().flat_map(move |a| letters().flat_map(move |b| letters().map(move |c| [a, b, c])));
-    let names = stems.flat_map(move |[a, b, c]| letters().flat_map(move |d| letters().map(move |e| [a, b, c, d, e])));
-    let crowded = names.filter(move |n| index_number(n).trailing_zeros() >= bits);
-    crowded.map(|n| String::from_utf8(n.to_vec()).unwrap())
+    let heads = letters().flat_map(move |a| letters().flat_map(move |b| letters().map(move |c| [a, b, c])));
+    let ends = heads.flat_map(move |[a, b, c]| letters().flat_map(move |d| letters().map(move |e| [a, b, c, d, e])));
+    let mut name = stem.as_bytes().to_vec();
+    ends.filter_map(move |end| {
+        name.truncate(stem.len());
+        name.extend(end);
+        let alike = index_number(&name).trailing_zeros() >= bits;
+        alike.then(|| String::from_utf8(name.clone()).unwrap())
+    })
 }
 
 /// Names of 255 bytes that differ in their last bytes only.
@@ -439,7 +444,7 @@ mod tests {
 
     #[test]
     fn crowded_names_share_a_head() {
-        let all: Vec<String> = crowded(HEAD_BITS).take(3).collect();
+        let all: Vec<String> = crowded("", HEAD_BITS).take(3).collect();
         assert!(all.iter().all(|n| index_number(n.as_bytes()) % 8192 == 0), "{all:?}");
     }
 

@@ -6,7 +6,7 @@ use mathlib.Core.List.{List, [], _∷_, _++_}
 use mathlib.Core.Bool.{Bool, true, false, cond, not, _&&_, _||_}
 use mathlib.Core.Option.{Option, none, some}
 use mathlib.Core.Path.{_≡_, refl, sym, ap, subst, _∙_}
-use lib.ListN.{length, getD, length-set}
+use lib.ListN.{length, getD}
 use lib.Seq.{getD-set-other, getD-set-same}
 use lib.Dec.{eqb, ltb}
 use borrow.Author.Tests.{eq-eqb, eqb-true, le-ltb, lt-ltb, ne-eqb}
@@ -44,6 +44,7 @@ use Rattle.activations.specs.Walks.{LastIs}
 use Rattle.activations.proofs.MisusedFound.{any-misused-is}
 use Rattle.activations.specs.ChecksAt.{assignBranchesT, assignScopeT, assignT, assignedT, called, checksT, inScopesT, leftlessScopeT, leftlessT, namelessT, orElseT, overEquation, refusalBy, refusedT, repeatedIn, repeatedT, scopeNameT, unassignedT}
 use Rattle.activations.proofs.ActRead.{ActivationRead, act-to, branch-end-to, branch-number-to, branch-value, body-to, counted-value, equation-value}
+use Rattle.activations.proofs.RowsNoted.{put-length}
 
 -- a choice that is known
 on-true : {A : Type 0} (b : Bool) (x y : A) → b ≡ true → cond b x y ≡ x
@@ -60,10 +61,6 @@ put-same t i v l h = getD-set-same t i (v % 65536) 0 l ∙ mod-eq-of-lt h
 pub put-other : (t : List ℕ) (i j v : ℕ) → (j ≡ i → ⊥) → getD (putT t i v) j 0 ≡ getD t j 0
 unfolding putT
 put-other t i j v n = getD-set-other t i j (v % 65536) 0 n
-
-pub put-length : (t : List ℕ) (i v : ℕ) → length (putT t i v) ≡ length t
-unfolding putT
-put-length t i v = length-set t i (v % 65536)
 
 module _ (ns : List Name) (fresh : Fresh [] ns) (s : List ℕ) where
   -- a table marks the names seen

@@ -11,7 +11,7 @@ use Rattle.pack.specs.Names.{Name}
 use Rattle.pack.specs.Syntax.{Expr, Port}
 use Rattle.pack.specs.Forms.{nameAt}
 use Rattle.pack.specs.Read.{portIn, portsIn}
-use Rattle.pack.specs.Write.{Item, each, equationItems, exprItems, list, nameItems, nm, raw}
+use Rattle.pack.specs.Write.{Item, each, equationItems, exprItems}
 use Rattle.pack.specs.Intern.{putItem, putName, render}
 use Rattle.machines.specs.Stands.{endOf}
 use Rattle.machines.specs.Sure.{numberIn}
@@ -23,10 +23,7 @@ use Rattle.machines.proofs.OutputsEmitted.{port-value}
 use Rattle.activation_rules.specs.Defines.{eqn}
 use Rattle.activation_rules.specs.Merges.{mergeEquations, mergeFrom}
 use Rattle.activations.specs.ByNumber.{mergeItems, mergesT, portMergesT}
-
-merge-parts : (n : Name) (e : Expr) → equationItems (eqn n e) ≡ raw (two 1) ∷ nm n ∷ exprItems e
-unfolding equationItems eqn list each nameItems
-merge-parts n e = refl
+use Rattle.activations.proofs.ScopesKnown.{equation-parts}
 
 -- where each name stands, and what an old name's number does
 module _ (ns : List Name) (s spots old : List ℕ)
@@ -38,7 +35,7 @@ module _ (ns : List Name) (s spots old : List ℕ)
   merge-alike i n h f = λ z.
       ap (λ (x : Name). render old (exprItems (mergeFrom a x 0 cs)) (puts (two i) (puts (two 1) z))) (named i h ∙ f)
       ∙ ap (render old (exprItems (mergeFrom a n 0 cs))) (numbered i h (puts (two 1) z) ∙ ap (λ (x : Name). putName old x (puts (two 1) z)) f)
-      ∙ ap (λ (is : List Item). render old is z) (sym (merge-parts n (mergeFrom a n 0 cs)))
+      ∙ ap (λ (is : List Item). render old is z) (sym (equation-parts n (mergeFrom a n 0 cs)))
 
   merges-end : (p : ℕ) → mergesT ns s spots a cs 0 p ≡ each equationItems (mergeEquations a cs [])
   unfolding mergesT mergeEquations each

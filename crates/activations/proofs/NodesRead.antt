@@ -7,6 +7,7 @@ use lib.ListN.{length}
 use Rattle.wire.specs.Answer.{Answer, many, mapA, value}
 use Rattle.wire.specs.Preorder.{Trees, cons, nil, node, trees}
 use Rattle.wire.proofs.Answers.{bind-value, fwd-many, many-length, map-value}
+use Rattle.wire.proofs.Formats.{bind-to}
 use Rattle.pack.specs.Names.{Name}
 use Rattle.pack.specs.Syntax.{Expr, Exprs, xCons, xNil}
 use Rattle.pack.specs.Forms.{ExprHead, exprArity, exprAt, exprHead, exprOf, exprOver, exprsOf, nth}
@@ -14,7 +15,7 @@ use Rattle.pack.specs.Heads.{exprMore}
 use Rattle.pack.specs.Read.{exprIn}
 use Rattle.pack.specs.Write.{countOf}
 use Rattle.pack.proofs.ExprLaws.{exprMoves}
-use Rattle.machines.proofs.Reading.{bind-is, many-more}
+use Rattle.machines.proofs.Reading.{many-more}
 use Rattle.machines.proofs.PackCounts.{fwd-exprIn}
 use Rattle.activations.specs.Kids.{listOf}
 
@@ -51,7 +52,7 @@ joined : {H : Type 0} (arity : H → ℕ) (head : List ℕ → ℕ → Answer H)
     → head s at ≡ value h p → trees arity head f s (arity h) p ≡ value us m → trees arity head f s n m ≡ value rest q → trees arity head (suc f) s (suc n) at ≡ value (cons (node h us) rest) q
 unfolding trees
 joined arity head s f n at h p us m rest q a b c =
-    bind-is (head s at) h p _ _ a (bind-is (trees arity head f s (arity h) p) us m _ _ b (bind-is (trees arity head f s n m) rest q _ _ c refl))
+    bind-to (head s at) h p _ _ a (bind-to (trees arity head f s (arity h) p) us m _ _ b (bind-to (trees arity head f s n m) rest q _ _ c refl))
 
 -- without fuel nothing is read
 trees-dry : {H : Type 0} (arity : H → ℕ) (head : List ℕ → ℕ → Answer H) (s : List ℕ) (n at : ℕ) (ts : Trees H) (q : ℕ) → trees arity head zero s (suc n) at ≡ value ts q → ⊥
@@ -74,7 +75,7 @@ trees-more arity head s (suc f) (suc g) (suc n) at ts q l e =
 -- one after the other, and the second list after the first
 pub many-joined : {A : Type 0} (r : ℕ → Answer A) (n at : ℕ) (x : A) (p : ℕ) (xs : List A) (q : ℕ) → r at ≡ value x p → many r n p ≡ value xs q → many r (suc n) at ≡ value (x ∷ xs) q
 unfolding many
-many-joined r n at x p xs q e f = bind-is (r at) x p _ _ e (bind-is (many r n p) xs q _ _ f refl)
+many-joined r n at x p xs q e f = bind-to (r at) x p _ _ e (bind-to (many r n p) xs q _ _ f refl)
 
 pub many-none : {A : Type 0} (r : ℕ → Answer A) (at : ℕ) → many r zero at ≡ value [] at
 unfolding many

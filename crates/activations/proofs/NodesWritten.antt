@@ -17,7 +17,7 @@ use Rattle.pack.specs.Legal.{place}
 use Rattle.pack.specs.Syntax.{Activation, Enum, Node, NodeKind}
 use Rattle.pack.specs.Read.{equationIn, equationsIn, nodeIn, portIn, portsIn}
 use Rattle.pack.specs.Write.{Item, each, equationItems, kindByte, list, nm, nodeItems, portItems, raw}
-use Rattle.pack.specs.Intern.{putItem, render}
+use Rattle.pack.specs.Intern.{render}
 use Rattle.pack.proofs.Interns.{render-append}
 use Rattle.pack.proofs.Written.{render-full}
 use Rattle.pack.proofs.Copies.{Lies, lies-both, lies-equations, lies-equations-rest, lies-head, lies-ports, lies-ports-rest}
@@ -34,6 +34,7 @@ use Rattle.machines.proofs.LocalLaws.{each-append}
 use Rattle.machines.proofs.ListsShown.{copied, counted-parts}
 use Rattle.machines.proofs.SureLaws.{end-to}
 use Rattle.machines.proofs.ShownCounts.{node-equations-to, node-locals-to, node-value}
+use Rattle.machines.proofs.ShownItems.{raw-first}
 use Rattle.activations.specs.declared.base.Base.{Base}
 use Rattle.activation_rules.specs.Lower.{lowered}
 use Rattle.activations.specs.Joining.{eachAt, fateIn, joined, joins, ownerOf}
@@ -47,10 +48,6 @@ use Rattle.activations.proofs.Bringings.{Ahead, full-now, joined-is}
 use Rattle.activations.proofs.NodesJudged.{nodes-at, owner-here}
 use Rattle.activations.proofs.BroughtKnown.{AcceptedIn, accepted-each, equations-two, locals-two}
 
-pub raw-only : (old xs : List ℕ) (is : List Item) (z : State) → render old (raw xs ∷ is) z ≡ render old is (puts xs z)
-unfolding render putItem
-raw-only old xs is z = refl
-
 -- a list that goes on: its count, those that there were, and those that are brought
 module _ {X : Type 0} (old : List ℕ) (items : X → List Item) (xs ys : List X) (n : ℕ) where
   pub goes-on : two (length xs + n) ≡ two (length (xs ++ ys)) → (z₀ z₁ z₂ z₃ : State) → z₁ ≡ puts (two (length xs + n)) z₀ → z₂ ≡ render old (each items xs) z₁ → z₃ ≡ render old (each items ys) z₂ → z₃ ≡ render old (list items (xs ++ ys)) z₀
@@ -59,7 +56,7 @@ module _ {X : Type 0} (old : List ℕ) (items : X → List Item) (xs ys : List X
       g ∙ ap (render old (each items ys)) (f ∙ ap (render old (each items xs)) (e ∙ ap (λ (l : List ℕ). puts l z₀) t))
       ∙ sym (render-append old (each items xs) (each items ys) (puts (two (length (xs ++ ys))) z₀))
       ∙ ap (λ (is : List Item). render old is (puts (two (length (xs ++ ys))) z₀)) (sym (each-append items xs ys))
-      ∙ sym (raw-only old (two (length (xs ++ ys))) (each items (xs ++ ys)) z₀)
+      ∙ sym (raw-first old (two (length (xs ++ ys))) (each items (xs ++ ys)) z₀)
 
 -- a node up to its locals, as it stands
 frontOf : Node → List Item

@@ -17,6 +17,7 @@ use Rattle.activations.specs.declared.met.Met.{Met}
 use Rattle.activations.specs.Met.{metAt, onwardT, openT}
 use Rattle.activations.specs.Walks.{leftT, orStep, walkT, walked, writeStep}
 use Rattle.activations.proofs.Moving.{went}
+use Rattle.machines.proofs.RowLaws.{full-is}
 
 -- a loop that looks for a node: found, one more, and the end
 module _ (ns : List Name) (s : List ℕ) (last : ℕ) (f : Met → Bool) where
@@ -51,10 +52,6 @@ module _ (ns : List Name) (s : List ℕ) (last : ℕ) (old : List ℕ) (items : 
   pub full-walked : (n p : ℕ) → walked ns s last (writeStep old items) n p full ≡ full
   unfolding walked
   full-walked n p = full-stays (suc (length s)) n p
-
-  full-is : (o d : List ℕ) (w : Writer) → w .full ≡ true → stateOf o d w ≡ full
-  unfolding stateOf
-  full-is o d w e = rw e
 
   left-walked : (o d : List ℕ) (w : Writer) (k j q : ℕ) → j ≡ cond (w .full) 0 k → walked ns s last (writeStep old items) j q (stateOf o d w) ≡ walked ns s last (writeStep old items) k q (stateOf o d w)
   left-walked o d w k j q e = go (w .full) refl e

@@ -1,8 +1,8 @@
 -- What the tables say once holders are known: the number of each variable's holder, and of every number that is read its type.
 use Prim.Native.Nat.{ℕ, zero, suc, _+_, _*_, _<_, _≤_}
 use native.Mathlib.Omega.{arith}
-use mathlib.Core.List.{List, [], _∷_, _++_}
-use mathlib.Core.Bool.{Bool, true, false, cond, _||_, or-assoc, or-comm}
+use mathlib.Core.List.{List, [], _∷_}
+use mathlib.Core.Bool.{Bool, true, false, cond, _||_, or-comm}
 use mathlib.Core.Logic.{⊎-elim}
 use mathlib.Core.Option.{Option, none, some}
 use mathlib.Core.Path.{_≡_, refl, sym, ap, subst, _∙_}
@@ -18,7 +18,7 @@ use Rattle.pack.specs.Syntax.{Port, Ty}
 use Rattle.pack.specs.Forms.{nameAt}
 use Rattle.pack.specs.Legal.{Fresh, Known, place}
 use Rattle.pack.specs.Read.{portIn, portsIn}
-use Rattle.pack.proofs.Tables.{eqName-ne, eqName-true, place-at-name}
+use Rattle.pack.proofs.Tables.{eqName-ne, eqName-true, member-either, place-at-name}
 use Rattle.machines.proofs.Reading.{many-cut, many-more}
 use Rattle.machines.proofs.TableLaws.{past-end}
 use Rattle.activation_rules.specs.MadeNames.{lastVar}
@@ -72,17 +72,12 @@ first-told (p ∷ ps) m =
     by-bool (λ (b : Bool). isSome (cond b (some (p .ty)) (firstTyped ps m)) ≡ b || member m (portNames ps)) (eqName (p .name) m) (λ e. refl) (λ e. first-told ps m)
     ∙ ap (λ (b : Bool). b || member m (portNames ps)) (eqName-turns (p .name) m)
 
-pub member-append : (xs ys : List Name) (m : Name) → member m (xs ++ ys) ≡ member m xs || member m ys
-unfolding member
-member-append [] ys m = refl
-member-append (x ∷ xs) ys m = ap (λ (b : Bool). eqName m x || b) (member-append xs ys m) ∙ sym (or-assoc (eqName m x) (member m xs) (member m ys))
-
 typed-told : (env outs : List Port) (m : Name) → isSome (typed env outs m) ≡ member m (readable env outs)
 unfolding typed readable
 typed-told env outs m =
     is-first (lastTyped env m) (firstTyped outs m)
     ∙ (λ i. last-told env m i || first-told outs m i)
-    ∙ sym (member-append (portNames env) (portNames outs) m)
+    ∙ sym (member-either m (portNames env) (portNames outs))
 
 -- a code is 0 where there is no type
 coded-told : (ns : List Name) (s : List ℕ) (c : ℕ) (o : Option Ty) → Coded ns s c o → eqb c 0 ≡ cond (isSome o) false true

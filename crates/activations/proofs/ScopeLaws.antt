@@ -22,6 +22,7 @@ use Rattle.machines.specs.Sure.{numberIn, with}
 use Rattle.machines.specs.Marks.{among}
 use Rattle.machines.specs.Emits.{packName}
 use Rattle.machines.proofs.SureLaws.{on}
+use Rattle.machines.proofs.RowLaws.{full-is}
 use Rattle.activation_rules.specs.MadeNames.{scopeAt, valueVar}
 use Rattle.activations.specs.ByNumber.{ontoItems}
 use Rattle.activations.specs.Places.{bodyIn, branchEnd, equationEnd, firstLeftIn, rightSideIn}
@@ -32,10 +33,6 @@ use Rattle.activations.specs.RewriteAt.{hasConstT, overT, pinItems, pinT
 use Rattle.activations.specs.ScopesAt.{branchesT, equationT, equationsT, newItems, readsAt, sampleItems, scopeT, scopesT, valueItems}
 use Rattle.activations.proofs.PassLaws.{full-walked}
 use Rattle.activations.proofs.UnlastLaws.{unlast-full}
-
-full-is : (o d : List ℕ) (w : Writer) → w .full ≡ true → stateOf o d w ≡ full
-unfolding stateOf
-full-is o d w e = rw e
 
 -- nothing is written where the writer is full
 pub full-renders : (old : List ℕ) (is : List Item) (o d : List ℕ) (w : Writer) → w .full ≡ true → stateOf o d w ≡ render old is (stateOf o d w)

@@ -122,7 +122,7 @@ module _ (ns : List Name) (s : List ℕ) where
       let n = name-number ns s (c .0) x (m .0) (m .1) in
       (n .i, number-to s at (suc (length xs)) (c .0) _ (c .1) ∙ number-to s (c .0) (n .i) (m .0) _ (n .is), n .small, n .named)
 
-equation-parts : (n : Name) (e : Expr) → equationItems (eqn n e) ≡ raw (two 1) ∷ nm n ∷ exprItems e
+pub equation-parts : (n : Name) (e : Expr) → equationItems (eqn n e) ≡ raw (two 1) ∷ nm n ∷ exprItems e
 unfolding equationItems eqn list each nameItems
 equation-parts n e = refl
 

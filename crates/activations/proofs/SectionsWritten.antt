@@ -28,6 +28,7 @@ use Rattle.machines.specs.Sections.{nodeNames}
 use Rattle.machines.specs.Shown.{PackOf}
 use Rattle.machines.specs.Sure.{num, numberIn}
 use Rattle.machines.proofs.ListsShown.{copied, counted-parts}
+use Rattle.machines.proofs.ShownItems.{raw-first}
 use Rattle.activations.specs.declared.base.Base.{Base}
 use Rattle.activation_rules.specs.Activations.{madeActivations, withoutActivations}
 use Rattle.activations.specs.Joining.{eachAt, fateIn, joined, originIn as originFor, originsOf, ownerOf}
@@ -36,7 +37,7 @@ use Rattle.activations.specs.Basis.{Basis}
 use Rattle.activations.specs.Bringing.{Settled}
 use Rattle.activations.specs.OriginsAt.{originT}
 use Rattle.activations.proofs.BroughtKnown.{AcceptedIn, accepted-each}
-use Rattle.activations.proofs.NodesWritten.{goes-on, raw-only}
+use Rattle.activations.proofs.NodesWritten.{goes-on}
 use Rattle.activations.proofs.OriginsKnown.{origins-written}
 
 each-length : (f : ℕ → Node → Node) (k : ℕ) (N : List Node) → length (eachAt f k N) ≡ length N
@@ -96,7 +97,7 @@ module _ (s old spots : List ℕ) (k : Pack) (p : Package) (h : Stands s k p) (b
       let co : o ≡ num (length (p .origins)) (k .origins + 2) = eo ∙ c .0 in
       let w₁ : z₁ ≡ render old (list enumItems (p .enums)) z₀ = stays (enumIn ns) enumItems ShapedEnum (fmtEnum ns (P .fresh) (P .few)) (w-enumIn ns) (k .enums) (p .enums) (k .nodes) (h .enums) us z₀ z₁ eu f₁ in
       let w₃ : z₃ ≡ render old (list nodeItems N′) z₁ =
-      f₃ ∙ ap (render old (each nodeItems N′)) (f₂ ∙ ap (λ (i : ℕ). puts (two i) z₁) (sym (S .many) ∙ sym (each-length _ 0 (p .nodes)))) ∙ sym (raw-only old (two (length N′)) (each nodeItems N′) z₁) in
+      f₃ ∙ ap (render old (each nodeItems N′)) (f₂ ∙ ap (λ (i : ℕ). puts (two i) z₁) (sym (S .many) ∙ sym (each-length _ 0 (p .nodes)))) ∙ sym (raw-first old (two (length N′)) (each nodeItems N′) z₁) in
       let w₄ : z₄ ≡ render old (list machineItems (p .machines)) z₃ = stays (machineIn ns) machineItems ShapedMachine (fmtMachine ns (P .fresh) (P .few)) (w-machineIn ns) (k .machines) (p .machines) (k .activations) (h .machines) vs z₃ z₄ ev f₄ in
       let w₅ : z₅ ≡ render old (list activationItems []) z₄ = f₅ ∙ sym (none-written old z₄) in
       let count : n ≡ length more = sym (S .count) ∙ sym (origins-length (p .enums) (p .nodes) (p .activations) (accepted-each (p .enums) (p .nodes) (p .activations) (S .accepted)) [] (p .activations) refl) in

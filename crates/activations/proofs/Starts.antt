@@ -29,6 +29,7 @@ use Rattle.machines.specs.Sure.{numberIn, with}
 use Rattle.machines.proofs.NamesPlaced.{alone}
 use Rattle.machines.proofs.Reading.{many-cut, many-more, many-over, name-number}
 use Rattle.machines.proofs.SureLaws.{byte-to, end-to, number-num, number-to}
+use Rattle.machines.proofs.Validated.{first-none}
 use Rattle.activations.specs.declared.types.Start.{Start}
 use Rattle.activations.specs.declared.types.Start.the-variants as sr
 use Rattle.activations.specs.Places.{eachOf}
@@ -37,11 +38,6 @@ use Rattle.activations.specs.TypesAt.{Coded, StartIn, enumEnd, firstVari
 use Rattle.activations.specs.FirstsAt.{FirstsAre}
 use Rattle.activations.proofs.ActRead.{counted-value}
 use Rattle.activations.proofs.TypesKnown.{coded-one, coded-read, lies-type}
-
-first-nothing : {A : Type 0} (a : Option A) → firstOf a none ≡ a
-unfolding firstOf
-first-nothing none = refl
-first-nothing (some x) = refl
 
 -- an enum that was read
 pub record EnumRead (ns : List Name) (s : List ℕ) (at : ℕ) (x : Enum) (q : ℕ) : Type 0 where
@@ -145,7 +141,7 @@ module _ (ns : List Name) (fresh : Fresh [] ns) (few : length ns < 65536) (s : L
     variant-is x l =
         let a = counted-value (enumIn ns s) s enums es q E in
         subst (λ y. Varies y (firstVariant es (nameAt ns x))) (sym (number-to s enums (length es) (a .0) (λ n p. eachOf (variantAt s x) (enumEnd ns s) n p sr.Missing) (a .1)))
-        (subst (Varies (eachOf (variantAt s x) (enumEnd ns s) (length es) (a .0) sr.Missing)) (first-nothing (firstVariant es (nameAt ns x)))
+        (subst (Varies (eachOf (variantAt s x) (enumEnd ns s) (length es) (a .0) sr.Missing)) (first-none (firstVariant es (nameAt ns x)))
         (variants-read x (length es) (a .0) es q sr.Missing none l (a .2) missing))
 
     -- what is looked up is what is sought

@@ -37,6 +37,7 @@ use Rattle.machines.proofs.Reading.{many-cut, many-end, many-more, many-over, n
 use Rattle.machines.proofs.SureLaws.{byte-to, end-to, number-num, number-to, then-to}
 use Rattle.machines.proofs.ShownCounts.{NodeRead, node-value}
 use Rattle.machines.proofs.TablesFilled.{fill-at, fill-length}
+use Rattle.machines.proofs.Validated.{first-none}
 use Rattle.activations.specs.Cells.{clearT, putT}
 use Rattle.activations.specs.Places.{along, eachOf}
 use Rattle.activation_rules.specs.Types.{firstTyped, lastTyped, orBool, typed, valueType, variables}
@@ -49,11 +50,6 @@ first-assoc : {A : Type 0} (a b c : Option A) → firstOf (firstOf a b) c ≡ fi
 unfolding firstOf
 first-assoc none b c = refl
 first-assoc (some x) b c = refl
-
-first-none : {A : Type 0} (a : Option A) → firstOf a none ≡ a
-unfolding firstOf
-first-none none = refl
-first-none (some x) = refl
 
 pub last-append : (a b : List Port) (m : Name) → lastTyped (a ++ b) m ≡ firstOf (lastTyped b m) (lastTyped a m)
 unfolding lastTyped

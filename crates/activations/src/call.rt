@@ -2,6 +2,7 @@
 use crate::base::Base;
 use crate::base::lookup;
 use crate::base::some_made;
+use crate::firsts::SPOTS;
 use crate::firsts::keep_firsts;
 use crate::judging::judge_nodes;
 use crate::placing::place_acts;
@@ -171,7 +172,7 @@ fn lower_whole(s: &[u8], x: Pack, output: &mut [u8], report: &mut [u8]) -> Outco
     ensures answers { λ r. ⌜ ((p : Package) → Stands (now (s .entry)) x p → Answers (activationsOf (length (now (output .entry))) (length (now (report .entry))) p) (r .number) (r .value) (now (output .entry)) (now (output .exit)) (now (report .entry)) (now (report .exit))) ⌝ }
     ensures fits { λ r. ⌜ (r .number ≤ 9) × (r .value < 4294967296) ⌝ }
 {
-    let mut spots = [0u16; 50176];
+    let mut spots = [0u16; SPOTS];
     let mut nodes = [0u16; 6656];
     let mut acts = [0u16; 39936];
     let mut env = [0u16; 65536];

@@ -10,6 +10,13 @@ ghost use lib.ListN.{length};
 ghost use Rattle.pack.specs.Names.{Name};
 ghost use Rattle.activations.specs.FirstsAt.{keptT, firstT, firstsT};
 
+// Where first variants begin, after the places of names.
+pub const FIRSTS: usize = 32768;
+// How many names can have one.
+pub const NAMED: usize = 17408;
+// What a table of both takes.
+pub const SPOTS: usize = FIRSTS + NAMED;
+
 // The first of k variants at p, kept for the name of index i.
 fn keep(s: &[u8], spots: &mut [u16], i: usize, k: usize, p: usize)
     ensures { λ _. ⌜ now (spots .exit) ≡ keptT (now (s .entry)) i k p (now (spots .entry)) ⌝ }
@@ -18,7 +25,7 @@ fn keep(s: &[u8], spots: &mut [u16], i: usize, k: usize, p: usize)
         return;
     }
     let v = number(s, p);
-    put_word(spots, 32768, i, v.value + 1);
+    put_word(spots, FIRSTS, i, v.value + 1);
 }
 
 // That of the enum at p.

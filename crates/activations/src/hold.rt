@@ -6,7 +6,7 @@ use crate::ids::holder_id;
 use crate::types::is_missing;
 use crate::types::start_of;
 use crate::types::typed;
-use machines::cells::put_cell;
+use pack::cells::put_cell;
 ghost use mathlib.Core.List.{List};
 ghost use mathlib.Core.Path.{_≡_};
 ghost use Prim.Native.Nat.{_≤_};

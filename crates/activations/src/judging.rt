@@ -5,7 +5,7 @@ use crate::acts::put_judged;
 use crate::base::Base;
 use crate::judge::judge_act;
 use crate::types::note_variables;
-use machines::cells::cell;
+use pack::cells::cell;
 ghost use mathlib.Core.List.{List};
 ghost use mathlib.Core.Path.{_≡_};
 ghost use Prim.Native.Nat.{_≤_};

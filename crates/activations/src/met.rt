@@ -2,7 +2,7 @@
 // meets its nodes in preorder; it does not enter a call that is replaced.
 use crate::base::Base;
 use machines::sure::after_expr;
-use machines::table::byte;
+use pack::cells::byte_at;
 use pack::exprs::Decoded;
 use pack::exprs::Node;
 use pack::exprs::read_node;
@@ -109,7 +109,7 @@ fn call_kind(s: &[u8], b: Base, f: usize, under: usize, at: usize) -> Met
 fn plain(s: &[u8], at: usize, under: usize, next: usize) -> Met
     ensures { λ r. ⌜ r ≡ plainT (now (s .entry)) at under next ⌝ }
 {
-    if byte(s, at) == 0 {
+    if byte_at(s, at) == 0 {
         return Met::Const(next);
     }
     Met::Other { under, next }

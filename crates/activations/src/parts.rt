@@ -4,7 +4,7 @@ use machines::sure::Num;
 use machines::sure::after_equations;
 use machines::sure::after_expr;
 use machines::sure::number;
-use machines::sure::reached;
+use pack::check::reached;
 use pack::parts::then_names;
 use pack::parts::then_type;
 use wire::answer::Skipped;

@@ -3,7 +3,7 @@ use crate::numbers::put_id;
 use crate::numbers::put_sample_of;
 use crate::reads::is_in;
 use crate::terms::put_onto;
-use machines::cells::cell;
+use pack::cells::cell;
 use wire::writer::Writer;
 use wire::writer::put_byte;
 use wire::writer::put_u16;

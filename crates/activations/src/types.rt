@@ -1,14 +1,16 @@
 // The types of variables, by tables over the names' numbers. A type is where it stands in the pack, 1 for Bool where none stands,
 // 0 for none.
 use crate::cells::clear;
+use crate::firsts::FIRSTS;
+use crate::firsts::NAMED;
 use crate::parts::after_type;
 use crate::parts::right_side;
-use machines::cells::cell;
-use machines::cells::put_cell;
 use machines::rows::between;
 use machines::sure::after_port;
 use machines::sure::number;
 use machines::sure::sure;
+use pack::cells::cell;
+use pack::cells::put_cell;
 use wire::number::read_byte;
 use wire::writer::Writer;
 use wire::writer::put_byte;
@@ -197,8 +199,8 @@ fn word_start(c: usize) -> Start
 fn variant_of(s: &[u8], names: usize, enums: usize, spots: &[u16], x: usize) -> Start
     ensures { λ t. ⌜ ((ns : List Name) → length ns ≡ names → t ≡ variantT ns (now (s .entry)) enums (now (spots .entry)) x) ⌝ }
 {
-    if x < 17408 {
-        let c = cell(spots, 32768 + x);
+    if x < NAMED {
+        let c = cell(spots, FIRSTS + x);
         return word_start(c);
     }
     first_variant(s, names, enums, x)

@@ -18,12 +18,12 @@ use Rattle.machines.proofs.Covered.{isNone, none-states}
 some-none : {A : Type 0} (a : A) → some a ≡ none → ⊥
 some-none a e = let z : _≡_ {A = ℕ} 0 1 = cc in omega arith
 
-first-none : {A : Type 0} (a b : Option A) → firstOf a b ≡ none → (a ≡ none) × (b ≡ none)
+pub first-none : {A : Type 0} (a b : Option A) → firstOf a b ≡ none → (a ≡ none) × (b ≡ none)
 unfolding firstOf
 first-none none b e = (refl, e)
 first-none (some x) b e = absurd (some-none x e)
 
-refusal-none : {A : Type 0} (f : A → Refusal) (a : Option A) → asRefusal f a ≡ none → a ≡ none
+pub refusal-none : {A : Type 0} (f : A → Refusal) (a : Option A) → asRefusal f a ≡ none → a ≡ none
 unfolding asRefusal
 refusal-none f none e = refl
 refusal-none f (some x) e = absurd (some-none (f x) e)

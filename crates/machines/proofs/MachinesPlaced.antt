@@ -14,6 +14,7 @@ use Rattle.wire.specs.Answer.{Answer, counted, many, u16, value}
 use Rattle.wire.specs.Code.{next, onward, skip, skips}
 use Rattle.wire.specs.declared.answer.Skipped.the-variants as sk
 use Rattle.wire.proofs.Answers.{bind-value, u16-value}
+use Rattle.wire.proofs.Formats.{bind-to}
 use Rattle.pack.specs.Names.{Name, eqName}
 use Rattle.pack.specs.Syntax.{Drawing}
 use Rattle.pack.specs.Forms.{nameAt}
@@ -24,7 +25,7 @@ use Rattle.pack.specs.Verdict.{offsetOf}
 use Rattle.machine_rules.specs.Resolve.{machineOf}
 use Rattle.machines.specs.Stands.{MachineAt}
 use Rattle.machines.specs.Tables.{initialIn, machinesPlaced, outputsIn, placedFrom, statesEnd}
-use Rattle.machines.proofs.Reading.{MachineRead, bind-is, machine-value, many-cut, many-more, many-over, name-number}
+use Rattle.machines.proofs.Reading.{MachineRead, machine-value, many-cut, many-more, many-over, name-number}
 use Rattle.machines.proofs.Standing.{Found}
 use Rattle.machines.proofs.SureLaws.{number-to}
 use Rattle.machines.proofs.NamesPlaced.{NamesAre, alone}
@@ -52,7 +53,7 @@ module _ (ns : List Name) (s : List ℕ) where
   unfolding statesEnd offsetOf counted
   states-to at d q r =
       let i = name-number ns s (r .to-initial) (d .initial) (r .head .to-states) (r .head .initial) in
-      let c : counted (stateAt ns s) s (r .head .to-states) ≡ value (r .xs) q = bind-is (u16 s (r .head .to-states)) (r .k) (r .b) _ _ (r .head .states) (r .inside) in
+      let c : counted (stateAt ns s) s (r .head .to-states) ≡ value (r .xs) q = bind-to (u16 s (r .head .to-states)) (r .k) (r .b) _ _ (r .head .states) (r .inside) in
       number-to s (r .to-initial) (i .i) (r .head .to-states) _ (i .is)
       ∙ ap offsetOf (onward-to (counted (stateAt ns s) s) (r .head .to-states) (r .xs) q c)
 

@@ -8,8 +8,9 @@ use mathlib.Core.Path.{_≡_, refl, sym, ap, subst, _∙_}
 use lib.ListN.{length}
 use lib.Dec.{ltb, eqb}
 use borrow.Author.Tests.{eqb-true, eqb-false, ltb-true}
-use Rattle.wire.specs.Answer.{Answer, below, bind, counted, guard, index, many, mapA, u16, value}
+use Rattle.wire.specs.Answer.{Answer, below, counted, guard, index, many, mapA, u16, value}
 use Rattle.wire.proofs.Answers.{bind-value, guard-value, map-value}
+use Rattle.wire.proofs.Formats.{bind-to}
 use Rattle.pack.specs.Limits.{absent, maxLevel}
 use Rattle.pack.specs.Names.{Name}
 use Rattle.pack.specs.Syntax.{Drawing}
@@ -184,24 +185,20 @@ optional-some ns s at n q e =
     go i false h d false f x = let z : _≡_ {A = ℕ} 0 1 = ap (λ b. cond b 0 1) (sym x) ∙ ap (λ b. cond b 0 1) h in absurd (omega arith)
 
 -- what is read with some levels left is read with more
-pub bind-is : {A B : Type 0} (a : Answer A) (x : A) (p : ℕ) (k : A → ℕ → Answer B) (z : Answer B) → a ≡ value x p → k x p ≡ z → bind a k ≡ z
-unfolding bind
-bind-is a x p k z e h = rw e h
-
 many-mono : {A : Type 0} (r t : ℕ → Answer A) → ((at : ℕ) (x : A) (q : ℕ) → r at ≡ value x q → t at ≡ value x q) → (n at : ℕ) (xs : List A) (q : ℕ) → many r n at ≡ value xs q → many t n at ≡ value xs q
 unfolding many
 many-mono r t h zero at xs q e = e
 many-mono r t h (suc n) at xs q e =
     let b = bind-value (r at) _ xs q e in
     let d = bind-value (many r n (b .1)) _ xs q (b .3) in
-    bind-is (t at) (b .0) (b .1) _ _ (h at (b .0) (b .1) (b .2)) (bind-is (many t n (b .1)) (d .0) (d .1) _ _ (many-mono r t h n (b .1) (d .0) (d .1) (d .2)) (d .3))
+    bind-to (t at) (b .0) (b .1) _ _ (h at (b .0) (b .1) (b .2)) (bind-to (many t n (b .1)) (d .0) (d .1) _ _ (many-mono r t h n (b .1) (d .0) (d .1) (d .2)) (d .3))
 
 module _ (ns : List Name) (s : List ℕ) where
   counted-mono : {A : Type 0} (r t : ℕ → Answer A) → ((at : ℕ) (x : A) (q : ℕ) → r at ≡ value x q → t at ≡ value x q) → (at : ℕ) (xs : List A) (q : ℕ) → counted r s at ≡ value xs q → counted t s at ≡ value xs q
   unfolding counted
   counted-mono r t h at xs q e =
       let b = bind-value (u16 s at) _ xs q e in
-      bind-is (u16 s at) (b .0) (b .1) _ _ (b .2) (many-mono r t h (b .0) (b .1) xs q (b .3))
+      bind-to (u16 s at) (b .0) (b .1) _ _ (b .2) (many-mono r t h (b .0) (b .1) xs q (b .3))
 
   state-mono : (r t : ℕ → Answer OneRegion) → ((at : ℕ) (x : OneRegion) (q : ℕ) → r at ≡ value x q → t at ≡ value x q) → (at : ℕ) (x : OneState) (q : ℕ) → stateWith r ns s at ≡ value x q → stateWith t ns s at ≡ value x q
   unfolding stateWith
@@ -210,8 +207,8 @@ module _ (ns : List Name) (s : List ℕ) where
       let b = bind-value (equationsIn ns s (a .1)) _ x q (a .3) in
       let c = bind-value (counted (transitionIn ns s) s (b .1)) _ x q (b .3) in
       let d = bind-value (counted r s (c .1)) _ x q (c .3) in
-      bind-is (nameIn ns s at) (a .0) (a .1) _ _ (a .2) (bind-is (equationsIn ns s (a .1)) (b .0) (b .1) _ _ (b .2)
-      (bind-is (counted (transitionIn ns s) s (b .1)) (c .0) (c .1) _ _ (c .2) (bind-is (counted t s (c .1)) (d .0) (d .1) _ _ (counted-mono r t h (c .1) (d .0) (d .1) (d .2)) (d .3))))
+      bind-to (nameIn ns s at) (a .0) (a .1) _ _ (a .2) (bind-to (equationsIn ns s (a .1)) (b .0) (b .1) _ _ (b .2)
+      (bind-to (counted (transitionIn ns s) s (b .1)) (c .0) (c .1) _ _ (c .2) (bind-to (counted t s (c .1)) (d .0) (d .1) _ _ (counted-mono r t h (c .1) (d .0) (d .1) (d .2)) (d .3))))
 
   region-mono : (l m : ℕ) → l ≤ m → (at : ℕ) (x : OneRegion) (q : ℕ) → regionAt l ns s at ≡ value x q → regionAt m ns s at ≡ value x q
   unfolding regionAt mapA
@@ -222,7 +219,7 @@ module _ (ns : List Name) (s : List ℕ) where
       let b = bind-value (below 2 s (a .1)) _ x q (a .3) in
       let g = map-value _ (counted (stateWith (regionAt l ns s) ns s) s (b .1)) x q (b .3) in
       let k : l ≤ m = omega arith in
-      bind-is (nameIn ns s at) (a .0) (a .1) _ _ (a .2) (bind-is (below 2 s (a .1)) (b .0) (b .1) _ _ (b .2)
+      bind-to (nameIn ns s at) (a .0) (a .1) _ _ (a .2) (bind-to (below 2 s (a .1)) (b .0) (b .1) _ _ (b .2)
       (ap (mapA _) (counted-mono _ _ (state-mono (regionAt l ns s) (regionAt m ns s) (region-mono l m k)) (b .1) (g .0) q (g .1)) ∙ ap (λ y. value y q) (g .2)))
 
   pub overs : (levels at : ℕ) (x : OneState) (e : ℕ) → levels ≤ maxLevel - 1 → stateWith (regionAt levels ns s) ns s at ≡ value x e → overIn ns s at ≡ e

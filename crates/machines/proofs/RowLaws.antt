@@ -57,7 +57,7 @@ pub name-out : (s spots x : List ℕ) (i at : ℕ) → at ≡ getD spots i 0 →
 unfolding packName rawName sliceOf
 name-out s spots x i at e h f = f ∙ ap (λ (n : ℕ). take n (drop (at + 1) s)) (past-end s at h) ∙ ap (rawName s) e
 
-full-is : (o m : List ℕ) (w : Writer) → w .full ≡ true → stateOf o m w ≡ full
+pub full-is : (o m : List ℕ) (w : Writer) → w .full ≡ true → stateOf o m w ≡ full
 unfolding stateOf
 full-is o m w e = rw e
 

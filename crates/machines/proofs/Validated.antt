@@ -46,7 +46,7 @@ then-fine ck.Fine = refl
 then-fine (ck.Initial q) = refl
 then-fine (ck.Target p q x) = refl
 
-first-none : {A : Type 0} (r : Option A) → firstOf r none ≡ r
+pub first-none : {A : Type 0} (r : Option A) → firstOf r none ≡ r
 unfolding firstOf
 first-none none = refl
 first-none (some x) = refl

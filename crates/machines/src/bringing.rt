@@ -1,9 +1,9 @@
 // What the machines of a pack bring to its nodes, counted. Three tables are filled before: for the machine i
 // `mats` says where it is drawn, `ats` which node it goes to, and `regs` how many regions it has, the top one included.
 use crate::sure::number;
-use crate::sure::reached;
 use crate::table::entry;
 use crate::table::to_outputs;
+use pack::check::reached;
 use pack::parts::then_ports;
 use wire::answer::Skipped;
 ghost use mathlib.Core.List.{List};

@@ -1,7 +1,5 @@
 // Whether a resolved machine's states give an output: a state calls its regions and a region its states,
 // with the levels left as the falling number.
-use crate::cells::cell;
-use crate::cells::put_cell;
 use crate::ends::end_of;
 use crate::kept::kept_regions;
 use crate::rows::first;
@@ -9,6 +7,8 @@ use crate::rows::inner;
 use crate::rows::word;
 use crate::sure::number;
 use crate::table::entry;
+use pack::cells::cell;
+use pack::cells::put_cell;
 ghost use mathlib.Core.List.{List};
 ghost use mathlib.Core.Path.{_≡_};
 ghost use mathlib.Core.Bool.{_&&_};

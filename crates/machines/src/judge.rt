@@ -9,7 +9,6 @@ use crate::repeats::repeated_name;
 use crate::rows::word;
 use crate::sure::after_port;
 use crate::sure::number;
-use crate::table::byte;
 use crate::table::entry;
 use crate::table::to_initial;
 use crate::table::to_outputs;
@@ -17,6 +16,7 @@ use crate::valid::Checked;
 use crate::valid::check_region;
 use crate::walk::Walked;
 use crate::walk::walk_machine;
+use pack::cells::byte_at;
 use pack::record::Pack;
 ghost use mathlib.Core.List.{List};
 ghost use mathlib.Core.Path.{_≡_};
@@ -85,7 +85,7 @@ fn called_in(t: &[usize], q: usize, x: usize) -> Called
 fn again_called(lets: &[u8], d: usize) -> Called
     ensures { λ r. ⌜ r ≡ againCalled (now (lets .entry)) d ⌝ }
 {
-    let n = byte(lets, d);
+    let n = byte_at(lets, d);
     if 4294967296 <= d {
         return no_name();
     }
@@ -121,7 +121,7 @@ fn uncovered_output(
     ensures { λ _. ⌜ ToldRight (now (s .entry)) names (now (ends .entry)) (now (told .exit)) ⌝ }
     ensures { λ _. ⌜ GivenRight (now (s .entry)) names (now (t .entry)) (now (given .exit)) ⌝ }
 {
-    if 0 < byte(given, x) {
+    if 0 < byte_at(given, x) {
         return 0;
     }
     let m = uncovered_region(s, names, ends, t, told, x, Pack::LEVELS, 0);

@@ -1,7 +1,7 @@
 // What is kept of equations, guards, regions and states, by where they begin: a table that is filled once, so that what is visited
 // many times is read once. Nothing depends on its being complete: what it does not have is read.
-use crate::cells::cell;
-use crate::cells::put_cell;
+use pack::cells::cell;
+use pack::cells::put_cell;
 ghost use mathlib.Core.Path.{_≡_};
 ghost use Prim.Native.Nat.{_+_, _%_, _<_, _≤_};
 ghost use Rattle.machines.specs.Kept.{besideIn, keptIn, rowMark, rowPut, stateRow, longestIn, movesIn, pastIn, regionsIn, statePut};

@@ -1,6 +1,5 @@
 // Laying a resolved machine out in three tables: words of states and regions in preorder, the word of each region by its id,
 // the full names of states. What comes after looks at the tables alone, and meets no refinement and no prefix.
-use crate::cells::cell;
 use crate::cover::both;
 use crate::empties::at_once;
 use crate::empties::open_regions;
@@ -14,6 +13,7 @@ use crate::words::put_region_words;
 use crate::words::put_state_ends;
 use crate::words::put_state_words;
 use crate::words::put_word;
+use pack::cells::cell;
 use pack::record::Pack;
 ghost use mathlib.Core.List.{List};
 ghost use mathlib.Core.Bool.{true};

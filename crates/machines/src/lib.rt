@@ -1,5 +1,4 @@
 // Machines: resolved, checked and lowered.
-pub mod cells; // tables of 16-bit words
 pub mod sure; // total readers on a checked pack
 pub mod table; // names and machines by name index
 pub mod path; // the machines on the way from the top

@@ -1,7 +1,7 @@
 // Marks of names, by which names that differ are told apart without a look at all of their letters: the two halves of the number by
 // which pack's tables find a name. They are kept apart, since a low half is looked for more quickly than both, and where names were
 // made of one low half the high ones differ.
-use pack::table::number_of;
+use pack::siphash::hash;
 ghost use mathlib.Core.Bool.{_&&_};
 ghost use mathlib.Core.Path.{_≡_};
 ghost use lib.ListN.{set};
@@ -16,7 +16,7 @@ pub struct Mark {
 pub fn mark_of(n: &[u8]) -> Mark
     ensures { λ r. ⌜ (r .low ≡ lowOf (now (n .entry))) × (r .high ≡ highOf (now (n .entry))) ⌝ }
 {
-    let h = number_of(n);
+    let h = hash(n);
     Mark {
         low: (h % 4294967296) as u32,
         high: (h / 4294967296 % 4294967296) as u32,

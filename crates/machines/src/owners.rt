@@ -1,12 +1,12 @@
 // To which node each accepted machine goes: a node of its own, or its owner among the nodes made so far. Nodes are
 // known by their names' indexes.
-use crate::cells::cell;
-use crate::cells::put_cell;
 use crate::nodes::to_node_equations;
 use crate::sure::after_equations;
 use crate::sure::number;
 use crate::table::entry;
 use crate::table::put;
+use pack::cells::cell;
+use pack::cells::put_cell;
 ghost use mathlib.Core.List.{List};
 ghost use mathlib.Core.Path.{_≡_};
 ghost use Prim.Native.Nat.{_+_, _≤_};

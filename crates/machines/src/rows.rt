@@ -1,5 +1,5 @@
 // The layout as it is read: words of rows, and letters. All is total: 0 past the words, and a part is cut at the end.
-use crate::cells::cell;
+use pack::cells::cell;
 use wire::writer::Writer;
 use wire::writer::capped;
 ghost use mathlib.Core.Bool.{cond};

@@ -1,21 +1,14 @@
 // Full names of states, one after the other in a table of letters: a length byte, then the letters.
-use crate::cells::cell;
-use crate::table::byte;
 use crate::table::name_len;
+use pack::cells::byte_at;
+use pack::cells::cell;
+use pack::cells::set_byte;
 ghost use mathlib.Core.Path.{_≡_};
 ghost use Prim.Native.Nat.{suc, _+_, _<_, _≤_};
-ghost use lib.ListN.{length, set, getD};
+ghost use lib.ListN.{length, getD};
 ghost use lib.Seq.{sets};
 ghost use Rattle.machines.specs.Tables.{lenOf};
 ghost use Rattle.machines.specs.Lays.{values, under, fitsAt, spelt, spellLen, leadOf};
-
-fn put_letter(lets: &mut [u8], i: usize, v: u8)
-    ensures { λ r. ⌜ now (lets .exit) ≡ set (now (lets .entry)) i v ⌝ }
-{
-    if i < lets.len() {
-        lets[i] = v;
-    }
-}
 
 // The letter at an offset, 0 past the end.
 fn letter(s: &[u8], at: usize) -> u8
@@ -61,11 +54,10 @@ fn put_prefix(lets: &mut [u8], a: usize, m: usize, at: usize)
     }
     let mut k = 0;
     while k < m {
-        let b = lets[a + k];
-        put_letter(lets, at + k, b);
+        lets[at + k] = lets[a + k];
         k += 1;
     }
-    put_letter(lets, at + m, 95);
+    lets[at + m] = 95;
 }
 
 // The letters of the name i of the pack.
@@ -77,10 +69,10 @@ fn put_name(s: &[u8], spots: &[u16], i: usize, lets: &mut [u8], at: usize)
     if s.len() <= p {
         return;
     }
-    let n = byte(s, p);
+    let n = byte_at(s, p);
     let mut k = 0;
     while k < n {
-        put_letter(lets, at + k, letter(s, p + 1 + k));
+        set_byte(lets, at + k, letter(s, p + 1 + k));
         k += 1;
     }
 }
@@ -101,7 +93,7 @@ pub fn spell(
     if fits(lets.len(), a, m, at, n) {
         let f = lead(m);
         let w = f + n;
-        put_letter(lets, at, (w % 256) as u8);
+        set_byte(lets, at, (w % 256) as u8);
         put_prefix(lets, a, m, at + 1);
         put_name(s, spots, i, lets, at + 1 + f);
         return w;

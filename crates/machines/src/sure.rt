@@ -1,5 +1,6 @@
 // Readers on a checked pack. Nothing stops there, so each answers numbers only: 0 where reading would stop.
 use pack::charts::then_state;
+use pack::check::reached;
 use pack::parts::then_equation;
 use pack::parts::then_equations;
 use pack::parts::then_expr;
@@ -17,7 +18,6 @@ ghost use lib.ListN.{length};
 ghost use Rattle.wire.specs.Answer.{counted};
 ghost use Rattle.pack.specs.Names.{Name};
 ghost use Rattle.pack.specs.Read.{equationIn, equationsIn, exprIn, portIn, transitionIn};
-ghost use Rattle.pack.specs.Verdict.{offsetOf};
 ghost use Rattle.machines.specs.Stands.{endOf, overIn};
 ghost use Rattle.machines.specs.Sure.{sureOf, numberIn, regionIn, machineFrom};
 
@@ -33,16 +33,6 @@ pub fn sure(r: Read) -> Num
     match r {
         Read::Is { value, next } => Num { value, next },
         _ => Num { value: 0, next: 0 },
-    }
-}
-
-// Where reading stands.
-pub fn reached(r: Skipped) -> usize
-    ensures { λ q. ⌜ q ≡ offsetOf r ⌝ }
-{
-    match r {
-        Skipped::To(at) => at,
-        _ => 0,
     }
 }
 

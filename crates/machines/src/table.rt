@@ -1,9 +1,10 @@
 // Tables by name index, made once: where a name stands, and where the machine of that name is.
-use crate::cells::cell;
-use crate::cells::put_cell;
 use crate::ends::past_states;
 use crate::sure::number;
-use crate::sure::reached;
+use pack::cells::byte_at;
+use pack::cells::cell;
+use pack::cells::put_cell;
+use pack::check::reached;
 use pack::parts::then_optional;
 use pack::parts::then_ports;
 use wire::answer::Skipped;
@@ -27,13 +28,6 @@ pub fn put(t: &mut [usize], i: usize, v: usize)
     if i < t.len() {
         t[i] = v;
     }
-}
-
-// The byte at an offset, which for a name is its length.
-pub fn byte(s: &[u8], at: usize) -> usize
-    ensures { λ r. ⌜ r ≡ getD (now (s .entry)) at 0 ⌝ }
-{
-    if at < s.len() { s[at] as usize } else { 0 }
 }
 
 // Where the name after the one at `at` stands.
@@ -65,7 +59,7 @@ pub fn name_len(s: &[u8], spots: &[u16], i: usize) -> usize
     ensures { λ r. ⌜ r ≡ lenOf (now (s .entry)) (now (spots .entry)) i ⌝ }
 {
     let at = cell(spots, i);
-    byte(s, at)
+    byte_at(s, at)
 }
 
 // From a machine's owner, past its inputs: where its outputs are.

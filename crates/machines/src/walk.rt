@@ -1,6 +1,5 @@
 // Resolving a machine on the pack's bytes: a state's regions, then its refinement by going to the machine's place.
 // No tree is made. Of names only the longest length is kept, which decides whether qualified names fit.
-use crate::cells::cell;
 use crate::empties::at_once;
 use crate::empties::take_regions;
 use crate::heads::head;
@@ -13,6 +12,7 @@ use crate::path::start;
 use crate::sure::machine;
 use crate::sure::number;
 use crate::table::name_len;
+use pack::cells::cell;
 use pack::record::Pack;
 ghost use mathlib.Core.List.{List};
 ghost use mathlib.Core.Path.{_≡_};

@@ -137,7 +137,7 @@ size-port : (p : Port) → 0 < sizeOf (portItems p)
 unfolding portItems sizeOf
 size-port p = omega arith
 
-size-equation : (e : Equation) → 0 < sizeOf (equationItems e)
+pub size-equation : (e : Equation) → 0 < sizeOf (equationItems e)
 unfolding equationItems list two sizeOf
 size-equation e = omega arith
 

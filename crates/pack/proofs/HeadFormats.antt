@@ -8,13 +8,13 @@ use lib.ListN.{length, drop}
 use lib.Dec.{eqb}
 use borrow.Author.Tests.{eqb-true, eqb-false}
 use Rattle.pack.specs.Syntax.{Lit, lBool, lChar, lFloat, lInt}
-use Rattle.wire.specs.Answer.{Answer, below, bind, byte, counted, deep, early, illegal, index, many, mapA, u16, u64, value}
+use Rattle.wire.specs.Answer.{Answer, below, byte, counted, illegal, index, many, mapA, u16, u64, value}
 use Rattle.pack.specs.Forms.{ExprHead, array, arrow, binary, call, callFields, cast, conditional, const, element, exprArity, exprAt, exprFields, exprHead, exprRows, field, flagOf, iterate, iterateFields, literal, literalOf, merge, previous, sample, struct, structFields, tuple, typeArity, typeAt, unary, var, whenFields}
 use Rattle.wire.specs.Bytes.{bytes, two}
 use Rattle.pack.specs.Write.{flagByte, litBytes}
 use Rattle.wire.specs.Lists.{All, Bytes}
 use Rattle.wire.proofs.Formats.{Back, Below, Format, bind-to, both, encAll, format16, format64, formatBelow, formatBoth, formatByte, formatCounted, formatIndex, formatNothing, nothing, seq, single}
-use Rattle.wire.proofs.Answers.{bind-value, map-value}
+use Rattle.wire.proofs.Answers.{bind-value, map-bind, map-value}
 use Rattle.wire.proofs.TreeFormats.{OkTrees, count, encTrees, formatTree}
 use Rattle.pack.proofs.TypeFormats.{OkType, Rows, encType, formatTypes, row-at}
 use Rattle.pack.specs.Legal.{LegalLit}
@@ -26,13 +26,6 @@ row-was {A} {H} f ef of c enc ok k F fine s by at h q e =
     let g = fine (m .0) (F .legal s by at (m .0) q (m .1)) in
     subst (λ (y : H). ok y × (k ∷ drop at s ≡ enc y ++ drop q s)) (m .2)
     (g .0, ap (λ (l : List ℕ). k ∷ l) (F .was s by at (m .0) q (m .1)) ∙ ap (λ (l : List ℕ). l ++ drop q s) (g .1))
-
-pub map-bind : {A B C : Type 0} (g : B → C) (a : Answer A) (k : A → ℕ → Answer B) → mapA g (bind a k) ≡ bind a (λ x q. mapA g (k x q))
-unfolding mapA bind
-map-bind g (value x q) k = refl
-map-bind g early k = refl
-map-bind g (illegal o) k = refl
-map-bind g (deep o) k = refl
 
 -- flags and literals
 pub flag-byte : (x : ℕ) → x < 2 → flagByte (flagOf x) ≡ x

@@ -1,4 +1,5 @@
 pub mod NameLaws
+pub mod Prefix
 pub mod TypeLaws
 pub mod ExprLaws
 pub mod NodeLaws
@@ -19,8 +20,8 @@ pub mod Octets
 pub mod RoundTripAt
 pub mod TableIndex
 pub mod Interns
-pub mod NamesTabled
 pub mod SiphashLaws
+pub mod DistinctLaws
 pub mod TableLaws
 pub mod Written
 pub mod Finished

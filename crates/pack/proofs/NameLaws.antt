@@ -312,28 +312,3 @@ reading-repeated s count q n p x to b r l e f g =
 
 pub reading-done : (s : List ℕ) (count q n p : ℕ) → NamesRead s count q n p → count ≤ n → sk.To p ≡ skip (namesAfter s [] count q)
 reading-done s count q n p r l = sym (names-done s (rawNames s n q) (count - n) p (omega arith)) ∙ r .same
-
--- what the first m of the names give, where they are refused, all give
-names-split : (s : List ℕ) (t : List (List ℕ)) (m k n q : ℕ) → n ≡ m + k → namesAfter s t n q ≡ bind (namesAfter s t m q) (λ u p. namesAfter s u k p)
-unfolding namesAfter bind
-names-split s t zero k n q e = let f : n ≡ k = omega arith in ap (λ (i : ℕ). namesAfter s t i q) f
-names-split s t (suc m) k zero q e = absurd (omega arith)
-names-split s t (suc m) k (suc n) q e = go (guard (λ x. not (member x t)) q (name s q)) (λ x p. names-split s (t ++ x ∷ []) m k n p (omega arith))
-  where
-    go : (a : Answer (List ℕ)) → ((x : List ℕ) (p : ℕ) → namesAfter s (t ++ x ∷ []) n p ≡ bind (namesAfter s (t ++ x ∷ []) m p) (λ u p. namesAfter s u k p)) → bind a (λ x p. namesAfter s (t ++ x ∷ []) n p) ≡ bind (bind a (λ x p. namesAfter s (t ++ x ∷ []) m p)) (λ u p. namesAfter s u k p)
-    go (value x p) h = h x p
-    go early h = refl
-    go (illegal o) h = refl
-    go (deep o) h = refl
-
-next-bind : (a : Answer (List (List ℕ))) (f : List (List ℕ) → ℕ → Answer (List (List ℕ))) → skip (bind a f) ≡ next (skip a) (λ _. skip (bind a f))
-unfolding bind skip next
-next-bind (value x p) f = refl
-next-bind early f = refl
-next-bind (illegal o) f = refl
-next-bind (deep o) f = refl
-
-pub names-part : (s : List ℕ) (m count q : ℕ) → m ≤ count → skip (namesAfter s [] count q) ≡ next (skip (namesAfter s [] m q)) (λ _. skip (namesAfter s [] count q))
-names-part s m count q h =
-    let f : namesAfter s [] count q ≡ bind (namesAfter s [] m q) (λ u p. namesAfter s u (count - m) p) = names-split s [] m (count - m) count q (omega arith) in
-    ap skip f ∙ next-bind (namesAfter s [] m q) _ ∙ ap (λ (z : Answer (List (List ℕ))). next (skip (namesAfter s [] m q)) (λ _. skip z)) (sym f)

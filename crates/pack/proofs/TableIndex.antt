@@ -6,16 +6,17 @@ use mathlib.Core.Logic.{_⊎_, inl, inr, ⊎-elim}
 use mathlib.Core.Path.{_≡_, refl, sym, ap, subst, _∙_}
 use mathlib.Core.List.{List, [], _∷_, _++_, append-nil, append-assoc}
 use lib.ListN.{length, drop, getD, set, replicate, length-append, length-drop, length-set, length-replicate, getD-replicate, List·getD-append, drop-of-length-le}
-use lib.Seq.{append-snoc, getD-append-seam, set-append-left, getD-set-same, getD-set-other, drop-set-lt, drop-append-le, take-append-seam, drop-append-seam, drop-drop, getD-drop}
+use lib.Seq.{append-snoc, getD-append-seam, getD-set-same, getD-set-other, drop-set-lt, drop-append-le, take-append-seam, drop-append-seam, drop-drop, getD-drop}
 use lib.Dec.{eqb, ltb}
 use borrow.Author.Tests.{lt-ltb, le-ltb, ltb-true, leb-true, eqb-true, eqb-false}
 use Rattle.wire.proofs.Writers.{lt-or-le}
 use Rattle.pack.specs.Names.{Name, eqName}
+use Rattle.pack.specs.RawNames.{rawName}
 use Rattle.pack.specs.Write.{enc, Found, At, Missing, lookup}
 use Rattle.pack.specs.declared.table.Place.{Place}
 use Rattle.pack.specs.declared.table.Place.the-variants as pl
 use Rattle.pack.specs.Siphash.{hash}
-use Rattle.pack.specs.Table.{tableF, table, rowsMost, heads, cells, spotsFrom, textsFrom, cellAt, spotAt, below, word, putWord, way, further, textAt, textOf, placeFrom, placeOf, foundIn, seek, numberIn, isMissing, isFree, spare, inIndex, cellFor, hasRow, linked, unindexed, linkedAt, noted, enter, blank, entered, tabled}
+use Rattle.pack.specs.Table.{tableF, table, rowsMost, heads, cells, spotsFrom, textsFrom, cellAt, spotAt, below, word, putWord, way, further, textOf, placeFrom, placeOf, foundIn, seek, numberIn, isFree, spare, inIndex, cellFor, hasRow, linked, unindexed, linkedAt, noted, enter, blank, entered, tabled}
 use Rattle.pack.proofs.Tables.{enc-append, eqName-refl, eqName-true}
 
 -- NAMES, EACH AFTER ITS LENGTH BYTE
@@ -53,13 +54,6 @@ word-put t i v h l =
     = getD-set-same (set t i (v % 256)) (i + 1) (v / 256 % 256) 0 (omega (arith, length-set t i (v % 256))) in
     rw (a, b) (omega arith)
 
--- a word of the first of two lists
-put-front : (t x : List ℕ) (i v : ℕ) → i + 1 < length t → putWord (t ++ x) i v ≡ putWord t i v ++ x
-unfolding putWord
-put-front t x i v h =
-    ap (λ (l : List ℕ). set l (i + 1) (v / 256 % 256)) (set-append-left t x i (v % 256) (omega arith))
-    ∙ set-append-left (set t i (v % 256)) x (i + 1) (v / 256 % 256) (omega (arith, length-set t i (v % 256)))
-
 -- bytes apart from a word stay
 put-getD : (t : List ℕ) (i v j : ℕ) → (j ≡ i → ⊥) → (j ≡ i + 1 → ⊥) → getD (putWord t i v) j 0 ≡ getD t j 0
 unfolding putWord
@@ -88,8 +82,8 @@ word-append t x i h =
     ∙ ap (λ y. getD t i 0 + 256 * y) (List·getD-append t x 0 (i + 1) h)
 
 -- the name whose length byte stands at p
-text-stands : (t : List ℕ) (p : ℕ) (m rest : List ℕ) → drop p t ≡ length m ∷ (m ++ rest) → textAt t p ≡ m
-unfolding textAt
+text-stands : (t : List ℕ) (p : ℕ) (m rest : List ℕ) → drop p t ≡ length m ∷ (m ++ rest) → rawName t p ≡ m
+unfolding rawName
 text-stands t p m rest e =
     let z : p + 0 ≡ p = omega arith in
     let g : getD t p 0 ≡ length m = ap (λ i. getD t i 0) (sym z) ∙ sym (getD-drop p t 0 0) ∙ ap (λ (l : List ℕ). getD l 0 0) e in
@@ -252,19 +246,13 @@ seek-right t ns r n = ⊎-elim
 
 -- ONE NAME MORE
 
-pub record Rowed (t : List ℕ) (n : Name) : Type 0 where
+record Rowed (t : List ℕ) (n : Name) : Type 0 where
   pub few : word t 0 < rowsMost
   pub long : textsFrom ≤ length t
   pub short : length t < textsFrom + 65536
   pub cell : ℕ
   pub free : placeOf t n ≡ pl.Free cell
   pub inside : cell < cells
-  pub new : isMissing (seek t n) ≡ true
-
--- a name that has a cell is not found
-free-missing : (t : List ℕ) (n : Name) (i : ℕ) → word t 0 < rowsMost → placeOf t n ≡ pl.Free i → isMissing (seek t n) ≡ true
-unfolding seek foundIn isMissing
-free-missing t n i l e = rw (le-ltb rowsMost (word t 0) (omega arith), e)
 
 free-is : (p : Place) → isFree p ≡ true → (R : Type 0) → ((i : ℕ) → p ≡ pl.Free i → R) → R
 unfolding isFree
@@ -289,26 +277,16 @@ unfolding spare
 spare-row t n e i z =
     let a = and-eq-true-iff _ _ .0 e in
     let b = and-eq-true-iff _ _ .0 (a .1) in
-    let l = ltb-true _ _ (a .0) in
     let g = in-index (placeOf t n) i z in
-    record { few = l; long = leb-true _ _ (b .0); short = ltb-true _ _ (b .1); cell = i; free = g .0; inside = g .1; new = free-missing t n i l (g .0) }
+    record { few = ltb-true _ _ (a .0); long = leb-true _ _ (b .0); short = ltb-true _ _ (b .1); cell = i; free = g .0; inside = g .1 }
 
-pub rowed : (t : List ℕ) (n : Name) → hasRow t n ≡ true → Rowed t n
+rowed : (t : List ℕ) (n : Name) → hasRow t n ≡ true → Rowed t n
 unfolding hasRow cellFor isFree
 rowed t n e = go (spare t) refl e
   where
     go : (b : Bool) → spare t ≡ b → isFree (cond b (inIndex (placeOf t n)) pl.Lost) ≡ true → Rowed t n
     go false q g = absurd (let z : _≡_ {A = ℕ} 0 1 = cc in omega arith)
     go true q g = free-is (inIndex (placeOf t n)) g (Rowed t n) (λ i z. spare-row t n q i z)
-
--- what is known of a cell for a name
-cell-inside : (t : List ℕ) (n : Name) (i : ℕ) → cellFor t n ≡ pl.Free i → (word t 0 < rowsMost) × (i < cells)
-unfolding cellFor spare which
-cell-inside t n i e = go (spare t) refl e
-  where
-    go : (b : Bool) → spare t ≡ b → cond b (inIndex (placeOf t n)) pl.Lost ≡ pl.Free i → (word t 0 < rowsMost) × (i < cells)
-    go false q g = absurd (let z : _≡_ {A = ℕ} 2 1 = ap which g in omega arith)
-    go true q g = (ltb-true _ _ (and-eq-true-iff _ _ .0 q .0), in-index (placeOf t n) i g .1)
 
 -- the three words of a row: the spot, the cell and the count
 module _ (t : List ℕ) (c i p : ℕ) where
@@ -381,14 +359,6 @@ module _ (t : List ℕ) (c i p : ℕ) where
           word-above withCell 0 (c + 1) (spotAt c) (omega arith)
           ∙ word-above withSpot (cellAt i) (c + 1) (spotAt c) (omega arith)
           ∙ word-put t (spotAt c) p (omega (arith, texts-is, rows-is)) s
-
--- a row that is put into an index which stands apart from the names
-linked-front : (t x : List ℕ) (c i p : ℕ) → length t ≡ textsFrom → c < rowsMost → i < cells → linked c i p (t ++ x) ≡ linked c i p t ++ x
-unfolding linked
-linked-front t x c i p l few inside =
-    ap (λ (u : List ℕ). putWord (putWord u (cellAt i) (c + 1)) 0 (c + 1)) (put-front t x (spotAt c) p (omega (arith, texts-is, rows-is)))
-    ∙ ap (λ (u : List ℕ). putWord u 0 (c + 1)) (put-front (withSpot t c i p) x (cellAt i) (c + 1) (omega (arith, spot-length t c i p, texts-is)))
-    ∙ put-front (withCell t c i p) x 0 (c + 1) (omega (arith, cell-length t c i p, texts-is))
 
 -- two tables, where u has the name n as the number c in the cell i, which is free in t
 module _ (t u : List ℕ) (n : Name) (c i : ℕ) (few : c ≤ rowsMost) (low : (j : ℕ) → j < cells → word t (cellAt j) ≤ c)
@@ -583,24 +553,6 @@ enter-plain t n l e =
     let a : word (noted n t ++ (length n ∷ n)) 0 ≡ word (noted n t) 0 = word-append (noted n t) (length n ∷ n) 0 (omega (arith, noted-length t n, texts-is)) in
     let b : word (noted n t) 0 ≡ rowsMost + 1 = ap (λ (y : List ℕ). word y 0) (noted-none t n e) ∙ word-put t 0 (rowsMost + 1) (omega (arith, texts-is)) (omega (arith, rows-is)) in
     omega (arith, a ∙ b)
-
--- the row of a name where the index stands apart from the names
-pub noted-front : (t x : List ℕ) (n : Name) (p : Place) → length t ≡ textsFrom → p ≡ cellFor (t ++ x) n → linkedAt p (length x) t ++ x ≡ noted n (t ++ x)
-unfolding noted linkedAt unindexed
-noted-front t x n p l e =
-    let z : length x ≡ length (t ++ x) - textsFrom = omega (arith, length-append t x) in
-    go p e ∙ ap (λ (y : Place). linkedAt y (length x) (t ++ x)) e ∙ ap (λ k. linkedAt (cellFor (t ++ x) n) k (t ++ x)) z
-  where
-    off : putWord t 0 (rowsMost + 1) ++ x ≡ putWord (t ++ x) 0 (rowsMost + 1)
-    off = sym (put-front t x 0 (rowsMost + 1) (omega (arith, texts-is)))
-
-    go : (p : Place) → p ≡ cellFor (t ++ x) n → linkedAt p (length x) t ++ x ≡ linkedAt p (length x) (t ++ x)
-    go (pl.Taken k) q = off
-    go (pl.Free i) q =
-        let g = cell-inside (t ++ x) n i (sym q) in
-        ap (λ c. linked c i (length x) t ++ x) (sym (word-append t x 0 (omega (arith, texts-is))))
-        ∙ sym (linked-front t x (word (t ++ x) 0) i (length x) l (g .0) (g .1))
-    go pl.Lost q = off
 
 -- the names before it stay
 noted-drop : (t : List ℕ) (n : Name) → drop textsFrom (noted n t) ≡ drop textsFrom t

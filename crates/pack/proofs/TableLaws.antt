@@ -1,11 +1,11 @@
 -- Laws of the code of a table with an index: the turns of its loops, and its answers by their tests.
-use Prim.Native.Nat.{ℕ, zero, suc, _+_, _*_, _-_, _<_, _≤_, _/_, _%_, min}
+use Prim.Native.Nat.{ℕ, zero, suc, _+_, _*_, _-_, _<_, _≤_, _/_, min}
 use native.Mathlib.Omega.{arith}
 use mathlib.Core.Bool.{true, false, cond, _&&_}
 use mathlib.Core.Logic.{⊎-elim}
 use mathlib.Core.Path.{_≡_, refl, sym, ap, _∙_}
 use mathlib.Core.List.{List, [], _∷_, _++_}
-use lib.ListN.{length, take, drop, getD, drop-of-length-le, length-append, length-drop, length-take, take-append-drop, List·getD-append, List·getD-eq-default}
+use lib.ListN.{length, take, drop, getD, drop-of-length-le, length-append, length-drop, length-take, take-append-drop, List·getD-append}
 use lib.Seq.{drop-append-add, drop-length, getD-append-add, take-all}
 use lib.Dec.{ltb}
 use denote.Enum.Declared.{tagOf}
@@ -13,10 +13,11 @@ use types.Run.{OneOf}
 use borrow.Author.Tests.{lt-ltb, le-ltb, le-leb, lt-leb}
 use Rattle.wire.proofs.Writers.{lt-or-le, take-capped}
 use Rattle.pack.specs.Names.{Name, eqName}
+use Rattle.pack.specs.RawNames.{rawName}
 use Rattle.pack.specs.Write.{Found, At, Missing, lookup}
 use Rattle.pack.specs.declared.table.Place.{Place}
 use Rattle.pack.specs.declared.table.Place.the-variants as pl
-use Rattle.pack.specs.Table.{table, rowsMost, cells, textsFrom, cellAt, spotAt, below, word, putWord, further, textAt, textOf, placeFrom, placeOf, foundIn, seek, numberIn, isFree, spare, inIndex, cellFor, linked, linkedAt, noted}
+use Rattle.pack.specs.Table.{table, rowsMost, cells, textsFrom, cellAt, spotAt, below, word, putWord, further, textOf, placeFrom, placeOf, foundIn, seek, numberIn, isFree, spare, inIndex, cellFor, linked, linkedAt, noted}
 use Rattle.pack.proofs.table.Place as Place-enum
 use Rattle.pack.proofs.TableIndex.{texts-is, word-append}
 use Rattle.pack.proofs.Interns.{and-false, found-number}
@@ -38,8 +39,8 @@ drop-part t p b e = ⊎-elim
     (lt-or-le (length t) p)
 
 -- the name at p, as a part that is cut at the end
-pub text-part : (t : List ℕ) (p l b e : ℕ) → l ≡ getD t p 0 → b ≡ min (0 + (p + 1)) (length t) → e ≡ min (b + l) (length t) → take (e - b) (drop b t) ≡ textAt t p
-unfolding textAt
+pub text-part : (t : List ℕ) (p l b e : ℕ) → l ≡ getD t p 0 → b ≡ min (0 + (p + 1)) (length t) → e ≡ min (b + l) (length t) → take (e - b) (drop b t) ≡ rawName t p
+unfolding rawName
 text-part t p l b e h i j =
     ap (λ y. take (y - b) (drop b t)) j
     ∙ take-capped t b l (omega arith)
@@ -55,8 +56,8 @@ module _ (t x : List ℕ) where
   byte-second i h = let z : length t + (i - length t) ≡ i = omega arith in sym (getD-append-add t x (i - length t) 0) ∙ ap (λ k. getD (t ++ x) k 0) z
 
   -- a name of the second
-  pub text-second : (p : ℕ) → length t ≤ p → textAt x (p - length t) ≡ textAt (t ++ x) p
-  unfolding textAt
+  pub text-second : (p : ℕ) → length t ≤ p → rawName x (p - length t) ≡ rawName (t ++ x) p
+  unfolding rawName
   text-second p h =
       let z : length t + (p - length t + 1) ≡ p + 1 = omega arith in
       ap (λ k. take k (drop (p - length t + 1) x)) (byte-second p h)
@@ -76,9 +77,9 @@ one-less : (k : ℕ) → suc k - 1 ≡ k
 one-less k = omega arith
 
 -- the name of a cell, whose spot is w
-text-of : (t : List ℕ) (k w : ℕ) → w ≡ word t (spotAt (suc k - 1)) → textOf t k ≡ textAt t (textsFrom + w)
+text-of : (t : List ℕ) (k w : ℕ) → w ≡ word t (spotAt (suc k - 1)) → textOf t k ≡ rawName t (textsFrom + w)
 unfolding textOf
-text-of t k w e = ap (λ y. textAt t (textsFrom + y)) (sym (e ∙ ap (λ y. word t (spotAt y)) (one-less k)))
+text-of t k w e = ap (λ y. rawName t (textsFrom + y)) (sym (e ∙ ap (λ y. word t (spotAt y)) (one-less k)))
 
 module _ (t : List ℕ) (n : Name) where
   pub place-free : (f h i v : ℕ) → 0 < f → v ≡ word t (2 + 2 * i) → v ≡ 0 → placeFrom f t n h i (word t (2 + 2 * i)) ≡ pl.Free i
@@ -87,7 +88,7 @@ module _ (t : List ℕ) (n : Name) where
   place-free (suc f) h i v p e q = ap (placeFrom (suc f) t n h i) (sym e ∙ q)
 
   module _ (w : ℕ) where
-    here : (f h i v : ℕ) → 0 < f → (v ≡ 0 → ⊥) → w ≡ word t (spotAt (v - 1)) → eqName (textAt t (textsFrom + w)) n ≡ true → placeFrom f t n h i v ≡ pl.Taken (v - 1)
+    here : (f h i v : ℕ) → 0 < f → (v ≡ 0 → ⊥) → w ≡ word t (spotAt (v - 1)) → eqName (rawName t (textsFrom + w)) n ≡ true → placeFrom f t n h i v ≡ pl.Taken (v - 1)
     unfolding placeFrom
     here zero h i v p q e g = absurd (omega arith)
     here (suc f) h i zero p q e g = absurd (q refl)
@@ -95,7 +96,7 @@ module _ (t : List ℕ) (n : Name) where
         ap (λ b. cond b (pl.Taken k) (placeFrom f t n (further n f h) (below k h) (word t (cellAt (below k h))))) (ap (λ (y : Name). eqName y n) (text-of t k w e) ∙ g)
         ∙ ap pl.Taken (sym (one-less k))
 
-    on : (f h i v : ℕ) → 0 < f → (v ≡ 0 → ⊥) → w ≡ word t (spotAt (v - 1)) → eqName (textAt t (textsFrom + w)) n ≡ false
+    on : (f h i v : ℕ) → 0 < f → (v ≡ 0 → ⊥) → w ≡ word t (spotAt (v - 1)) → eqName (rawName t (textsFrom + w)) n ≡ false
         → placeFrom f t n h i v ≡ placeFrom (f - 1) t n (further n (f - 1) h) (below (v - 1) h) (word t (cellAt (below (v - 1) h)))
     unfolding placeFrom
     on zero h i v p q e g = absurd (omega arith)
@@ -105,11 +106,11 @@ module _ (t : List ℕ) (n : Name) where
         ∙ ap (λ y. placeFrom f t n (further n f h) (below y h) (word t (cellAt (below y h)))) (sym (one-less k))
         ∙ ap (λ y. placeFrom y t n (further n y h) (below (suc k - 1) h) (word t (cellAt (below (suc k - 1) h)))) (sym (one-less f))
 
-    pub place-here : (f h i v : ℕ) → 0 < f → v ≡ word t (2 + 2 * i) → (v ≡ 0 → ⊥) → w ≡ word t (spotAt (v - 1)) → eqName (textAt t (textsFrom + w)) n ≡ true
+    pub place-here : (f h i v : ℕ) → 0 < f → v ≡ word t (2 + 2 * i) → (v ≡ 0 → ⊥) → w ≡ word t (spotAt (v - 1)) → eqName (rawName t (textsFrom + w)) n ≡ true
         → placeFrom f t n h i (word t (2 + 2 * i)) ≡ pl.Taken (v - 1)
     place-here f h i v p d q e g = ap (placeFrom f t n h i) (sym d) ∙ here f h i v p q e g
 
-    pub place-on : (f h i v g : ℕ) → 0 < f → v ≡ word t (2 + 2 * i) → (v ≡ 0 → ⊥) → w ≡ word t (spotAt (v - 1)) → eqName (textAt t (textsFrom + w)) n ≡ false → g ≡ further n (f - 1) h
+    pub place-on : (f h i v g : ℕ) → 0 < f → v ≡ word t (2 + 2 * i) → (v ≡ 0 → ⊥) → w ≡ word t (spotAt (v - 1)) → eqName (rawName t (textsFrom + w)) n ≡ false → g ≡ further n (f - 1) h
         → placeFrom f t n h i (word t (2 + 2 * i)) ≡ placeFrom (f - 1) t n g (below (v - 1) h) (word t (cellAt (below (v - 1) h)))
     place-on f h i v g p d q e x y =
         ap (placeFrom f t n h i) (sym d) ∙ on f h i v p q e x ∙ sym (ap (λ z. placeFrom (f - 1) t n z (below (v - 1) h) (word t (cellAt (below (v - 1) h)))) y)

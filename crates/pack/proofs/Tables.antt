@@ -2,7 +2,7 @@
 use Prim.Native.Nat.{ℕ, _+_, _≤_, _<_, zero, suc}
 use native.Mathlib.Omega.{arith}
 use mathlib.Core.List.{List, [], _∷_, _++_, append-assoc, append-nil}
-use mathlib.Core.Bool.{Bool, true, false, cond, not, _||_, _&&_}
+use mathlib.Core.Bool.{Bool, true, false, cond, not, _||_, _&&_, or-assoc}
 use mathlib.Core.Path.{_≡_, refl, sym, ap, subst, _∙_}
 use lib.ListN.{length, getD, drop, length-append}
 use lib.Dec.{ltb, eqb}
@@ -225,10 +225,13 @@ unfolding All
 all-unit [] = tt
 all-unit (x ∷ xs) = (tt, all-unit xs)
 
-pub member-append : (x : Name) (t u : List Name) → member x t ≡ false → member x u ≡ false → member x (t ++ u) ≡ false
+pub member-either : (x : Name) (t u : List Name) → member x (t ++ u) ≡ member x t || member x u
 unfolding member
-member-append x [] u h k = k
-member-append x (y ∷ t) u h k = let g = member-cons x y t h in rw (g .0) (member-append x t u (g .1) k)
+member-either x [] u = refl
+member-either x (y ∷ t) u = ap (λ (b : Bool). eqName x y || b) (member-either x t u) ∙ sym (or-assoc (eqName x y) (member x t) (member x u))
+
+pub member-append : (x : Name) (t u : List Name) → member x t ≡ false → member x u ≡ false → member x (t ++ u) ≡ false
+member-append x t u h k = member-either x t u ∙ (λ i. h i || k i)
 
 pub fresh-snoc : (t xs : List Name) (n : Name) → Fresh t xs → member n t ≡ false → member n xs ≡ false → Fresh t (xs ++ (n ∷ []))
 unfolding Fresh

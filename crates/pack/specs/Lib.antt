@@ -11,6 +11,7 @@ pub mod Intern
 pub mod Report
 pub mod Outcome
 pub mod RawNames
+pub mod Distinct
 pub mod Heads
 pub mod Nodes
 pub mod Verdict

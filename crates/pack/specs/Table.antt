@@ -3,12 +3,11 @@
 use Prim.Native.Nat.{ℕ, zero, suc, _+_, _*_, _-_, _/_, _%_, _<_}
 use mathlib.Core.Bool.{Bool, true, false, cond, _&&_}
 use mathlib.Core.List.{List, [], _∷_, _++_}
-use mathlib.Core.Path.{_≡_}
 use lib.ListN.{length, take, drop, getD, set, replicate}
 use lib.Dec.{ltb, leb}
 use Rattle.pack.specs.Names.{Name, eqName}
 use Rattle.pack.specs.Siphash.{hash}
-use Rattle.pack.specs.RawNames.{rawNames}
+use Rattle.pack.specs.RawNames.{rawName}
 use Rattle.pack.specs.Write.{Found, At, Missing, lookup}
 use Rattle.pack.specs.declared.table.Place.{Place}
 use Rattle.pack.specs.declared.table.Place.the-variants as pl
@@ -69,13 +68,9 @@ word t i = getD t i 0 + 256 * getD t (i + 1) 0
 unfoldable pub putWord : List ℕ → ℕ → ℕ → List ℕ
 putWord t i v = set (set t i (v % 256)) (i + 1) (v / 256 % 256)
 
--- the name whose length byte stands at p
-unfoldable pub textAt : List ℕ → ℕ → Name
-textAt t p = take (getD t p 0) (drop (p + 1) t)
-
 -- the name of a number
 unfoldable pub textOf : List ℕ → ℕ → Name
-textOf t k = textAt t (textsFrom + word t (spotAt k))
+textOf t k = rawName t (textsFrom + word t (spotAt k))
 
 -- The way of a name down its tree: a bit for each step, lowest first, and above those that are left a 1. The bits of the hash come
 -- first, but for those that choose the head; then the letters of the name, so that no two names have the same way.
@@ -116,11 +111,6 @@ unfoldable pub Near : Place → Type 0
 Near (pl.Taken k) = k < 65536
 Near (pl.Free i) = i < 200000
 Near pl.Lost = Unit {0}
-
--- whether a name was not found
-unfoldable pub isMissing : Found → Bool
-isMissing (At k) = false
-isMissing (Missing k) = true
 
 -- whether a name has a cell that would be its own
 unfoldable pub isFree : Place → Bool
@@ -180,7 +170,3 @@ entered (n ∷ ns) t = entered ns (enter n t)
 -- the table of names
 unfoldable pub tabled : List Name → List ℕ
 tabled ns = entered ns blank
-
--- a buffer of an index's length is that of the n names of s from q on, which end at p
-unfoldable pub Indexes : List ℕ → ℕ → ℕ → ℕ → List ℕ → Type 0
-Indexes s q n p t = length t ≡ textsFrom → t ++ take (p - q) (drop q s) ≡ tabled (rawNames s n q)

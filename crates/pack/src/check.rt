@@ -44,7 +44,8 @@ fn name_count(s: &[u8]) -> usize
     value
 }
 
-fn offset(r: Skipped) -> usize
+// Where reading stands.
+pub fn reached(r: Skipped) -> usize
     ensures { λ q. ⌜ q ≡ offsetOf r ⌝ }
 {
     match r {
@@ -86,12 +87,12 @@ fn read_sections(s: &[u8]) -> Opened
     let f = then_origins(s, names, e);
     let pack = Pack {
         names,
-        enums: offset(a),
-        nodes: offset(b),
-        machines: offset(c),
-        activations: offset(d),
-        origins: offset(e),
-        end: offset(f),
+        enums: reached(a),
+        nodes: reached(b),
+        machines: reached(c),
+        activations: reached(d),
+        origins: reached(e),
+        end: reached(f),
     };
     Opened {
         verdict: judged(f, s.len()),

@@ -1,4 +1,5 @@
 // Names by number: the old names of a pack, then new ones in order of first use. A table is names, each after its length byte.
+use crate::cells::byte_at;
 use crate::record::Pack;
 use crate::table::TEXTS;
 use crate::table::note;
@@ -16,6 +17,7 @@ ghost use Prim.Native.Nat.{ℕ, _+_, _≤_, _<_, _^_, min};
 ghost use lib.ListN.{length, getD, take, replicate};
 ghost use Rattle.wire.specs.Writer.{stateOf};
 ghost use Rattle.pack.specs.Names.{eqName};
+ghost use Rattle.pack.specs.RawNames.{rawName};
 ghost use Rattle.pack.specs.Write.{lookup};
 ghost use Rattle.pack.specs.Table.{tableRoom, tabled};
 ghost use Rattle.pack.specs.Intern.{foundOf, table, putEntry, putEntries, putNew, putName, putBuilt, started};
@@ -41,6 +43,17 @@ pub fn same(a: &[u8], b: &[u8]) -> bool
         i += 1;
     }
     true
+}
+
+// Whether the name whose length byte stands at p is n.
+pub fn is_at(s: &[u8], p: usize, n: &[u8]) -> bool
+    requires { ⌜ p + 1 < 18446744073709551616 ⌝ }
+    ensures { λ r. ⌜ r ≡ eqName (rawName (now (s .entry)) p) (now (n .entry)) ⌝ }
+{
+    let l = byte_at(s, p);
+    let b = capped(s.len(), 0, p + 1);
+    let e = capped(s.len(), b, l);
+    same(&s[b..e], n)
 }
 
 // Where the name ends whose length byte stands at `at`.

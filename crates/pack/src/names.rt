@@ -1,12 +1,16 @@
 // The name section.
+use crate::distinct::ROOM;
+use crate::distinct::enter;
+use crate::distinct::free_cell;
+use crate::distinct::telling;
 use crate::intern::same;
-use crate::table::TEXTS;
-use crate::table::note_in;
+use crate::siphash::hash;
 use wire::answer::Read;
 use wire::answer::Skipped;
 use wire::answer::past;
 use wire::number::read_byte;
 use wire::number::read_u16;
+use wire::writer::capped;
 ghost use mathlib.Core.Path.{_≡_};
 ghost use mathlib.Core.Bool.{_&&_};
 ghost use mathlib.Core.List.{[]};
@@ -18,7 +22,7 @@ ghost use Rattle.wire.specs.Code.{readOf, skip};
 ghost use Rattle.pack.specs.Names.{eqName};
 ghost use Rattle.pack.specs.Read.{nameByte, nameBytes, char, size, name, namesAfter, nameSection};
 ghost use Rattle.pack.specs.RawNames.{rawName, Inside, oneOf, Follows};
-ghost use Rattle.pack.specs.Table.{Indexes};
+ghost use Rattle.pack.specs.Distinct.{Tells};
 
 // Whether b is one of the numbers from low on and below high.
 fn within(b: usize, low: usize, high: usize) -> bool
@@ -194,25 +198,26 @@ pub fn seen(s: &[u8], x: usize, count: usize, at: usize) -> bool
     false
 }
 
-// Whether the name from p to `next` is one of the n from q to p. Where t is an index of those, it is entered there: a name that gets a
-// row is new.
-fn repeated(s: &[u8], q: usize, n: usize, p: usize, next: usize, t: &mut [u8]) -> bool
-    requires { ⌜ Follows (now s) q n p next × Indexes (now s) q n p (now t) ⌝ }
-    ensures { λ r. ⌜ (r ≡ oneOf (now (s .entry)) p n q) × Indexes (now (s .entry)) q (n + 1) next (now (t .exit)) ⌝ }
+// Whether the name from p to `next` is one of the n from q to p. Where t tells those, it is entered there: a name that gets a cell is
+// new.
+fn repeated(s: &[u8], q: usize, n: usize, p: usize, next: usize, key: usize, t: &mut [u16]) -> bool
+    requires { ⌜ Follows (now s) q n p next × Tells (now s) q n key (now t) ⌝ }
+    ensures { λ r. ⌜ (r ≡ oneOf (now (s .entry)) p n q) × Tells (now (s .entry)) q (n + 1) key (now (t .exit)) ⌝ }
 {
-    if t.len() != TEXTS {
+    if !telling(t) {
         return seen(s, p, n, q);
     }
     let b = p + 1;
-    if note_in(t, &s[q..p], &s[b..next]) {
+    let i = free_cell(s, t, &s[b..next], key);
+    if enter(t, i, p) {
         return false;
     }
     seen(s, p, n, q)
 }
 
-// The count names from q on, none twice. Where t is an index, it becomes theirs.
-fn read_names(s: &[u8], q: usize, count: usize, t: &mut [u8]) -> Skipped
-    requires { ⌜ Indexes (now s) q 0 q (now t) ⌝ }
+// The count names from q on, none twice. Where t can, it tells them.
+fn read_names(s: &[u8], q: usize, count: usize, key: usize, t: &mut [u16]) -> Skipped
+    requires { ⌜ Tells (now s) q 0 key (now t) ⌝ }
     ensures { λ r. ⌜ r ≡ skip (namesAfter (now (s .entry)) [] count q) ⌝ }
 {
     let mut n: usize = 0;
@@ -222,7 +227,7 @@ fn read_names(s: &[u8], q: usize, count: usize, t: &mut [u8]) -> Skipped
         let Skipped::To(next) = e else {
             return e;
         };
-        if repeated(s, q, n, p, next, t) {
+        if repeated(s, q, n, p, next, key, t) {
             return Skipped::Illegal(p);
         }
         n += 1;
@@ -231,23 +236,53 @@ fn read_names(s: &[u8], q: usize, count: usize, t: &mut [u8]) -> Skipped
     Skipped::To(p)
 }
 
-// The same without an index, each name looked for among those before it.
+// The same without cells, each name looked for among those before it.
 fn few_names(s: &[u8], q: usize, count: usize) -> Skipped
     ensures { λ r. ⌜ r ≡ skip (namesAfter (now (s .entry)) [] count q) ⌝ }
 {
-    let mut none = [0u8; 1];
-    read_names(s, q, count, &mut none)
+    let mut none = [0u16; 1];
+    read_names(s, q, count, 0, &mut none)
 }
 
-// The same with an index of its own.
+// The same with cells of its own.
+fn told_names(s: &[u8], q: usize, count: usize, key: usize) -> Skipped
+    ensures { λ r. ⌜ r ≡ skip (namesAfter (now (s .entry)) [] count q) ⌝ }
+{
+    let mut t = [0u16; ROOM];
+    read_names(s, q, count, key, &mut t)
+}
+
+// The same of a pack that is short names nearly all, with a key: first those of a part of it, so that one which is refused soon does
+// not wait for the key of all.
+fn keyed_names(s: &[u8], q: usize, count: usize) -> Skipped
+    ensures { λ r. ⌜ r ≡ skip (namesAfter (now (s .entry)) [] count q) ⌝ }
+{
+    let m = s.len() / 16;
+    let part = hash(&s[..m]);
+    let r = told_names(&s[..m], q, count, part);
+    let Skipped::Early = r else {
+        return r;
+    };
+    let all = hash(s);
+    told_names(s, q, count, all)
+}
+
+// The same of many names: first those of a few bytes, for which no cells are laid.
 fn many_names(s: &[u8], q: usize, count: usize) -> Skipped
     ensures { λ r. ⌜ r ≡ skip (namesAfter (now (s .entry)) [] count q) ⌝ }
 {
-    let mut t = [0u8; TEXTS];
-    read_names(s, q, count, &mut t)
+    let m = capped(s.len(), 0, 64);
+    let r = few_names(&s[..m], q, count);
+    let Skipped::Early = r else {
+        return r;
+    };
+    if s.len() / 10 < count {
+        return keyed_names(s, q, count);
+    }
+    told_names(s, q, count, 0)
 }
 
-// The name section: no name twice. An index is laid only for names that are many.
+// The name section: no name twice. Cells are laid only for names that are many.
 pub fn skip_names(s: &[u8], at: usize) -> Skipped
     ensures { λ r. ⌜ r ≡ skip (nameSection (now (s .entry)) at) ⌝ }
 {

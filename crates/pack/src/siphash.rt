@@ -1,20 +1,11 @@
 // The number of a name by which it is found in a table and told apart from others: SipHash's, with one round for eight bytes and two
 // at the end (specs/Siphash).
+use crate::cells::byte_at;
 use std::num::wrapping_add_u64;
 ghost use mathlib.Core.Path.{_≡_};
 ghost use Prim.Native.Nat.{_-_, _≤_, _<_};
-ghost use lib.ListN.{length, getD};
+ghost use lib.ListN.{length};
 ghost use Rattle.pack.specs.Siphash.{turned, halfRound, rounded, mixed, joined, lanesFor, quadAt, hash as hashOf};
-
-// A byte of t, 0 past the end.
-pub fn byte_at(t: &[u8], i: usize) -> usize
-    ensures { λ r. ⌜ (r ≡ getD (now (t .entry)) i 0) × (r < 256) ⌝ }
-{
-    if i < t.len() {
-        return t[i] as usize;
-    }
-    0
-}
 
 // What was taken of a name so far.
 pub struct Lanes {
@@ -87,7 +78,7 @@ fn join(h: Lanes) -> usize
 }
 
 // Four bytes of a name as one number; those past its end are 0.
-fn quad(n: &[u8], i: usize) -> usize
+pub fn quad(n: &[u8], i: usize) -> usize
     requires { ⌜ i ≤ length (now n) ⌝ }
     ensures { λ r. ⌜ (r ≡ quadAt (now (n .entry)) i) × (r < 4294967296) ⌝ }
 {

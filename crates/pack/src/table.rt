@@ -1,22 +1,23 @@
 // A table of names behind an index of trees (specs/Table), so that a name is found without looking at all others. The index is lent
 // as t and the names as x, so that names which stand in a pack need not be copied behind it. All is total: a byte past the end is 0,
 // and a store there does nothing.
+use crate::cells::byte_at;
+use crate::cells::set_byte;
 use crate::intern::Found;
 use crate::intern::find_name;
-use crate::intern::same;
+use crate::intern::is_at;
 use crate::record::Pack;
-use crate::siphash::byte_at;
 use crate::siphash::hash;
 use crate::siphash::last;
 use wire::writer::capped;
 ghost use mathlib.Core.List.{_++_};
 ghost use mathlib.Core.Path.{_≡_};
-ghost use Prim.Native.Nat.{_+_, _*_, _-_, _/_, _≤_, _<_, _^_};
-ghost use lib.ListN.{length, getD, set};
+ghost use Prim.Native.Nat.{_+_, _*_, _-_, _/_, _≤_, _<_};
+ghost use lib.ListN.{length, getD};
 ghost use Rattle.pack.specs.Names.{eqName};
+ghost use Rattle.pack.specs.RawNames.{rawName};
 ghost use Rattle.pack.specs.Intern.{foundOf};
-ghost use Rattle.pack.specs.Siphash.{hash as hashOf};
-ghost use Rattle.pack.specs.Table.{word as wordIn, putWord, further as furtherOf, textsFrom, textAt, placeFrom, placeOf, Near, cellAt, seek, numberIn, isFree, spare as spareIn, inIndex, cellFor, hasRow, linked, unindexed, linkedAt, noted};
+ghost use Rattle.pack.specs.Table.{word as wordIn, putWord, further as furtherOf, textsFrom, placeFrom, placeOf, Near, cellAt, seek, numberIn, spare as spareIn, inIndex, cellFor, linked, unindexed, linkedAt, noted};
 
 // How many names can have rows.
 const ROWS: usize = 17408;
@@ -36,12 +37,6 @@ pub enum Place {
     Taken(usize),
     Free(usize),
     Lost,
-}
-
-// The same, with the number of the name.
-pub struct Placed {
-    pub place: Place,
-    pub number: usize,
 }
 
 // A byte of t and x, one after the other.
@@ -72,14 +67,6 @@ fn count(t: &[u8]) -> usize
     byte_at(t, 0) + 256 * byte_at(t, 1)
 }
 
-fn set_byte(t: &mut [u8], i: usize, v: u8)
-    ensures { λ _. ⌜ now (t .exit) ≡ set (now (t .entry)) i v ⌝ }
-{
-    if i < t.len() {
-        t[i] = v;
-    }
-}
-
 fn put_word(t: &mut [u8], i: usize, v: usize)
     requires { ⌜ i < 1000000 ⌝ }
     ensures { λ _. ⌜ now (t .exit) ≡ putWord (now (t .entry)) i v ⌝ }
@@ -91,13 +78,9 @@ fn put_word(t: &mut [u8], i: usize, v: usize)
 // Whether the name whose spot is w is n.
 fn is_text(t: &[u8], x: &[u8], w: usize, n: &[u8]) -> bool
     requires { ⌜ (length (now t) ≤ textsFrom) × (w < 65536) ⌝ }
-    ensures { λ r. ⌜ r ≡ eqName (textAt (now (t .entry) ++ now (x .entry)) (textsFrom + w)) (now (n .entry)) ⌝ }
+    ensures { λ r. ⌜ r ≡ eqName (rawName (now (t .entry) ++ now (x .entry)) (textsFrom + w)) (now (n .entry)) ⌝ }
 {
-    let p = TEXTS + w - t.len();
-    let l = byte_at(x, p);
-    let b = capped(x.len(), 0, p + 1);
-    let e = capped(x.len(), b, l);
-    same(&x[b..e], n)
+    is_at(x, TEXTS + w - t.len(), n)
 }
 
 // The way h of a name after one step more, after which f are left: the next bit, or the next letter.
@@ -137,22 +120,12 @@ fn descend(t: &[u8], x: &[u8], n: &[u8], bits: usize, cell: usize) -> Place
 }
 
 // Where a name is from the head of its number on.
-fn place_of(t: &[u8], x: &[u8], n: &[u8]) -> Placed
+fn place_of(t: &[u8], x: &[u8], n: &[u8]) -> Place
     requires { ⌜ length (now t) ≤ textsFrom ⌝ }
-    ensures { λ r. ⌜ (r .place ≡ placeOf (now (t .entry) ++ now (x .entry)) (now (n .entry))) × Near (r .place) × (r .number ≡ hashOf (now (n .entry))) ⌝ }
+    ensures { λ r. ⌜ (r ≡ placeOf (now (t .entry) ++ now (x .entry)) (now (n .entry))) × Near r ⌝ }
 {
-    let number = hash(n);
-    let place = descend(t, x, n, number / HEADS + 2251799813685248, number % HEADS);
-    Placed { place, number }
-}
-
-// A name's number, from a search in a table of nothing: what is called from one place only is inlined there, and a search takes
-// twice as long where `hash` is not.
-pub fn number_of(n: &[u8]) -> usize
-    ensures { λ r. ⌜ r ≡ hashOf (now (n .entry)) ⌝ }
-{
-    let r = place_of(&n[..0], &n[..0], n);
-    r.number
+    let h = hash(n);
+    descend(t, x, n, h / HEADS + 2251799813685248, h % HEADS)
 }
 
 // The place of the name n in a table with an index.
@@ -164,8 +137,7 @@ pub fn seek_name(t: &[u8], n: &[u8]) -> Found
     if ROWS < c {
         return find_name(&t[b..], n);
     }
-    let r = place_of(&t[..b], &t[b..], n);
-    let p = r.place;
+    let p = place_of(&t[..b], &t[b..], n);
     match p {
         Place::Taken(k) => Found::At(k),
         Place::Free(_) => Found::Missing(c),
@@ -198,9 +170,7 @@ fn cell_for(t: &[u8], x: &[u8], n: &[u8]) -> Place
     ensures { λ r. ⌜ (r ≡ cellFor (now (t .entry) ++ now (x .entry)) (now (n .entry))) × Near r ⌝ }
 {
     if spare(t, x) {
-        let r = place_of(t, x, n);
-        let p = r.place;
-        return in_index(p);
+        return in_index(place_of(t, x, n));
     }
     Place::Lost
 }
@@ -223,27 +193,16 @@ fn unindex(t: &mut [u8])
     put_word(t, 0, ROWS + 1);
 }
 
-// The next row, whose spot is p, where there is a cell for it; whether there is.
-fn link_at(t: &mut [u8], cell: Place, p: usize) -> bool
+// The next row, whose spot is p, where there is a cell for it.
+fn link_at(t: &mut [u8], cell: Place, p: usize)
     requires { ⌜ Near cell ⌝ }
-    ensures { λ r. ⌜ (now (t .exit) ≡ linkedAt cell p (now (t .entry))) × (r ≡ isFree cell) ⌝ }
+    ensures { λ _. ⌜ now (t .exit) ≡ linkedAt cell p (now (t .entry)) ⌝ }
 {
     let Place::Free(i) = cell else {
         unindex(t);
-        return false;
+        return;
     };
     link(t, i, p);
-    true
-}
-
-// A row for the name n, which comes next behind the names x; without rows for all from then on, where it can have none. Whether it has
-// one.
-pub fn note_in(t: &mut [u8], x: &[u8], n: &[u8]) -> bool
-    requires { ⌜ length (now t) ≡ textsFrom ⌝ }
-    ensures { λ r. ⌜ (now (t .exit) ++ now (x .entry) ≡ noted (now (n .entry)) (now (t .entry) ++ now (x .entry))) × (r ≡ hasRow (now (t .entry) ++ now (x .entry)) (now (n .entry))) ⌝ }
-{
-    let p = cell_for(t, x, n);
-    link_at(t, p, x.len())
 }
 
 // The cell for the name n in a table whose names stand behind the index.
@@ -257,7 +216,7 @@ fn cell_in(t: &[u8], n: &[u8]) -> Place
     cell_for(&t[..b], &t[b..], n)
 }
 
-// The row of note_in, where the names stand behind the index.
+// A row for the name n, which comes next; without rows for all from then on, where it can have none.
 pub fn note(t: &mut [u8], n: &[u8])
     ensures { λ _. ⌜ now (t .exit) ≡ noted (now (n .entry)) (now (t .entry)) ⌝ }
 {

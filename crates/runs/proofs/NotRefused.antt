@@ -15,6 +15,7 @@ use Rattle.activation_rules.specs.Checks.{branchNames, branchless, checks, else
 use Rattle.activation_rules.specs.Refusals.{duplicateBranch, noBranches, outputUnassigned}
 use Rattle.runs.proofs.Accepting.{accepted, actAccepted, allAssign, allTargets, assigns, coversAll, distinct, nonempty, outputsAssigned, validR, validS}
 use Rattle.runs.proofs.Booleans.{and-both, true-false}
+use Rattle.machines.proofs.Accepted.{first-none, refusal-none}
 
 abbrev IsNone : {A : Type 0} → Option A → Type 0
 IsNone none = Unit {0}
@@ -22,16 +23,6 @@ IsNone (some a) = ⊥
 
 pub some-none : {A : Type 0} (a : A) → some a ≡ none → ⊥
 some-none a e = subst IsNone (sym e) tt
-
-pub first-none : {A : Type 0} (a b : Option A) → firstOf a b ≡ none → (a ≡ none) × (b ≡ none)
-unfolding firstOf
-first-none none b e = (refl, e)
-first-none (some x) b e = absurd (some-none x e)
-
-as-none : {A : Type 0} (f : A → Refusal) (a : Option A) → asRefusal f a ≡ none → a ≡ none
-unfolding asRefusal
-as-none f none e = refl
-as-none f (some x) e = absurd (some-none (f x) e)
 
 -- no name stands twice
 not-again : (seen ns : List Name) → repeated seen ns ≡ none → (x : Name) → member x seen ≡ true → member x ns ≡ false
@@ -140,7 +131,7 @@ all-covered m ss [] e = refl
 all-covered m ss (p ∷ ps) e =
     let q = first-none (asRefusal (λ s. unassigned m (p .name) s) (uncoveredS (p .name) ss)) (uncovered m ss ps) e in
     and-both (coversS (p .name) ss) (coversAll ss ps)
-    (covered-states (p .name) ss (as-none (λ s. unassigned m (p .name) s) (uncoveredS (p .name) ss) (q .0))) (all-covered m ss ps (q .1))
+    (covered-states (p .name) ss (refusal-none (λ s. unassigned m (p .name) s) (uncoveredS (p .name) ss) (q .0))) (all-covered m ss ps (q .1))
 
 pub not-refused : (m : Machine) → refusalOf m ≡ none → accepted m ≡ true
 unfolding refusalOf accepted
@@ -153,7 +144,7 @@ not-refused m e =
     let p₄ = first-none (badS (m .name) ns ss) _ (p₃ .1) in
     and-both (distinct (allNamesS ss) && (member (m .initial) ns && validS ns ss)) (coversAll ss (m .outputs))
     (and-both (distinct (allNamesS ss)) (member (m .initial) ns && validS ns ss)
-    (all-distinct [] (allNamesS ss) (as-none (λ n. duplicateState (m .name) n) (repeated [] (allNamesS ss)) (p₂ .0)))
+    (all-distinct [] (allNamesS ss) (refusal-none (λ n. duplicateState (m .name) n) (repeated [] (allNamesS ss)) (p₂ .0)))
     (and-both (member (m .initial) ns) (validS ns ss) (initial-known (m .name) (m .initial) ns (p₃ .0)) (valid-states (m .name) ns ss (p₄ .0))))
     (all-covered (m .name) ss (m .outputs) (p₄ .1))
 

@@ -15,9 +15,9 @@ use Rattle.pack.specs.Names.{Name}
 use Rattle.pack.specs.Outcome.{answers, onPackage, reported, reports, sized, writes, written}
 use Rattle.pack.specs.Read.{Reading, bytesAfter, deepAt, endsEarly, illegalAt, read, tooLong, whole}
 use Rattle.pack.specs.Report.{Refusal, reportBytes}
-use Rattle.pack.specs.Syntax.{Equation, Node, Package}
+use Rattle.pack.specs.Syntax.{Node, Package}
 use Rattle.pack.specs.Write.{Item, activationItems, each, enc, encode, enumItems, equationItems, joined, list, machineItems, nm, nodeItems, originItems, packageItems, portItems, raw, shorts, spell}
-use Rattle.pack.proofs.Counts.{size-append, size-code, size-each, sizeOf}
+use Rattle.pack.proofs.Counts.{size-append, size-code, size-each, size-equation, sizeOf}
 use Rattle.pack.proofs.RoundTrip.{read-legal}
 use Rattle.pack.proofs.Tables.{complete, each-left, each-right}
 use Rattle.pack.proofs.WrittenBack.{legal-ready, written-reads}
@@ -32,15 +32,11 @@ use Rattle.runs.proofs.ProperMachines.{lower-each-proper}
 use Rattle.runs.proofs.ProperMade.{ProperMade, total}
 
 -- the equations of a package that is not too long are few
-equation-size : (e : Equation) → 0 < sizeOf (equationItems e)
-unfolding equationItems list two sizeOf
-equation-size e = omega arith
-
 node-size : (n : Node) → length (n .equations) ≤ sizeOf (nodeItems n)
 unfolding nodeItems sizeOf list two
 node-size n =
     let i = list portItems (n .inputs) in let u = list portItems (n .outputs) in let l = list portItems (n .locals) in let e = list equationItems (n .equations) in
-    omega (arith, size-append i (u ++ (l ++ e)), size-append u (l ++ e), size-append l e, size-each equationItems equation-size (n .equations))
+    omega (arith, size-append i (u ++ (l ++ e)), size-append u (l ++ e), size-append l e, size-each equationItems size-equation (n .equations))
 
 total-size : (ns : List Node) → total ns ≤ sizeOf (each nodeItems ns)
 unfolding total each sizeOf

@@ -254,7 +254,7 @@ pub fn costly() -> Vec<Hostile> {
         ("4,500 samples", samples(short_names(0), 4_500)),
         ("800 samples", samples(short_names(0), 800)),
         ("9,000 names, 700 samples", samples(short_names(9_000), 700)),
-        ("6,000 names of one tree, 700 samples", samples(crowded(HEAD_BITS).take(6_000), 700)),
+        ("6,000 names of one tree, 700 samples", samples(crowded("", HEAD_BITS).take(6_000), 700)),
         ("2,500 names of the made kind, 700 samples", made_names(2_500, 700)),
         ("3,500 equations in a chain", chain(3_500)),
         ("700 equations in a chain", chain(700)),

@@ -350,7 +350,7 @@ pub fn costly() -> Vec<Hostile> {
         ("14,000 names, 512 states", many_names(14_000, 512)),
         ("10,000 names, 450 states", many_names(10_000, 450)),
         ("9,000 names, 450 machines", names_and_machines(short_names(9_000), 450)),
-        ("6,000 names of one tree, 450 machines", names_and_machines(crowded(HEAD_BITS).take(6_000), 450)),
+        ("6,000 names of one tree, 450 machines", names_and_machines(crowded("", HEAD_BITS).take(6_000), 450)),
         ("9,000 names, 4,000 transitions", names_and_transitions(9_000, 4_000)),
         ("507 long names alike", alike(0, false)),
         ("507 long names alike, 20 machines refused", alike(20, true)),

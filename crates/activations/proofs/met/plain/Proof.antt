@@ -3,14 +3,14 @@ use borrow.Author.Needs.{needs}
 use Rattle.activations.proofs.met.plain.Statement.{statement}
 use Rattle.activations.proofs.met.plain.Tie as tie
 
-byte-requires : tie.Need-byte-requires
-byte-requires c κs = search needs
+byte-at-requires : tie.Need-byte-at-requires
+byte-at-requires c κs = search needs
 
 returns : tie.Need-returns
-returns c = plain-const _ _ _ _ _ (c .before .byte .ensures) (c .if1 .taken)
+returns c = plain-const _ _ _ _ _ (c .before .byte-at .ensures .0) (c .if1 .taken)
 
 returns-2 : tie.Need-returns-2
-returns-2 c = plain-other _ _ _ _ _ (c .before .byte .ensures) (c .if1 .left)
+returns-2 c = plain-other _ _ _ _ _ (c .before .byte-at .ensures .0) (c .if1 .left)
 
 pub plain-spec : {M : Type 1} → statement M
-plain-spec = tie.close (tie.spec byte-requires returns returns-2)
+plain-spec = tie.close (tie.spec byte-at-requires returns returns-2)

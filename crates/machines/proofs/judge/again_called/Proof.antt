@@ -3,8 +3,8 @@ use borrow.Author.Needs.{needs}
 use Rattle.machines.proofs.judge.again_called.Statement.{statement}
 use Rattle.machines.proofs.judge.again_called.Tie as tie
 
-byte-requires : tie.Need-byte-requires
-byte-requires c κs = search needs
+byte-at-requires : tie.Need-byte-at-requires
+byte-at-requires c κs = search needs
 
 no-name-requires : tie.Need-no-name-requires
 no-name-requires c κs = search needs
@@ -16,7 +16,7 @@ add-t5 : tie.Need-add-t5
 add-t5 c = search needs
 
 returns-2 : tie.Need-returns-2
-returns-2 c = again-near _ _ _ (c .if1 .left) (c .before .byte .ensures)
+returns-2 c = again-near _ _ _ (c .if1 .left) (c .before .byte-at .ensures .0)
 
 pub again-called-spec : {M : Type 1} → statement M
-again-called-spec = tie.close (tie.spec byte-requires no-name-requires returns add-t5 returns-2)
+again-called-spec = tie.close (tie.spec byte-at-requires no-name-requires returns add-t5 returns-2)

@@ -3,14 +3,14 @@ use borrow.Author.Needs.{needs}
 use Rattle.machines.proofs.judge.uncovered_output.Statement.{statement}
 use Rattle.machines.proofs.judge.uncovered_output.Tie as tie
 
-byte-requires : tie.Need-byte-requires
-byte-requires c κs = search needs
+byte-at-requires : tie.Need-byte-at-requires
+byte-at-requires c κs = search needs
 
 same-length : tie.Need-same-length
 same-length c = search needs
 
 returns : tie.Need-returns
-returns c = (given-before _ _ _ _ _ _ (c .before .before .before .before .before .before .before .before .pre .3) (c .before .byte .ensures) (c .if1 .taken), (c .before .before .before .before .before .before .before .before .pre .2, c .before .before .before .before .before .before .before .before .pre .3))
+returns c = (given-before _ _ _ _ _ _ (c .before .before .before .before .before .before .before .before .pre .3) (c .before .byte-at .ensures .0) (c .if1 .taken), (c .before .before .before .before .before .before .before .before .pre .2, c .before .before .before .before .before .before .before .before .pre .3))
 
 uncovered-region-requires : tie.Need-uncovered-region-requires
 uncovered-region-requires c κs = (c .before .before .before .before .before .before .before .before .before .pre .0, c .before .before .before .before .before .before .before .before .before .pre .1, c .before .before .before .before .before .before .before .before .before .pre .2)
@@ -40,7 +40,7 @@ pub uncovered-output-spec : {M : Type 1} → statement M
 uncovered-output-spec =
     tie.close
     (tie.spec
-    byte-requires
+    byte-at-requires
     same-length
     returns
     uncovered-region-requires

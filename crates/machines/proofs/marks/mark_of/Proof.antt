@@ -5,8 +5,8 @@ use borrow.Author.Needs.{needs}
 use Rattle.machines.proofs.marks.mark_of.Statement.{statement}
 use Rattle.machines.proofs.marks.mark_of.Tie as tie
 
-number-of-requires : tie.Need-number-of-requires
-number-of-requires c κs = search needs
+hash-requires : tie.Need-hash-requires
+hash-requires c κs = search needs
 
 cast-t4 : tie.Need-cast-t4
 cast-t4 c = search needs
@@ -16,7 +16,7 @@ cast-t7 c = search needs
 
 returns : tie.Need-returns
 unfolding highOf lowOf
-returns c = (ap (λ x. x % 4294967296) (c .number-of .ensures), ap (λ x. x / 4294967296 % 4294967296) (c .number-of .ensures))
+returns c = (ap (λ x. x % 4294967296) (c .hash .ensures), ap (λ x. x / 4294967296 % 4294967296) (c .hash .ensures))
 
 pub mark-of-spec : {M : Type 1} → statement M
-mark-of-spec = tie.close (tie.spec number-of-requires cast-t4 cast-t7 returns)
+mark-of-spec = tie.close (tie.spec hash-requires cast-t4 cast-t7 returns)

@@ -22,26 +22,26 @@ cell-requires c κs = search needs
 returns : tie.Need-returns Inv-loop μ-loop
 returns c = name-none (c .before .before .before .before .before .args .lets .now) (c .before .before .before .before .before .args .s .now) (c .before .before .before .before .before .args .spots .now) _ _ _ (c .before .cell .ensures) (c .if1 .taken)
 
-byte-requires : tie.Need-byte-requires Inv-loop μ-loop
-byte-requires c κs = search needs
+byte-at-requires : tie.Need-byte-at-requires Inv-loop μ-loop
+byte-at-requires c κs = search needs
 
 loop-holds : tie.Need-loop-holds Inv-loop μ-loop
 loop-holds c = (omega arith, refl, copied-none (c .before .before .before .before .before .before .args .lets .now) _ _ _)
 
-add-put-letter : tie.Need-add-put-letter Inv-loop μ-loop
-add-put-letter c = omega (arith, c .before .before .before .before .before .before .before .before .before .pre, len-is (c .before .before .before .before .before .before .before .before .before .args .s .now) (c .before .before .before .before .before .before .before .before .before .args .spots .now) _ _ _ (c .before .before .before .before .before .cell .ensures) (c .before .before .before .byte .ensures))
+add-set-byte : tie.Need-add-set-byte Inv-loop μ-loop
+add-set-byte c = omega (arith, c .before .before .before .before .before .before .before .before .before .pre, len-is (c .before .before .before .before .before .before .before .before .before .args .s .now) (c .before .before .before .before .before .before .before .before .before .args .spots .now) _ _ _ (c .before .before .before .before .before .cell .ensures) (c .before .before .before .byte-at .ensures .0))
 
 add-letter : tie.Need-add-letter Inv-loop μ-loop
 add-letter c = search needs
 
 add-letter-2 : tie.Need-add-letter-2 Inv-loop μ-loop
-add-letter-2 c = omega (arith, c .before .before .before .before .before .before .before .before .shared-slice-known .given (c .before .before .before .before .before .cell .result), c .before .before .before .byte .ensures)
+add-letter-2 c = omega (arith, c .before .before .before .before .before .before .before .before .shared-slice-known .given (c .before .before .before .before .before .cell .result), c .before .before .before .byte-at .ensures .0)
 
 letter-requires : tie.Need-letter-requires Inv-loop μ-loop
 letter-requires c κs = search needs
 
-put-letter-requires : tie.Need-put-letter-requires Inv-loop μ-loop
-put-letter-requires c κs = search needs
+set-byte-requires : tie.Need-set-byte-requires Inv-loop μ-loop
+set-byte-requires c κs = search needs
 
 add-k : tie.Need-add-k Inv-loop μ-loop
 add-k c = omega (arith, c .before .before .before .before .before .loop-test .taken)
@@ -50,13 +50,13 @@ loop-less : tie.Need-loop-less Inv-loop μ-loop
 loop-less c = omega (arith, c .before .before .before .before .before .loop-test .taken)
 
 loop-again : tie.Need-loop-again Inv-loop μ-loop
-loop-again c = (omega (arith, c .before .before .before .before .before .loop-test .taken), c .before .before .put-letter .kept .0 ∙ c .before .before .before .before .before .before .loop .inv .1, copied-more (c .before .before .before .before .before .before .before .before .before .before .before .before .before .args .lets .now) (c .before .before .before .before .before .before .loop .lets) _ (c .before .before .before .before .before .before .before .before .before .before .before .before .before .args .s .now) _ (suc (c .before .before .before .before .before .before .before .before .before .cell .result)) (c .before .before .before .before .before .before .loop .k) _ _ (c .before .before .before .before .before .before .loop .inv .2) (omega arith) (c .before .before .before .letter .ensures) (c .before .before .put-letter .ensures))
+loop-again c = (omega (arith, c .before .before .before .before .before .loop-test .taken), c .before .before .set-byte .kept .0 ∙ c .before .before .before .before .before .before .loop .inv .1, copied-more (c .before .before .before .before .before .before .before .before .before .before .before .before .before .args .lets .now) (c .before .before .before .before .before .before .loop .lets) _ (c .before .before .before .before .before .before .before .before .before .before .before .before .before .args .s .now) _ (suc (c .before .before .before .before .before .before .before .before .before .cell .result)) (c .before .before .before .before .before .before .loop .k) _ _ (c .before .before .before .before .before .before .loop .inv .2) (omega arith) (c .before .before .before .letter .ensures) (c .before .before .set-byte .ensures))
 
 same-length : tie.Need-same-length Inv-loop μ-loop
 same-length c = c .before .loop .inv .1
 
 returns-2 : tie.Need-returns-2 Inv-loop μ-loop
-returns-2 c = name-some (c .before .before .before .before .before .before .before .before .args .lets .now) (c .before .loop .lets) (c .before .before .before .before .before .before .before .before .args .s .now) (c .before .before .before .before .before .before .before .before .args .spots .now) _ _ _ _ (c .before .loop .k) (c .before .before .before .before .cell .ensures) (c .before .before .byte .ensures) (c .before .loop .inv .0) (c .loop-test .left) (c .before .loop .inv .2)
+returns-2 c = name-some (c .before .before .before .before .before .before .before .before .args .lets .now) (c .before .loop .lets) (c .before .before .before .before .before .before .before .before .args .s .now) (c .before .before .before .before .before .before .before .before .args .spots .now) _ _ _ _ (c .before .loop .k) (c .before .before .before .before .cell .ensures) (c .before .before .byte-at .ensures .0) (c .before .loop .inv .0) (c .loop-test .left) (c .before .loop .inv .2)
 
 pub put-name-spec : {M : Type 1} → statement M
 put-name-spec =
@@ -66,13 +66,13 @@ put-name-spec =
     μ-loop
     cell-requires
     returns
-    byte-requires
+    byte-at-requires
     loop-holds
-    add-put-letter
+    add-set-byte
     add-letter
     add-letter-2
     letter-requires
-    put-letter-requires
+    set-byte-requires
     add-k
     loop-less
     loop-again

@@ -1,11 +1,10 @@
 use Rattle.machines.proofs.SpellLaws.{copied-more, copied-none, kept-letter, lead-some, under-none, under-some}
 use Rattle.machines.specs.Lays.{values}
 use lib.Seq.{sets}
-use lib.ListN.{length}
+use lib.ListN.{length, length-set}
 use mathlib.Core.Path.{_≡_, refl, _∙_}
 use Prim.Native.Nat.{_≤_, _-_, _+_}
 use native.Mathlib.Omega.{arith}
-use borrow.Author.Needs.{needs}
 use Rattle.machines.proofs.spell.put_prefix.Statement.{statement}
 use Rattle.machines.proofs.spell.put_prefix.Tie as tie
 
@@ -16,43 +15,43 @@ abbrev μ-loop : tie.MeasureT-loop
 μ-loop lets₀ a m at k₀ lets k = m - k
 
 returns : tie.Need-returns Inv-loop μ-loop
-returns c = under-none (c .before .before .args .lets .now) _ _ _ (c .if1 .taken)
+returns c = under-none (c .before .args .lets .now) _ _ _ (c .if1 .taken)
 
 loop-holds : tie.Need-loop-holds Inv-loop μ-loop
-loop-holds c = (omega arith, refl, copied-none (c .before .before .args .lets .now) _ _ _)
+loop-holds c = (omega arith, refl, copied-none (c .before .args .lets .now) _ _ _)
 
-add-b : tie.Need-add-b Inv-loop μ-loop
-add-b c = omega (arith, c .before .before .before .before .pre .0)
+add-lets : tie.Need-add-lets Inv-loop μ-loop
+add-lets c = omega (arith, c .before .before .before .pre .0, c .loop-test .taken)
 
-slice-read-b : tie.Need-slice-read-b Inv-loop μ-loop
-slice-read-b c = omega (arith, c .before .before .before .before .before .pre .0, c .before .before .before .before .before .pre .1, c .before .before .loop .inv .1)
+slice-read-lets : tie.Need-slice-read-lets Inv-loop μ-loop
+slice-read-lets c = omega (arith, c .before .before .before .before .pre .0, c .before .before .before .before .pre .1, c .before .before .loop .inv .1, c .before .loop-test .taken)
 
-add-put-letter : tie.Need-add-put-letter Inv-loop μ-loop
-add-put-letter c = omega (arith, c .before .before .before .before .before .before .pre .1, lead-some _ (c .before .before .before .before .if1 .left))
+add-lets-2 : tie.Need-add-lets-2 Inv-loop μ-loop
+add-lets-2 c = omega (arith, c .before .before .before .before .pre .1, c .before .loop-test .taken, lead-some _ (c .before .before .before .if1 .left))
 
-put-letter-requires : tie.Need-put-letter-requires Inv-loop μ-loop
-put-letter-requires c κs = search needs
+slice-write-lets : tie.Need-slice-write-lets Inv-loop μ-loop
+slice-write-lets c = omega (arith, c .before .before .before .before .pre .1, c .before .before .loop .inv .1, c .before .loop-test .taken, lead-some _ (c .before .before .before .if1 .left))
 
 add-k : tie.Need-add-k Inv-loop μ-loop
-add-k c = omega (arith, c .before .before .before .before .before .loop-test .taken)
+add-k c = omega (arith, c .before .loop-test .taken)
 
 loop-less : tie.Need-loop-less Inv-loop μ-loop
-loop-less c = omega (arith, c .before .before .before .before .before .loop-test .taken)
+loop-less c = omega (arith, c .before .loop-test .taken)
 
 loop-again : tie.Need-loop-again Inv-loop μ-loop
-loop-again c = (omega (arith, c .before .before .before .before .before .loop-test .taken), c .before .before .put-letter .kept .0 ∙ c .before .before .before .before .before .before .loop .inv .1, copied-more (c .before .before .before .before .before .before .before .before .before .args .lets .now) (c .before .before .before .before .before .before .loop .lets) _ (c .before .before .before .before .before .before .before .before .before .args .lets .now) _ _ (c .before .before .before .before .before .before .loop .k) _ _ (c .before .before .before .before .before .before .loop .inv .2) refl (kept-letter (c .before .before .before .before .before .before .before .before .before .args .lets .now) (c .before .before .before .before .before .before .loop .lets) (c .before .before .before .before .before .before .before .before .before .args .at) (values (c .before .before .before .before .before .before .before .before .before .args .lets .now) (c .before .before .before .before .before .before .before .before .before .args .a) (c .before .before .before .before .before .before .loop .k)) (c .before .before .before .before .before .before .before .before .before .args .a + c .before .before .before .before .before .before .loop .k) _ (c .before .before .before .before .before .before .loop .inv .2) (omega (arith, c .before .before .before .before .before .before .before .before .before .pre .0, c .before .before .before .before .before .loop-test .taken)) refl) (c .before .before .put-letter .ensures))
+loop-again c = (omega (arith, c .before .loop-test .taken), length-set (c .before .before .loop .lets) _ _ ∙ c .before .before .loop .inv .1, copied-more (c .before .before .before .before .args .lets .now) (c .before .before .loop .lets) _ (c .before .before .before .before .args .lets .now) _ _ (c .before .before .loop .k) _ _ (c .before .before .loop .inv .2) refl (kept-letter (c .before .before .before .before .args .lets .now) (c .before .before .loop .lets) (c .before .before .before .before .args .at) (values (c .before .before .before .before .args .lets .now) (c .before .before .before .before .args .a) (c .before .before .loop .k)) (c .before .before .before .before .args .a + c .before .before .loop .k) _ (c .before .before .loop .inv .2) (omega (arith, c .before .before .before .before .pre .0, c .before .loop-test .taken)) refl) refl)
 
-add-put-letter-2 : tie.Need-add-put-letter-2 Inv-loop μ-loop
-add-put-letter-2 c = omega (arith, c .before .before .before .before .before .pre .1, lead-some _ (c .before .before .before .if1 .left))
+add-lets-3 : tie.Need-add-lets-3 Inv-loop μ-loop
+add-lets-3 c = omega (arith, c .before .before .before .pre .1, lead-some _ (c .before .before .if1 .left))
 
-put-letter-requires-2 : tie.Need-put-letter-requires-2 Inv-loop μ-loop
-put-letter-requires-2 c κs = search needs
+slice-write-lets-2 : tie.Need-slice-write-lets-2 Inv-loop μ-loop
+slice-write-lets-2 c = omega (arith, c .before .before .before .pre .1, c .before .loop .inv .1, lead-some _ (c .before .before .if1 .left))
 
 same-length : tie.Need-same-length Inv-loop μ-loop
-same-length c = c .before .before .put-letter2 .kept .0 ∙ c .before .before .before .before .before .loop .inv .1
+same-length c = length-set (c .before .loop .lets) _ _ ∙ c .before .loop .inv .1
 
 returns-2 : tie.Need-returns-2 Inv-loop μ-loop
-returns-2 c = under-some (c .before .before .before .before .before .before .before .before .args .lets .now) (c .before .before .before .before .before .loop .lets) _ _ _ (c .before .before .before .before .before .loop .k) _ (c .before .before .before .before .before .before .if1 .left) (c .before .before .before .before .before .loop .inv .0) (c .before .before .before .before .loop-test .left) (c .before .before .before .before .before .loop .inv .2) (c .before .before .put-letter2 .ensures)
+returns-2 c = under-some (c .before .before .before .args .lets .now) (c .before .loop .lets) _ _ _ (c .before .loop .k) _ (c .before .before .if1 .left) (c .before .loop .inv .0) (c .loop-test .left) (c .before .loop .inv .2) refl
 
 pub put-prefix-spec : {M : Type 1} → statement M
 put-prefix-spec =
@@ -62,14 +61,14 @@ put-prefix-spec =
     μ-loop
     returns
     loop-holds
-    add-b
-    slice-read-b
-    add-put-letter
-    put-letter-requires
+    add-lets
+    slice-read-lets
+    add-lets-2
+    slice-write-lets
     add-k
     loop-less
     loop-again
-    add-put-letter-2
-    put-letter-requires-2
+    add-lets-3
+    slice-write-lets-2
     same-length
     returns-2)

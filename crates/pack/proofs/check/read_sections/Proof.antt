@@ -28,23 +28,23 @@ then-activations-requires c κs = search needs
 then-origins-requires : tie.Need-then-origins-requires
 then-origins-requires c κs = search needs
 
-offset-requires : tie.Need-offset-requires
-offset-requires c κs = search needs
+reached-requires : tie.Need-reached-requires
+reached-requires c κs = search needs
 
-offset-requires-2 : tie.Need-offset-requires-2
-offset-requires-2 c κs = search needs
+reached-requires-2 : tie.Need-reached-requires-2
+reached-requires-2 c κs = search needs
 
-offset-requires-3 : tie.Need-offset-requires-3
-offset-requires-3 c κs = search needs
+reached-requires-3 : tie.Need-reached-requires-3
+reached-requires-3 c κs = search needs
 
-offset-requires-4 : tie.Need-offset-requires-4
-offset-requires-4 c κs = search needs
+reached-requires-4 : tie.Need-reached-requires-4
+reached-requires-4 c κs = search needs
 
-offset-requires-5 : tie.Need-offset-requires-5
-offset-requires-5 c κs = search needs
+reached-requires-5 : tie.Need-reached-requires-5
+reached-requires-5 c κs = search needs
 
-offset-requires-6 : tie.Need-offset-requires-6
-offset-requires-6 c κs = search needs
+reached-requires-6 : tie.Need-reached-requires-6
+reached-requires-6 c κs = search needs
 
 judged-requires : tie.Need-judged-requires
 judged-requires c κs = search needs
@@ -53,7 +53,7 @@ returns : tie.Need-returns
 returns c =
     let w : Went (c .before .before .before .before .before .before .before .before .before .before .before .before .before .before .before .args .s .now) (c .before .before .before .before .before .before .before .before .before .before .before .before .before .name-count .result) (c .before .before .before .before .before .before .before .before .before .before .before .before .opening .result) (c .before .before .before .before .before .before .before .before .before .before .before .then-enums .result) (c .before .before .before .before .before .before .before .before .before .before .then-nodes .result) (c .before .before .before .before .before .before .before .before .before .then-machines .result) (c .before .before .before .before .before .before .before .before .then-activations .result) (c .before .before .before .before .before .before .before .then-origins .result) = record { few = c .before .before .before .before .before .before .before .before .before .before .before .before .before .name-count .ensures; past-names = c .before .before .before .before .before .before .before .before .before .before .before .before .opening .ensures; past-enums = c .before .before .before .before .before .before .before .before .before .before .before .then-enums .ensures; past-nodes = c .before .before .before .before .before .before .before .before .before .before .then-nodes .ensures; past-machines = c .before .before .before .before .before .before .before .before .before .then-machines .ensures; past-activations = c .before .before .before .before .before .before .before .before .then-activations .ensures; past-origins = c .before .before .before .before .before .before .before .then-origins .ensures } in (
       c .judged .ensures ∙ ap (λ (r : Skipped). judgedOf r (length (c .before .before .before .before .before .before .before .before .before .before .before .before .before .before .before .args .s .now))) (went-skip _ _ _ _ _ _ _ _ w),
-      went-record _ _ _ _ _ _ _ _ w _ refl (c .before .before .before .before .before .before .offset .ensures) (c .before .before .before .before .before .offset2 .ensures) (c .before .before .before .before .offset3 .ensures) (c .before .before .before .offset4 .ensures) (c .before .before .offset5 .ensures) (c .before .offset6 .ensures),
+      went-record _ _ _ _ _ _ _ _ w _ refl (c .before .before .before .before .before .before .reached .ensures) (c .before .before .before .before .before .reached2 .ensures) (c .before .before .before .before .reached3 .ensures) (c .before .before .before .reached4 .ensures) (c .before .before .reached5 .ensures) (c .before .reached6 .ensures),
     )
 
 pub read-sections-spec : {M : Type 1} → statement M
@@ -67,11 +67,11 @@ read-sections-spec =
     then-machines-requires
     then-activations-requires
     then-origins-requires
-    offset-requires
-    offset-requires-2
-    offset-requires-3
-    offset-requires-4
-    offset-requires-5
-    offset-requires-6
+    reached-requires
+    reached-requires-2
+    reached-requires-3
+    reached-requires-4
+    reached-requires-5
+    reached-requires-6
     judged-requires
     returns)

@@ -1,5 +1,4 @@
-use native.Mathlib.Omega.{arith}
-use Rattle.pack.specs.Table.{Indexes, textsFrom}
+use Rattle.pack.proofs.DistinctLaws.{tells-none}
 use borrow.Author.Needs.{needs}
 use Rattle.pack.proofs.names.few_names.Statement.{statement}
 use Rattle.pack.proofs.names.few_names.Tie as tie
@@ -8,8 +7,7 @@ slice-aggregate-read-names : tie.Need-slice-aggregate-read-names
 slice-aggregate-read-names c = search needs
 
 read-names-requires : tie.Need-read-names-requires
-unfolding Indexes textsFrom
-read-names-requires c κs = λ l. absurd (omega arith)
+read-names-requires c κs = tells-none _ _ _ _
 
 returns : tie.Need-returns
 returns c = search needs

@@ -1,18 +1,47 @@
-use Rattle.pack.specs.Table.{blank, textsFrom}
-use Rattle.pack.proofs.NamesTabled.{indexes-none}
+use native.Mathlib.Omega.{arith}
+use lib.ListN.{length-take}
+use Rattle.pack.proofs.Prefix.{names-ahead}
 use borrow.Author.Needs.{needs}
 use Rattle.pack.proofs.names.many_names.Statement.{statement}
 use Rattle.pack.proofs.names.many_names.Tie as tie
 
-slice-aggregate-read-names : tie.Need-slice-aggregate-read-names
-slice-aggregate-read-names c = search needs
+capped-requires : tie.Need-capped-requires
+capped-requires c κs = search needs
 
-read-names-requires : tie.Need-read-names-requires
-unfolding blank textsFrom
-read-names-requires c κs = indexes-none _ _
+slice-aggregate-few-names : tie.Need-slice-aggregate-few-names
+slice-aggregate-few-names c = simp length-take (omega (arith, c .before .capped .ensures))
+
+few-names-requires : tie.Need-few-names-requires
+few-names-requires c κs = search needs
+
+enum-told : tie.Need-enum-told
+enum-told c = search needs
 
 returns : tie.Need-returns
-returns c = search needs
+returns c = names-ahead (c .before .before .before .before .before .args .s .now) (c .before .before .before .capped .result) _ _ _ (c .match .keys2) (c .before .few-names .ensures)
+
+keyed-names-requires : tie.Need-keyed-names-requires
+keyed-names-requires c κs = search needs
+
+returns-2 : tie.Need-returns-2
+returns-2 c = search needs
+
+told-names-requires : tie.Need-told-names-requires
+told-names-requires c κs = search needs
+
+returns-3 : tie.Need-returns-3
+returns-3 c = search needs
 
 pub many-names-spec : {M : Type 1} → statement M
-many-names-spec = tie.close (tie.spec slice-aggregate-read-names read-names-requires returns)
+many-names-spec =
+    tie.close
+    (tie.spec
+    capped-requires
+    slice-aggregate-few-names
+    few-names-requires
+    enum-told
+    returns
+    keyed-names-requires
+    returns-2
+    told-names-requires
+    returns-3)

@@ -1,77 +1,73 @@
-use native.Mathlib.Omega.{arith}
-use mathlib.Core.Path.{_∙_, sym}
-use Rattle.pack.specs.Table.{Indexes, textsFrom}
+use mathlib.Core.Path.{_∙_, ap, subst, sym}
+use Rattle.pack.specs.Distinct.{Tells, freeCell}
 use Rattle.pack.proofs.NameLaws.{raw-part}
-use Rattle.pack.proofs.NamesTabled.{follows-from, indexes-more, indexes-new}
+use Rattle.pack.proofs.DistinctLaws.{telling-long, tells-more, tells-new, tells-not}
 use borrow.Author.Needs.{needs}
+use borrow.Author.Tests.{not-false, not-true}
 use Rattle.pack.proofs.names.repeated.Statement.{statement}
 use Rattle.pack.proofs.names.repeated.Tie as tie
+
+telling-requires : tie.Need-telling-requires
+telling-requires c κs = search needs
 
 seen-requires : tie.Need-seen-requires
 seen-requires c κs = search needs
 
+same-length : tie.Need-same-length
+same-length c = search needs
+
 returns : tie.Need-returns
-unfolding Indexes textsFrom
-returns c = (c .seen .ensures, λ l. absurd (c .before .if1 .taken l))
+returns c = (c .seen .ensures, tells-not _ _ _ _ _ (sym (c .before .before .telling .ensures) ∙ not-true _ (c .before .if1 .taken)))
 
 add-b : tie.Need-add-b
 add-b c = search needs
 
-sub-note-in : tie.Need-sub-note-in
-sub-note-in c = omega (arith, follows-from _ _ _ _ _ (c .before .before .before .before .pre .0))
+sub-free-cell : tie.Need-sub-free-cell
+sub-free-cell c = search needs
 
-part-note-in-start : tie.Need-part-note-in-start
-part-note-in-start c = omega (arith, follows-from _ _ _ _ _ (c .before .before .before .before .pre .0))
+part-free-cell-start : tie.Need-part-free-cell-start
+part-free-cell-start c = search needs
 
-part-note-in-end : tie.Need-part-note-in-end
-part-note-in-end c = search needs
+part-free-cell-end : tie.Need-part-free-cell-end
+part-free-cell-end c = search needs
 
-sub-note-in-2 : tie.Need-sub-note-in-2
-sub-note-in-2 c = search needs
+free-cell-requires : tie.Need-free-cell-requires
+free-cell-requires c κs = search needs
 
-part-note-in-start-2 : tie.Need-part-note-in-start-2
-part-note-in-start-2 c = search needs
-
-part-note-in-end-2 : tie.Need-part-note-in-end-2
-part-note-in-end-2 c = search needs
-
-note-in-requires : tie.Need-note-in-requires
-unfolding textsFrom
-note-in-requires c κs = c .before .before .before .if1 .left
-
-same-length : tie.Need-same-length
-same-length c = search needs
-
-returns-2 : tie.Need-returns-2
-unfolding textsFrom
-returns-2 c = (sym (indexes-new (c .before .before .before .before .before .before .before .before .before .before .args .s .now) (c .before .before .before .before .before .before .before .before .before .before .args .t .now) _ _ _ _ _ (c .before .before .before .before .before .before .before .before .before .before .pre .0) (c .before .before .before .before .before .before .before .before .before .before .pre .1) (c .before .before .before .before .before .before .before .if1 .left) (raw-part _ _ _ (c .before .before .before .before .before .before .before .before .before .before .pre .0 .ends)) (sym (c .before .before .before .note-in .ensures .1) ∙ c .if2 .taken)), indexes-more (c .before .before .before .before .before .before .before .before .before .before .args .s .now) (c .before .before .before .before .before .before .before .before .before .before .args .t .now) _ _ _ _ _ (c .before .before .before .before .before .before .before .before .before .before .pre .0) (c .before .before .before .before .before .before .before .before .before .before .pre .1) (c .before .before .before .before .before .before .before .if1 .left) (raw-part _ _ _ (c .before .before .before .before .before .before .before .before .before .before .pre .0 .ends)) _ (c .before .before .before .note-in .ensures .0))
-
-seen-requires-2 : tie.Need-seen-requires-2
-seen-requires-2 c κs = search needs
+enter-requires : tie.Need-enter-requires
+enter-requires c κs = telling-long _ (sym (c .before .before .before .before .before .telling .ensures) ∙ not-false _ (c .before .before .before .before .if1 .left)) .0
 
 same-length-2 : tie.Need-same-length-2
 same-length-2 c = search needs
 
+returns-2 : tie.Need-returns-2
+returns-2 c = (sym (tells-new (c .before .before .before .before .before .before .before .before .before .before .before .before .before .args .s .now) _ _ _ _ _ (c .before .before .before .before .before .before .before .before .before .before .before .before .before .args .t .now) (c .before .before .before .before .before .before .before .before .before .before .before .before .before .pre .0) (c .before .before .before .before .before .before .before .before .before .before .before .before .before .pre .1) (sym (c .before .before .before .before .before .before .before .before .before .telling .ensures) ∙ not-false _ (c .before .before .before .before .before .before .before .before .if1 .left)) _ (c .before .before .before .before .before .free-cell .ensures ∙ ap (freeCell (c .before .before .before .before .before .before .before .before .before .before .before .before .before .args .s .now) (c .before .before .before .before .before .before .before .before .before .before .before .before .before .args .t .now) (c .before .before .before .before .before .before .before .before .before .before .before .before .before .args .key)) (raw-part _ _ _ (c .before .before .before .before .before .before .before .before .before .before .before .before .before .pre .0 .ends))) (sym (c .before .before .before .enter .ensures .1) ∙ c .if2 .taken)), subst (Tells (c .before .before .before .before .before .before .before .before .before .before .before .before .before .args .s .now) (c .before .before .before .before .before .before .before .before .before .before .before .before .before .args .q) _ (c .before .before .before .before .before .before .before .before .before .before .before .before .before .args .key)) (sym (c .before .before .before .enter .ensures .0)) (tells-more (c .before .before .before .before .before .before .before .before .before .before .before .before .before .args .s .now) _ _ _ _ _ (c .before .before .before .before .before .before .before .before .before .before .before .before .before .args .t .now) (c .before .before .before .before .before .before .before .before .before .before .before .before .before .pre .0) (c .before .before .before .before .before .before .before .before .before .before .before .before .before .pre .1) (sym (c .before .before .before .before .before .before .before .before .before .telling .ensures) ∙ not-false _ (c .before .before .before .before .before .before .before .before .if1 .left)) _ (c .before .before .before .before .before .free-cell .ensures ∙ ap (freeCell (c .before .before .before .before .before .before .before .before .before .before .before .before .before .args .s .now) (c .before .before .before .before .before .before .before .before .before .before .before .before .before .args .t .now) (c .before .before .before .before .before .before .before .before .before .before .before .before .before .args .key)) (raw-part _ _ _ (c .before .before .before .before .before .before .before .before .before .before .before .before .before .pre .0 .ends)))))
+
+seen-requires-2 : tie.Need-seen-requires-2
+seen-requires-2 c κs = search needs
+
+same-length-3 : tie.Need-same-length-3
+same-length-3 c = search needs
+
 returns-3 : tie.Need-returns-3
-unfolding textsFrom
-returns-3 c = (c .seen2 .ensures, indexes-more (c .before .before .before .before .before .before .before .before .before .before .before .args .s .now) (c .before .before .before .before .before .before .before .before .before .before .before .args .t .now) _ _ _ _ _ (c .before .before .before .before .before .before .before .before .before .before .before .pre .0) (c .before .before .before .before .before .before .before .before .before .before .before .pre .1) (c .before .before .before .before .before .before .before .before .if1 .left) (raw-part _ _ _ (c .before .before .before .before .before .before .before .before .before .before .before .pre .0 .ends)) _ (c .before .before .before .before .note-in .ensures .0))
+returns-3 c = (c .seen2 .ensures, subst (Tells (c .before .before .before .before .before .before .before .before .before .before .before .before .before .before .args .s .now) (c .before .before .before .before .before .before .before .before .before .before .before .before .before .before .args .q) _ (c .before .before .before .before .before .before .before .before .before .before .before .before .before .before .args .key)) (sym (c .before .before .before .before .enter .ensures .0)) (tells-more (c .before .before .before .before .before .before .before .before .before .before .before .before .before .before .args .s .now) _ _ _ _ _ (c .before .before .before .before .before .before .before .before .before .before .before .before .before .before .args .t .now) (c .before .before .before .before .before .before .before .before .before .before .before .before .before .before .pre .0) (c .before .before .before .before .before .before .before .before .before .before .before .before .before .before .pre .1) (sym (c .before .before .before .before .before .before .before .before .before .before .telling .ensures) ∙ not-false _ (c .before .before .before .before .before .before .before .before .before .if1 .left)) _ (c .before .before .before .before .before .before .free-cell .ensures ∙ ap (freeCell (c .before .before .before .before .before .before .before .before .before .before .before .before .before .before .args .s .now) (c .before .before .before .before .before .before .before .before .before .before .before .before .before .before .args .t .now) (c .before .before .before .before .before .before .before .before .before .before .before .before .before .before .args .key)) (raw-part _ _ _ (c .before .before .before .before .before .before .before .before .before .before .before .before .before .before .pre .0 .ends)))))
 
 pub repeated-spec : {M : Type 1} → statement M
 repeated-spec =
     tie.close
     (tie.spec
+    telling-requires
     seen-requires
+    same-length
     returns
     add-b
-    sub-note-in
-    part-note-in-start
-    part-note-in-end
-    sub-note-in-2
-    part-note-in-start-2
-    part-note-in-end-2
-    note-in-requires
-    same-length
+    sub-free-cell
+    part-free-cell-start
+    part-free-cell-end
+    free-cell-requires
+    enter-requires
+    same-length-2
     returns-2
     seen-requires-2
-    same-length-2
+    same-length-3
     returns-3)

@@ -1,6 +1,6 @@
 use mathlib.Core.Path.{_∙_, ap, subst, sym}
 use Rattle.pack.specs.declared.table.Place.{Place}
-use Rattle.pack.specs.Table.{Near, isFree, linkedAt}
+use Rattle.pack.specs.Table.{Near, linkedAt}
 use Rattle.pack.proofs.TableLaws.{not-free}
 use Rattle.pack.proofs.TableIndex.{linked-none}
 use borrow.Author.Needs.{needs}
@@ -17,7 +17,7 @@ same-length : tie.Need-same-length
 same-length c = search needs
 
 returns : tie.Need-returns
-returns c = let f = not-free _ (c .before .before .before .before .match .keys2) in (c .before .before .unindex .ensures ∙ linked-none _ _ _ f, sym f)
+returns c = let f = not-free _ (c .before .before .before .before .match .keys2) in c .before .before .unindex .ensures ∙ linked-none _ _ _ f
 
 link-requires : tie.Need-link-requires
 unfolding Near
@@ -27,8 +27,8 @@ same-length-2 : tie.Need-same-length-2
 same-length-2 c = search needs
 
 returns-2 : tie.Need-returns-2
-unfolding linkedAt isFree
-returns-2 c = (c .before .before .link .ensures ∙ ap (λ (y : Place). linkedAt y (c .before .before .before .before .before .before .before .before .args .p) (c .before .before .before .before .before .before .before .before .args .t .now)) (sym (c .before .before .before .before .before .cell .given .1)), ap isFree (sym (c .before .before .before .before .before .cell .given .1)))
+unfolding linkedAt
+returns-2 c = c .before .before .link .ensures ∙ ap (λ (y : Place). linkedAt y (c .before .before .before .before .before .before .before .before .args .p) (c .before .before .before .before .before .before .before .before .args .t .now)) (sym (c .before .before .before .before .before .cell .given .1))
 
 pub link-at-spec : {M : Type 1} → statement M
 link-at-spec =

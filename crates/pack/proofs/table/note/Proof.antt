@@ -22,7 +22,7 @@ same-length : tie.Need-same-length
 same-length c = search needs
 
 returns : tie.Need-returns
-returns c = c .before .before .link-at .ensures .0 ∙ noted-at _ _ _ _ (c .before .before .before .before .before .cell-in .ensures .0) (omega (arith, c .before .before .before .before .capped .ensures, texts-is))
+returns c = c .before .before .link-at .ensures ∙ noted-at _ _ _ _ (c .before .before .before .before .before .cell-in .ensures .0) (omega (arith, c .before .before .before .before .capped .ensures, texts-is))
 
 pub note-spec : {M : Type 1} → statement M
 note-spec =

@@ -21,7 +21,6 @@ returns c =
     let t = c .before .before .before .before .before .args .t .now ++ c .before .before .before .before .before .args .x .now in (
       c .descend .ensures .0 ∙ ap (λ h. placeFrom 17409 t (c .before .before .before .before .before .args .n .now) (h / heads + 2251799813685248) (h % heads) (word t (cellAt (h % heads)))) (c .before .hash .ensures),
       c .descend .ensures .1,
-      c .before .hash .ensures,
     )
 
 pub place-of-spec : {M : Type 1} → statement M

@@ -1,8 +1,9 @@
 use native.Mathlib.Omega.{arith}
-use Rattle.machines.proofs.TableLaws.{past-end}
+use mathlib.Core.Path.{sym}
+use lib.ListN.{List·getD-eq-default}
 use borrow.Author.Needs.{needs}
-use Rattle.machines.proofs.cells.cell.Statement.{statement}
-use Rattle.machines.proofs.cells.cell.Tie as tie
+use Rattle.pack.proofs.cells.cell.Statement.{statement}
+use Rattle.pack.proofs.cells.cell.Tie as tie
 
 mul-result : tie.Need-mul-result
 mul-result c = search needs
@@ -17,7 +18,7 @@ returns : tie.Need-returns
 returns c = search needs
 
 returns-2 : tie.Need-returns-2
-returns-2 c = past-end (c .before .args .t .now) _ (c .if1 .left)
+returns-2 c = sym (List·getD-eq-default (c .before .args .t .now) 0 (c .if1 .left))
 
 pub cell-spec : {M : Type 1} → statement M
 cell-spec = tie.close (tie.spec mul-result shared-slice-read-result cast-result returns returns-2)

@@ -1,8 +1,8 @@
 use mathlib.Core.Path.{sym}
 use lib.Seq.{set-out}
 use borrow.Author.Needs.{needs}
-use Rattle.pack.proofs.table.set_byte.Statement.{statement}
-use Rattle.pack.proofs.table.set_byte.Tie as tie
+use Rattle.pack.proofs.cells.set_byte.Statement.{statement}
+use Rattle.pack.proofs.cells.set_byte.Tie as tie
 
 slice-write-t : tie.Need-slice-write-t
 slice-write-t c = search needs

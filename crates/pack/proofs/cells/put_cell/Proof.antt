@@ -1,8 +1,8 @@
 use mathlib.Core.Path.{sym}
 use lib.Seq.{set-out}
 use borrow.Author.Needs.{needs}
-use Rattle.machines.proofs.cells.put_cell.Statement.{statement}
-use Rattle.machines.proofs.cells.put_cell.Tie as tie
+use Rattle.pack.proofs.cells.put_cell.Statement.{statement}
+use Rattle.pack.proofs.cells.put_cell.Tie as tie
 
 cast-t : tie.Need-cast-t
 cast-t c = search needs

@@ -1,9 +1,9 @@
 use mathlib.Core.Path.{sym, ap}
 use Rattle.pack.specs.Verdict.{offsetOf}
 use Rattle.pack.proofs.CheckLaws.{offset-stops}
 use borrow.Author.Needs.{needs}
-use Rattle.machines.proofs.sure.reached.Statement.{statement}
-use Rattle.machines.proofs.sure.reached.Tie as tie
+use Rattle.pack.proofs.check.reached.Statement.{statement}
+use Rattle.pack.proofs.check.reached.Tie as tie
 
 enum-known-r : tie.Need-enum-known-r
 enum-known-r c = search needs

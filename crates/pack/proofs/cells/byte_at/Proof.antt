@@ -2,8 +2,8 @@ use native.Mathlib.Omega.{arith}
 use mathlib.Core.Path.{refl, sym}
 use lib.ListN.{List·getD-eq-default}
 use borrow.Author.Needs.{needs}
-use Rattle.pack.proofs.siphash.byte_at.Statement.{statement}
-use Rattle.pack.proofs.siphash.byte_at.Tie as tie
+use Rattle.pack.proofs.cells.byte_at.Statement.{statement}
+use Rattle.pack.proofs.cells.byte_at.Tie as tie
 
 shared-slice-read-result : tie.Need-shared-slice-read-result
 shared-slice-read-result c = search needs

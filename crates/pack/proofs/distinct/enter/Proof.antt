@@ -1,0 +1,46 @@
+use native.Mathlib.Omega.{arith}
+use Rattle.pack.proofs.DistinctLaws.{entered-cell, entered-none, gets-few}
+use borrow.Author.Needs.{needs}
+use Rattle.pack.proofs.distinct.enter.Statement.{statement}
+use Rattle.pack.proofs.distinct.enter.Tie as tie
+
+add-t : tie.Need-add-t
+add-t c = omega (arith, gets-few (c .before .args .i) (c .before .args .p) (c .if1 .taken) .1)
+
+cast-t : tie.Need-cast-t
+cast-t c = omega (arith, gets-few (c .before .args .i) (c .before .args .p) (c .if1 .taken) .1)
+
+mul-t : tie.Need-mul-t
+mul-t c = omega (arith, gets-few (c .before .args .i) (c .before .args .p) (c .if1 .taken) .0)
+
+slice-write-t : tie.Need-slice-write-t
+slice-write-t c = omega (arith, gets-few (c .before .args .i) (c .before .args .p) (c .if1 .taken) .0, c .before .pre)
+
+same-length : tie.Need-same-length
+same-length c = search needs
+
+returns : tie.Need-returns
+returns c = entered-cell _ _ _ (c .if1 .taken)
+
+slice-write-t-2 : tie.Need-slice-write-t-2
+slice-write-t-2 c = search needs
+
+same-length-2 : tie.Need-same-length-2
+same-length-2 c = search needs
+
+returns-2 : tie.Need-returns-2
+returns-2 c = entered-none _ _ _ (c .if1 .left)
+
+pub enter-spec : {M : Type 1} → statement M
+enter-spec =
+    tie.close
+    (tie.spec
+    add-t
+    cast-t
+    mul-t
+    slice-write-t
+    same-length
+    returns
+    slice-write-t-2
+    same-length-2
+    returns-2)

@@ -1,0 +1,36 @@
+// Tables of bytes and of 16-bit words, as wide as offsets into a pack and indexes of its names are. All is total: 0 past the end, and
+// nothing is written there.
+ghost use mathlib.Core.Path.{_≡_};
+ghost use Prim.Native.Nat.{_%_, _<_};
+ghost use lib.ListN.{getD, set};
+
+pub fn byte_at(t: &[u8], i: usize) -> usize
+    ensures { λ r. ⌜ (r ≡ getD (now (t .entry)) i 0) × (r < 256) ⌝ }
+{
+    if i < t.len() {
+        return t[i] as usize;
+    }
+    0
+}
+
+pub fn set_byte(t: &mut [u8], i: usize, v: u8)
+    ensures { λ _. ⌜ now (t .exit) ≡ set (now (t .entry)) i v ⌝ }
+{
+    if i < t.len() {
+        t[i] = v;
+    }
+}
+
+pub fn cell(t: &[u16], i: usize) -> usize
+    ensures { λ r. ⌜ r ≡ getD (now (t .entry)) i 0 ⌝ }
+{
+    if i < t.len() { t[i] as usize } else { 0 }
+}
+
+pub fn put_cell(t: &mut [u16], i: usize, v: usize)
+    ensures { λ _. ⌜ now (t .exit) ≡ set (now (t .entry)) i (v % 65536) ⌝ }
+{
+    if i < t.len() {
+        t[i] = (v % 65536) as u16;
+    }
+}
