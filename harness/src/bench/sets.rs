@@ -69,6 +69,8 @@ pub fn check() -> Vec<Set> {
         one("long names, last repeated", special::repeated(special::alike_names(MAX_PACK), 254)),
         one("long names of two stems", special::stem_names(MAX_PACK, 2)),
         one("long names of 40 stems", special::stem_names(MAX_PACK, 40)),
+        one("names of 9 bytes", special::random_names(&mut Rng::new(1), MAX_PACK, 9)),
+        one("names of 16 bytes", special::random_names(&mut Rng::new(1), MAX_PACK, 16)),
         one("names of 31 bytes", special::random_names(&mut Rng::new(1), MAX_PACK, 31)),
         one("names of 62 bytes", special::random_names(&mut Rng::new(1), MAX_PACK, 62)),
         one("names of all lengths", special::ragged_names(MAX_PACK)),
