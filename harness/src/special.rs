@@ -449,6 +449,13 @@ mod tests {
     }
 
     #[test]
+    fn crowded_names_share_a_first_cell() {
+        let all: Vec<String> = crowded("door", 15).take(3).collect();
+        assert!(all.iter().all(|n| n.len() == 9 && n.starts_with("door")), "{all:?}");
+        assert!(all.iter().all(|n| index_number(n.as_bytes()) % 32_768 == 0), "{all:?}");
+    }
+
+    #[test]
     fn short_names_differ() {
         let all: std::collections::HashSet<String> = (0..20_000).map(short_name).collect();
         assert_eq!(all.len(), 20_000);

@@ -1,6 +1,5 @@
 // A table of names behind an index of trees (specs/Table), so that a name is found without looking at all others. The index is lent
-// as t and the names as x, so that names which stand in a pack need not be copied behind it. All is total: a byte past the end is 0,
-// and a store there does nothing.
+// as t and the names behind it as x. All is total: a byte past the end is 0, and a store there does nothing.
 use crate::cells::byte_at;
 use crate::cells::set_byte;
 use crate::intern::Found;
