@@ -3,17 +3,17 @@ use Prim.Native.Nat.{ℕ, zero, suc, _+_, _*_, _-_, _<_, _≤_, _/_, _%_}
 use native.Mathlib.Nat.{mul-le-mul-right}
 use native.Mathlib.Numerals.{add-one}
 use native.Mathlib.Omega.{arith}
-use mathlib.Core.Bool.{Bool, true, false, cond, _&&_, _||_, and-eq-true-iff}
+use mathlib.Core.Bool.{Bool, true, false, cond, not, _&&_, _||_, and-eq-true-iff}
 use mathlib.Core.List.{List, [], _∷_, _++_}
 use mathlib.Core.Path.{_≡_, refl, sym, ap, subst, _∙_}
-use lib.ListN.{length, getD, set}
+use lib.ListN.{length, take, getD, set, length-set}
 use lib.Seq.{getD-set-same, getD-set-other}
 use lib.Dec.{eqb, ltb}
-use borrow.Author.Tests.{eqb-true, ltb-true}
+use borrow.Author.Tests.{eqb-true, ltb-true, eq-eqb, ne-eqb, lt-ltb, le-ltb}
 use Rattle.pack.specs.Names.{Name, eqName, member}
 use Rattle.pack.specs.RawNames.{Follows, oneOf, rawName, rawNames}
 use Rattle.pack.specs.Siphash.{hash, quadAt}
-use Rattle.pack.specs.Distinct.{cells, letters, product, way, after, freeFrom, freeCell, telling, gets, entered, Tells}
+use Rattle.pack.specs.Distinct.{cells, letters, product, keyFor, way, tag, first, after, isOf, freeFrom, freeOn, freeCell, telling, gets, tagged, entered, Tells}
 use Rattle.pack.proofs.Tables.{eqName-refl, eqName-true, member-either}
 use Rattle.pack.proofs.NameLaws.{rawNames-more}
 
@@ -31,13 +31,21 @@ letters-few n x l e =
     let z : 4294967297 * x ≡ x + 4294967296 * x = omega arith in
     z ∙ letters-are n 0 0 x x (sym a) e (sym b) e
 
-pub way-hash : (key r : ℕ) (n : Name) → eqb key 0 || ltb 8 (length n) ≡ true → r ≡ hash n → r ≡ way key n
+pub key-long : (key c h : ℕ) (n : Name) → 8 < length n → c ≡ letters (take 8 n) → h ≡ product key c → h ≡ keyFor key n
+unfolding keyFor
+key-long key c h n l e f = rw (lt-ltb 8 (length n) l) (f ∙ ap (product key) e)
+
+pub key-short : (key : ℕ) (n : Name) → length n ≤ 8 → key ≡ keyFor key n
+unfolding keyFor
+key-short key n l = rw (le-ltb 8 (length n) l)
+
+pub way-hash : (key r : ℕ) (n : Name) → eqb key 0 || ltb 16 (length n) ≡ true → r ≡ hash n → r ≡ way key n
 unfolding way
 way-hash key r n l e = rw l e
 
-pub way-product : (key c h : ℕ) (n : Name) → eqb key 0 || ltb 8 (length n) ≡ false → c ≡ letters n → h ≡ product key c → h / 4294967296 + h % 4294967296 ≡ way key n
+pub way-product : (key k c h : ℕ) (n : Name) → eqb key 0 || ltb 16 (length n) ≡ false → k ≡ keyFor key n → c ≡ letters n → h ≡ product k c → h / 4294967296 + h % 4294967296 ≡ way key n
 unfolding way
-way-product key c h n l e f = rw l (ap (λ x. x / 4294967296 + x % 4294967296) (f ∙ ap (product key) e))
+way-product key k c h n l d e f = rw l (ap (λ x. x / 4294967296 + x % 4294967296) (f ∙ ap (λ x. product x c) d ∙ ap (product (keyFor key n)) e))
 
 -- a product of 32 bits by 32
 pub product-fits : (x y : ℕ) → x < 4294967296 → y < 4294967296 → x * y < 18446744073709551616
@@ -45,9 +53,34 @@ product-fits x y a b = let z : x * y ≤ 4294967295 * y = mul-le-mul-right y (om
 
 -- A WAY, STEP BY STEP
 
-module _ (s t : List ℕ) (n : Name) where
+pub first-plain : (key h : ℕ) → key ≡ 0 → 2 * (h % 16384) ≡ first key h
+unfolding first
+first-plain key h e = rw (eq-eqb key 0 e)
+
+pub first-keyed : (key h : ℕ) → (key ≡ 0 → ⊥) → h % cells ≡ first key h
+unfolding first
+first-keyed key h d = rw (ne-eqb key 0 d)
+
+pub after-plain : (key h i : ℕ) → key ≡ 0 → (i + 2 * (2 * (h % 16384) + 1)) % cells ≡ after key h i
+unfolding after
+after-plain key h i e = rw (eq-eqb key 0 e)
+
+pub after-keyed : (key h i : ℕ) → (key ≡ 0 → ⊥) → (i + (2 * (h % 16384) + 1)) % cells ≡ after key h i
+unfolding after
+after-keyed key h i d = rw (ne-eqb key 0 d)
+
+module _ (s t : List ℕ) (n : Name) (key g i p w : ℕ) (v : w ≡ getD t (i + 1) 0) where
+  pub not-of : eqb key 0 && not (eqb w g) ≡ true → false ≡ isOf s t n key g i p
+  unfolding isOf
+  not-of o = rw (ap (λ x. eqb key 0 && not (eqb x g)) (sym v) ∙ o)
+
+  pub may-be-of : (r : Bool) → eqb key 0 && not (eqb w g) ≡ false → r ≡ eqName (rawName s p) n → r ≡ isOf s t n key g i p
+  unfolding isOf
+  may-be-of r o f = rw (ap (λ x. eqb key 0 && not (eqb x g)) (sym v) ∙ o) f
+
+module _ (s t : List ℕ) (n : Name) (key g : ℕ) where
   abbrev on : ℕ → ℕ → ℕ → ℕ
-  on f h i = freeFrom f s t n h i (getD t i 0)
+  on f h i = freeFrom f s t n key g h i (getD t i 0)
 
   pub free-spent : (f h i : ℕ) → f ≤ 0 → on f h i ≡ cells
   unfolding freeFrom
@@ -56,24 +89,28 @@ module _ (s t : List ℕ) (n : Name) where
 
   pub free-here : (f h i v : ℕ) → 0 < f → v ≡ getD t i 0 → v ≡ 0 → on f h i ≡ i
   unfolding freeFrom
-  free-here zero h i v l e g = absurd (omega arith)
-  free-here (suc f) h i v l e g = ap (freeFrom (suc f) s t n h i) (sym e ∙ g)
+  free-here zero h i v l e d = absurd (omega arith)
+  free-here (suc f) h i v l e d = ap (freeFrom (suc f) s t n key g h i) (sym e ∙ d)
 
-  held : (f h i v : ℕ) (b : Bool) → 0 < f → (v ≡ 0 → ⊥) → eqName (rawName s (v - 1)) n ≡ b → freeFrom f s t n h i v ≡ cond b cells (on (f - 1) (h / 2) (after h i))
+  held : (f h i v : ℕ) (b : Bool) → 0 < f → (v ≡ 0 → ⊥) → isOf s t n key g i (v - 1) ≡ b → freeFrom f s t n key g h i v ≡ cond b cells (on (f - 1) (h / 2) (after key h i))
   unfolding freeFrom
-  held zero h i v b l g e = absurd (omega arith)
-  held (suc f) h i zero b l g e = absurd (g refl)
-  held (suc f) h i (suc p) b l g e =
+  held zero h i v b l d e = absurd (omega arith)
+  held (suc f) h i zero b l d e = absurd (d refl)
+  held (suc f) h i (suc p) b l d e =
       let z : suc p - 1 ≡ p = omega arith in
       let y : f ≡ suc f - 1 = omega arith in
-      ap (λ (x : Bool). cond x cells (on f (h / 2) (after h i))) (ap (λ k. eqName (rawName s k) n) (sym z) ∙ e)
-      ∙ ap (λ k. cond b cells (on k (h / 2) (after h i))) y
+      ap (λ (x : Bool). cond x cells (on f (h / 2) (after key h i))) (ap (isOf s t n key g i) (sym z) ∙ e)
+      ∙ ap (λ k. cond b cells (on k (h / 2) (after key h i))) y
 
-  pub free-met : (f h i v : ℕ) (b : Bool) → 0 < f → v ≡ getD t i 0 → (v ≡ 0 → ⊥) → b ≡ eqName (rawName s (v - 1)) n → b ≡ true → on f h i ≡ cells
-  free-met f h i v b l e g r o = ap (freeFrom f s t n h i) (sym e) ∙ held f h i v true l g (sym r ∙ o)
+  pub free-met : (f h i v : ℕ) (b : Bool) → 0 < f → v ≡ getD t i 0 → (v ≡ 0 → ⊥) → b ≡ isOf s t n key g i (v - 1) → b ≡ true → on f h i ≡ cells
+  free-met f h i v b l e d r o = ap (freeFrom f s t n key g h i) (sym e) ∙ held f h i v true l d (sym r ∙ o)
 
-  pub free-on : (f h i v : ℕ) (b : Bool) → 0 < f → v ≡ getD t i 0 → (v ≡ 0 → ⊥) → b ≡ eqName (rawName s (v - 1)) n → b ≡ false → on f h i ≡ on (f - 1) (h / 2) (after h i)
-  free-on f h i v b l e g r o = ap (freeFrom f s t n h i) (sym e) ∙ held f h i v false l g (sym r ∙ o)
+  pub free-on : (f h i v j : ℕ) (b : Bool) → 0 < f → v ≡ getD t i 0 → (v ≡ 0 → ⊥) → b ≡ isOf s t n key g i (v - 1) → b ≡ false → j ≡ after key h i → on f h i ≡ on (f - 1) (h / 2) j
+  free-on f h i v j b l e d r o q = ap (freeFrom f s t n key g h i) (sym e) ∙ held f h i v false l d (sym r ∙ o) ∙ ap (on (f - 1) (h / 2)) (sym q)
+
+pub free-on-way : (s t : List ℕ) (n : Name) (key g h i : ℕ) → g ≡ tag h → i ≡ first key h → freeFrom 256 s t n key g (h / cells) i (getD t i 0) ≡ freeOn s t key n h
+unfolding freeOn
+free-on-way s t n key g h i d e = ap (λ x. freeFrom 256 s t n key x (h / cells) i (getD t i 0)) d ∙ ap (λ x. freeFrom 256 s t n key (tag h) (h / cells) x (getD t x 0)) e
 
 pub telling-is : (t : List ℕ) (v : ℕ) → v ≡ getD t 32768 0 → eqb (length t) 32769 && eqb v 0 ≡ telling t
 unfolding telling
@@ -83,77 +120,175 @@ pub telling-long : (t : List ℕ) → telling t ≡ true → (length t ≡ 32769
 unfolding telling
 telling-long t e = let z = and-eq-true-iff _ _ .0 e in (eqb-true (length t) 32769 (z .0), eqb-true (getD t 32768 0) 0 (z .1))
 
+-- CELLS OF A WAY
+
+-- where there is no key, cells of ways are even
+unfoldable odd : ℕ → ℕ → ℕ
+odd key i = cond (eqb key 0) (i % 2) 0
+
+odd-first : (key h : ℕ) → odd key (first key h) ≡ 0
+unfolding odd first
+odd-first key h = go (eqb key 0)
+  where
+    go : (b : Bool) → cond b (cond b (2 * (h % 16384)) (h % cells) % 2) 0 ≡ 0
+    go true = omega arith
+    go false = refl
+
+odd-after : (key h i : ℕ) → odd key i ≡ 0 → odd key (after key h i) ≡ 0
+unfolding odd after
+odd-after key h i e = go (eqb key 0) e
+  where
+    go : (b : Bool) → cond b (i % 2) 0 ≡ 0 → cond b (cond b ((i + 2 * (2 * (h % 16384) + 1)) % cells) ((i + (2 * (h % 16384) + 1)) % cells) % 2) 0 ≡ 0
+    go true e = omega arith
+    go false e = refl
+
+first-less : (key h : ℕ) → first key h < cells
+unfolding first
+first-less key h = go (eqb key 0)
+  where
+    go : (b : Bool) → cond b (2 * (h % 16384)) (h % cells) < cells
+    go true = omega arith
+    go false = omega arith
+
+after-less : (key h i : ℕ) → after key h i < cells
+unfolding after
+after-less key h i = go (eqb key 0)
+  where
+    go : (b : Bool) → cond b ((i + 2 * (2 * (h % 16384) + 1)) % cells) ((i + (2 * (h % 16384) + 1)) % cells) < cells
+    go true = omega arith
+    go false = omega arith
+
 -- A NAME THAT GETS A CELL
 
 pub gets-few : (i p : ℕ) → ltb i 32768 && ltb p 65535 ≡ true → (i < 32768) × (p < 65535)
 gets-few i p e = let z = and-eq-true-iff _ _ .0 e in (ltb-true i 32768 (z .0), ltb-true p 65535 (z .1))
 
-pub entered-cell : (t : List ℕ) (i p : ℕ) → ltb i 32768 && ltb p 65535 ≡ true → (set t i (p + 1) ≡ entered i p t) × (true ≡ gets i p)
-unfolding entered gets
-entered-cell t i p e = (rw e, sym e)
+pub tagged-plain : (key g h i : ℕ) (t : List ℕ) → key ≡ 0 → g ≡ tag h → set t (i + 1) g ≡ tagged key (tag h) i t
+unfolding tagged
+tagged-plain key g h i t e d = rw (eq-eqb key 0 e) (ap (set t (i + 1)) d)
 
-pub entered-none : (t : List ℕ) (i p : ℕ) → ltb i 32768 && ltb p 65535 ≡ false → (set t 32768 1 ≡ entered i p t) × (false ≡ gets i p)
-unfolding entered gets
-entered-none t i p e = (rw e, sym e)
+pub tagged-keyed : (key g i : ℕ) (t : List ℕ) → (key ≡ 0 → ⊥) → t ≡ tagged key g i t
+unfolding tagged
+tagged-keyed key g i t d = rw (ne-eqb key 0 d)
 
-module _ (s t t′ : List ℕ) (j p : ℕ) (few : j < cells) (free : getD t j 0 ≡ 0) (others : (k : ℕ) → (k ≡ j → ⊥) → getD t′ k 0 ≡ getD t k 0) where
+pub entered-cell : (t t′ : List ℕ) (key g i p : ℕ) → t′ ≡ tagged key g i (set t i (p + 1)) → ltb i 32768 && ltb p 65535 ≡ true → (t′ ≡ entered key g i p t) × (true ≡ gets i p)
+unfolding entered gets
+entered-cell t t′ key g i p d e = (rw e d, sym e)
+
+pub entered-none : (t : List ℕ) (key g i p : ℕ) → ltb i 32768 && ltb p 65535 ≡ false → (set t 32768 1 ≡ entered key g i p t) × (false ≡ gets i p)
+unfolding entered gets
+entered-none t key g i p e = (rw e, sym e)
+
+-- a name more in the cell j, which was free
+module _ (s t : List ℕ) (key j p g : ℕ) (few : j < cells) (long : length t ≡ cells + 1) (even : odd key j ≡ 0) (free : getD t j 0 ≡ 0) where
+  abbrev more : List ℕ
+  more = tagged key g j (set t j (p + 1))
+
+  -- other cells stay
+  others : (k : ℕ) → odd key k ≡ 0 → (k ≡ j → ⊥) → getD more k 0 ≡ getD t k 0
+  unfolding odd tagged
+  others k o d = go (eqb key 0) o even
+    where
+      go : (b : Bool) → cond b (k % 2) 0 ≡ 0 → cond b (j % 2) 0 ≡ 0 → getD (cond b (set (set t j (p + 1)) (j + 1) g) (set t j (p + 1))) k 0 ≡ getD t k 0
+      go true o e = getD-set-other (set t j (p + 1)) (j + 1) k g 0 (λ (q : k ≡ j + 1). omega arith) ∙ getD-set-other t j k (p + 1) 0 d
+      go false o e = getD-set-other t j k (p + 1) 0 d
+
+  own : getD more j 0 ≡ suc p
+  unfolding tagged
+  own = go (eqb key 0)
+    where
+      same : getD (set t j (p + 1)) j 0 ≡ suc p
+      same = getD-set-same t j (p + 1) 0 (omega (arith, long, few)) ∙ add-one p
+
+      go : (b : Bool) → getD (cond b (set (set t j (p + 1)) (j + 1) g) (set t j (p + 1))) j 0 ≡ suc p
+      go true = getD-set-other (set t j (p + 1)) (j + 1) j g 0 (λ (q : j ≡ j + 1). omega arith) ∙ same
+      go false = same
+
   -- a cell that was taken is another one, and stays
-  other : (i k : ℕ) → getD t i 0 ≡ suc k → getD t′ i 0 ≡ suc k
-  other i k e = others i (λ (g : i ≡ j). let z : suc k ≡ 0 = sym e ∙ ap (λ y. getD t y 0) g ∙ free in omega arith) ∙ e
+  apart : (i w : ℕ) → getD t i 0 ≡ suc w → i ≡ j → ⊥
+  apart i w e d = let z : suc w ≡ 0 = sym e ∙ ap (λ y. getD t y 0) d ∙ free in omega arith
 
   module _ (n : Name) where
+    -- and so does its tag
+    of-others : (x k w : ℕ) → odd key k ≡ 0 → (k ≡ j → ⊥) → isOf s more n key x k w ≡ isOf s t n key x k w
+    unfolding isOf odd tagged
+    of-others x k w o d = go (eqb key 0) o even
+      where
+        go : (b : Bool) → cond b (k % 2) 0 ≡ 0 → cond b (j % 2) 0 ≡ 0
+            → cond (b && not (eqb (getD (cond b (set (set t j (p + 1)) (j + 1) g) (set t j (p + 1))) (k + 1) 0) x)) false (eqName (rawName s w) n) ≡ cond (b && not (eqb (getD t (k + 1) 0) x)) false (eqName (rawName s w) n)
+        go true o e = ap (λ y. cond (not (eqb y x)) false (eqName (rawName s w) n))
+            (getD-set-other (set t j (p + 1)) (j + 1) (k + 1) g 0 (λ (q : k + 1 ≡ j + 1). d (omega arith)) ∙ getD-set-other t j (k + 1) (p + 1) 0 (λ (q : k + 1 ≡ j). omega arith))
+        go false o e = refl
+
+    of-own : eqName (rawName s p) n ≡ true → isOf s more n key g j p ≡ true
+    unfolding isOf tagged
+    of-own a = go (eqb key 0)
+      where
+        go : (b : Bool) → cond (b && not (eqb (getD (cond b (set (set t j (p + 1)) (j + 1) g) (set t j (p + 1))) (j + 1) 0) g)) false (eqName (rawName s p) n) ≡ true
+        go true =
+            ap (λ y. cond (not (eqb y g)) false (eqName (rawName s p) n)) (getD-set-same (set t j (p + 1)) (j + 1) g 0 (omega (arith, long, few, length-set t j (p + 1))))
+            ∙ ap (λ (y : Bool). cond (not y) false (eqName (rawName s p) n)) (eq-eqb g g refl)
+            ∙ a
+        go false = a
+
     -- who found no free cell finds none now
-    stays : (f h i : ℕ) → i < cells → freeFrom f s t n h i (getD t i 0) ≡ cells → freeFrom f s t′ n h i (getD t′ i 0) ≡ cells
+    stays : (x f h i : ℕ) → i < cells → odd key i ≡ 0 → freeFrom f s t n key x h i (getD t i 0) ≡ cells → freeFrom f s more n key x h i (getD more i 0) ≡ cells
     unfolding freeFrom
-    stays zero h i l e = refl
-    stays (suc f) h i l e = go (getD t i 0) refl (stays f (h / 2) (after h i) (omega arith)) e
+    stays x zero h i l o e = refl
+    stays x (suc f) h i l o e = go (getD t i 0) refl (stays x f (h / 2) (after key h i) (after-less key h i) (odd-after key h i o)) e
       where
         Next : Type 0
-        Next = freeFrom f s t n (h / 2) (after h i) (getD t (after h i) 0) ≡ cells → freeFrom f s t′ n (h / 2) (after h i) (getD t′ (after h i) 0) ≡ cells
+        Next = freeFrom f s t n key x (h / 2) (after key h i) (getD t (after key h i) 0) ≡ cells → freeFrom f s more n key x (h / 2) (after key h i) (getD more (after key h i) 0) ≡ cells
 
-        met : (b : Bool) → Next → cond b cells (freeFrom f s t n (h / 2) (after h i) (getD t (after h i) 0)) ≡ cells → cond b cells (freeFrom f s t′ n (h / 2) (after h i) (getD t′ (after h i) 0)) ≡ cells
-        met true ih g = refl
-        met false ih g = ih g
+        met : (b : Bool) → Next → cond b cells (freeFrom f s t n key x (h / 2) (after key h i) (getD t (after key h i) 0)) ≡ cells → cond b cells (freeFrom f s more n key x (h / 2) (after key h i) (getD more (after key h i) 0)) ≡ cells
+        met true ih y = refl
+        met false ih y = ih y
 
-        go : (w : ℕ) → getD t i 0 ≡ w → Next → freeFrom (suc f) s t n h i w ≡ cells → freeFrom (suc f) s t′ n h i (getD t′ i 0) ≡ cells
-        go zero q ih g = absurd (omega arith)
-        go (suc k) q ih g = ap (freeFrom (suc f) s t′ n h i) (other i k q) ∙ met (eqName (rawName s k) n) ih g
+        go : (w : ℕ) → getD t i 0 ≡ w → Next → freeFrom (suc f) s t n key x h i w ≡ cells → freeFrom (suc f) s more n key x h i (getD more i 0) ≡ cells
+        go zero q ih y = absurd (omega arith)
+        go (suc w) q ih y =
+            ap (freeFrom (suc f) s more n key x h i) (others i o (apart i w q) ∙ q)
+            ∙ ap (λ (b : Bool). cond b cells (freeFrom f s more n key x (h / 2) (after key h i) (getD more (after key h i) 0))) (of-others x i w o (apart i w q))
+            ∙ met (isOf s t n key x i w) ih y
 
     -- the name whose cell it was meets itself there
-    meets : getD t′ j 0 ≡ suc p → eqName (rawName s p) n ≡ true → (f h i : ℕ) → freeFrom f s t n h i (getD t i 0) ≡ j → freeFrom f s t′ n h i (getD t′ i 0) ≡ cells
+    meets : eqName (rawName s p) n ≡ true → (f h i : ℕ) → odd key i ≡ 0 → freeFrom f s t n key g h i (getD t i 0) ≡ j → freeFrom f s more n key g h i (getD more i 0) ≡ cells
     unfolding freeFrom
-    meets a b zero h i e = refl
-    meets a b (suc f) h i e = go (getD t i 0) refl (meets a b f (h / 2) (after h i)) e
+    meets a zero h i o e = refl
+    meets a (suc f) h i o e = go (getD t i 0) refl (meets a f (h / 2) (after key h i) (odd-after key h i o)) e
       where
         Next : Type 0
-        Next = freeFrom f s t n (h / 2) (after h i) (getD t (after h i) 0) ≡ j → freeFrom f s t′ n (h / 2) (after h i) (getD t′ (after h i) 0) ≡ cells
+        Next = freeFrom f s t n key g (h / 2) (after key h i) (getD t (after key h i) 0) ≡ j → freeFrom f s more n key g (h / 2) (after key h i) (getD more (after key h i) 0) ≡ cells
 
-        met : (c : Bool) → Next → cond c cells (freeFrom f s t n (h / 2) (after h i) (getD t (after h i) 0)) ≡ j → cond c cells (freeFrom f s t′ n (h / 2) (after h i) (getD t′ (after h i) 0)) ≡ cells
-        met true ih g = refl
-        met false ih g = ih g
+        met : (b : Bool) → Next → cond b cells (freeFrom f s t n key g (h / 2) (after key h i) (getD t (after key h i) 0)) ≡ j → cond b cells (freeFrom f s more n key g (h / 2) (after key h i) (getD more (after key h i) 0)) ≡ cells
+        met true ih y = refl
+        met false ih y = ih y
 
-        go : (w : ℕ) → getD t i 0 ≡ w → Next → freeFrom (suc f) s t n h i w ≡ j → freeFrom (suc f) s t′ n h i (getD t′ i 0) ≡ cells
-        go zero q ih g =
-            ap (freeFrom (suc f) s t′ n h i) (ap (λ y. getD t′ y 0) g ∙ a)
-            ∙ ap (λ (c : Bool). cond c cells (freeFrom f s t′ n (h / 2) (after h i) (getD t′ (after h i) 0))) b
-        go (suc k) q ih g = ap (freeFrom (suc f) s t′ n h i) (other i k q) ∙ met (eqName (rawName s k) n) ih g
+        go : (w : ℕ) → getD t i 0 ≡ w → Next → freeFrom (suc f) s t n key g h i w ≡ j → freeFrom (suc f) s more n key g h i (getD more i 0) ≡ cells
+        go zero q ih y =
+            ap (freeFrom (suc f) s more n key g h i) (ap (λ k. getD more k 0) y ∙ own)
+            ∙ ap (λ (b : Bool). cond b cells (freeFrom f s more n key g (h / 2) (after key h i) (getD more (after key h i) 0))) (ap (λ k. isOf s more n key g k p) y ∙ of-own a)
+        go (suc w) q ih y =
+            ap (freeFrom (suc f) s more n key g h i) (others i o (apart i w q) ∙ q)
+            ∙ ap (λ (b : Bool). cond b cells (freeFrom f s more n key g (h / 2) (after key h i) (getD more (after key h i) 0))) (of-others g i w o (apart i w q))
+            ∙ met (isOf s t n key g i w) ih y
 
--- what is found free is free
-is-free : (s t : List ℕ) (n : Name) (j : ℕ) → j < cells → (f h i : ℕ) → freeFrom f s t n h i (getD t i 0) ≡ j → getD t j 0 ≡ 0
+-- what is found free is free, and a cell of the way
+is-free : (s t : List ℕ) (n : Name) (key g j : ℕ) → j < cells → (f h i : ℕ) → odd key i ≡ 0 → freeFrom f s t n key g h i (getD t i 0) ≡ j → (getD t j 0 ≡ 0) × (odd key j ≡ 0)
 unfolding freeFrom
-is-free s t n j l zero h i e = absurd (omega arith)
-is-free s t n j l (suc f) h i e = go (getD t i 0) refl (is-free s t n j l f (h / 2) (after h i)) e
+is-free s t n key g j l zero h i o e = absurd (omega arith)
+is-free s t n key g j l (suc f) h i o e = go (getD t i 0) refl (is-free s t n key g j l f (h / 2) (after key h i) (odd-after key h i o)) e
   where
     Next : Type 0
-    Next = freeFrom f s t n (h / 2) (after h i) (getD t (after h i) 0) ≡ j → getD t j 0 ≡ 0
+    Next = freeFrom f s t n key g (h / 2) (after key h i) (getD t (after key h i) 0) ≡ j → (getD t j 0 ≡ 0) × (odd key j ≡ 0)
 
-    met : (b : Bool) → Next → cond b cells (freeFrom f s t n (h / 2) (after h i) (getD t (after h i) 0)) ≡ j → getD t j 0 ≡ 0
-    met true ih g = absurd (omega arith)
-    met false ih g = ih g
+    met : (b : Bool) → Next → cond b cells (freeFrom f s t n key g (h / 2) (after key h i) (getD t (after key h i) 0)) ≡ j → (getD t j 0 ≡ 0) × (odd key j ≡ 0)
+    met true ih y = absurd (omega arith)
+    met false ih y = ih y
 
-    go : (w : ℕ) → getD t i 0 ≡ w → Next → freeFrom (suc f) s t n h i w ≡ j → getD t j 0 ≡ 0
-    go zero q ih g = ap (λ y. getD t y 0) (sym g) ∙ q
-    go (suc k) q ih g = met (eqName (rawName s k) n) ih g
+    go : (w : ℕ) → getD t i 0 ≡ w → Next → freeFrom (suc f) s t n key g h i w ≡ j → (getD t j 0 ≡ 0) × (odd key j ≡ 0)
+    go zero q ih y = (ap (λ k. getD t k 0) (sym y) ∙ q, ap (odd key) (sym y) ∙ o)
+    go (suc w) q ih y = met (isOf s t n key g i w) ih y
 
 -- NAMES ONE AFTER THE OTHER
 
@@ -165,14 +300,23 @@ pub tells-not : (s : List ℕ) (q n key : ℕ) (t : List ℕ) → telling t ≡ 
 unfolding Tells
 tells-not s q n key t e o y m = absurd (let z : _≡_ {A = ℕ} 0 1 = cc in omega arith)
 
-module _ (s : List ℕ) (q n p to key : ℕ) (t : List ℕ) (f : Follows s q n p to) (r : Tells s q n key t) (o : telling t ≡ true) (i : ℕ) (e : i ≡ freeCell s t key (rawName s p)) where
+module _ (s : List ℕ) (q n p to key : ℕ) (t : List ℕ) (f : Follows s q n p to) (r : Tells s q n key t) (o : telling t ≡ true) (x : Name) (a : x ≡ rawName s p) (h : ℕ) (b : h ≡ way key x) (i : ℕ) (e : i ≡ freeOn s t key x h) where
+  abbrev its : ℕ
+  its = way key (rawName s p)
+
+  way-is : h ≡ its
+  way-is = b ∙ ap (way key) a
+
+  cell-is : i ≡ freeCell s t key (rawName s p)
+  cell-is = e ∙ ap (λ (y : Name). freeOn s t key y h) a ∙ ap (freeOn s t key (rawName s p)) way-is
+
   -- a name that gets a cell is new
   pub tells-new : gets i p ≡ true → oneOf s p n q ≡ false
   unfolding Tells oneOf gets
   tells-new g = go (member (rawName s p) (rawNames s n q)) refl
     where
       go : (b : Bool) → member (rawName s p) (rawNames s n q) ≡ b → b ≡ false
-      go true m = absurd (omega (arith, e ∙ r o (rawName s p) m, gets-few i p g .0))
+      go true m = absurd (omega (arith, cell-is ∙ r o (rawName s p) m, gets-few i p g .0))
       go false m = refl
 
   raw-more : rawNames s (n + 1) q ≡ rawNames s n q ++ (rawName s p ∷ [])
@@ -180,44 +324,40 @@ module _ (s : List ℕ) (q n p to key : ℕ) (t : List ℕ) (f : Follows s q n p
 
   -- where it gets one, the names before it and itself find no free cell
   module _ (g : gets i p ≡ true) where
-    abbrev more : List ℕ
-    more = set t i (p + 1)
+    abbrev next : List ℕ
+    next = tagged key (tag its) i (set t i (p + 1))
 
     few : i < cells
     unfolding gets
     few = gets-few i p g .0
 
-    free : getD t i 0 ≡ 0
-    unfolding freeCell
-    free = is-free s t (rawName s p) i few 256 _ _ (sym e)
+    found : (getD t i 0 ≡ 0) × (odd key i ≡ 0)
+    unfolding freeOn
+    found = is-free s t (rawName s p) key (tag its) i few 256 _ _ (odd-first key its) (sym cell-is)
 
-    others : (k : ℕ) → (k ≡ i → ⊥) → getD more k 0 ≡ getD t k 0
-    others k d = getD-set-other t i k (p + 1) 0 d
+    old : (y : Name) → member y (rawNames s n q) ≡ true → freeCell s next key y ≡ cells
+    unfolding freeOn Tells
+    old y m = let w = way key y in stays s t key i p (tag its) few (telling-long t o .0) (found .1) (found .0) y (tag w) 256 (w / cells) (first key w) (first-less key w) (odd-first key w) (r o y m)
 
-    old : (y : Name) → member y (rawNames s n q) ≡ true → freeCell s more key y ≡ cells
-    unfolding freeCell Tells
-    old y m = stays s t more i p few free others y 256 (way key y / cells) (way key y % cells) (omega arith) (r o y m)
+    itself : freeCell s next key (rawName s p) ≡ cells
+    unfolding freeOn
+    itself = let y = rawName s p in meets s t key i p (tag its) few (telling-long t o .0) (found .1) (found .0) y (eqName-refl y) 256 (its / cells) (first key its) (odd-first key its) (sym cell-is)
 
-    itself : freeCell s more key (rawName s p) ≡ cells
-    unfolding freeCell
-    itself =
-        let x = rawName s p in
-        meets s t more i p few free others x (getD-set-same t i (p + 1) 0 (omega (arith, few, telling-long t o .0)) ∙ add-one p) (eqName-refl x) 256 (way key x / cells) (way key x % cells) (sym e)
-
-    told : (y : Name) → member y (rawNames s n q) || member y (rawName s p ∷ []) ≡ true → freeCell s more key y ≡ cells
+    told : (y : Name) → member y (rawNames s n q) || member y (rawName s p ∷ []) ≡ true → freeCell s next key y ≡ cells
     unfolding member
     told y m = pick (member y (rawNames s n q)) (eqName y (rawName s p)) refl refl m
       where
-        pick : (a b : Bool) → member y (rawNames s n q) ≡ a → eqName y (rawName s p) ≡ b → a || (b || false) ≡ true → freeCell s more key y ≡ cells
-        pick true b x z w = old y x
-        pick false true x z w = subst (λ (v : Name). freeCell s more key v ≡ cells) (sym (eqName-true y (rawName s p) z)) itself
-        pick false false x z w = absurd (let v : _≡_ {A = ℕ} 0 1 = cc in omega arith)
+        pick : (a b : Bool) → member y (rawNames s n q) ≡ a → eqName y (rawName s p) ≡ b → a || (b || false) ≡ true → freeCell s next key y ≡ cells
+        pick true b u z w = old y u
+        pick false true u z w = subst (λ (v : Name). freeCell s next key v ≡ cells) (sym (eqName-true y (rawName s p) z)) itself
+        pick false false u z w = absurd (let v : _≡_ {A = ℕ} 0 1 = cc in omega arith)
 
   -- the table with a cell more, or given up
-  pub tells-more : Tells s q (n + 1) key (entered i p t)
-  unfolding Tells entered
-  tells-more = go (gets i p) refl
-    where
-      go : (b : Bool) → gets i p ≡ b → telling (cond b (set t i (p + 1)) (set t cells 1)) ≡ true → (y : Name) → member y (rawNames s (n + 1) q) ≡ true → freeCell s (cond b (set t i (p + 1)) (set t cells 1)) key y ≡ cells
-      go false g u y m = absurd (omega (arith, telling-long (set t cells 1) u .1, getD-set-same t cells 1 0 (omega (arith, telling-long t o .0))))
-      go true g u y m = told g y (sym (member-either y (rawNames s n q) (rawName s p ∷ [])) ∙ sym (ap (member y) raw-more) ∙ m)
+  by-gets : (b : Bool) → gets i p ≡ b → Tells s q (n + 1) key (cond b (tagged key (tag its) i (set t i (p + 1))) (set t cells 1))
+  unfolding Tells
+  by-gets false g v y m = absurd (omega (arith, telling-long (set t cells 1) v .1, getD-set-same t cells 1 0 (omega (arith, telling-long t o .0))))
+  by-gets true g v y m = told g y (sym (member-either y (rawNames s n q) (rawName s p ∷ [])) ∙ sym (ap (member y) raw-more) ∙ m)
+
+  pub tells-more : (t′ : List ℕ) → t′ ≡ entered key (tag h) i p t → Tells s q (n + 1) key t′
+  unfolding entered
+  tells-more t′ c = subst (Tells s q (n + 1) key) (sym (c ∙ ap (λ y. cond (gets i p) (tagged key (tag y) i (set t i (p + 1))) (set t cells 1)) way-is)) (by-gets (gets i p) refl)

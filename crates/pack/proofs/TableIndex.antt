@@ -75,7 +75,7 @@ put-drop : (t : List ℕ) (i v p : ℕ) → i + 1 < p → drop p (putWord t i v)
 unfolding putWord
 put-drop t i v p h = drop-set-lt p (set t i (v % 256)) (i + 1) (v / 256 % 256) h ∙ drop-set-lt p t i (v % 256) (omega arith)
 
-pub word-append : (t x : List ℕ) (i : ℕ) → i + 1 < length t → word (t ++ x) i ≡ word t i
+word-append : (t x : List ℕ) (i : ℕ) → i + 1 < length t → word (t ++ x) i ≡ word t i
 unfolding word
 word-append t x i h =
     ap (λ y. y + 256 * getD (t ++ x) (i + 1) 0) (List·getD-append t x 0 i (omega arith))

@@ -4,13 +4,13 @@ use native.Mathlib.Omega.{arith}
 use mathlib.Core.Bool.{true, false, cond, _&&_}
 use mathlib.Core.Logic.{⊎-elim}
 use mathlib.Core.Path.{_≡_, refl, sym, ap, _∙_}
-use mathlib.Core.List.{List, [], _∷_, _++_}
-use lib.ListN.{length, take, drop, getD, drop-of-length-le, length-append, length-drop, length-take, take-append-drop, List·getD-append}
-use lib.Seq.{drop-append-add, drop-length, getD-append-add, take-all}
-use lib.Dec.{ltb}
+use mathlib.Core.List.{List, [], _∷_}
+use lib.ListN.{length, take, drop, getD, drop-of-length-le, length-drop, length-take}
+use lib.Seq.{drop-length, take-all}
+use lib.Dec.{leb, ltb}
 use denote.Enum.Declared.{tagOf}
 use types.Run.{OneOf}
-use borrow.Author.Tests.{lt-ltb, le-ltb, le-leb, lt-leb}
+use borrow.Author.Tests.{lt-ltb, le-ltb}
 use Rattle.wire.proofs.Writers.{lt-or-le, take-capped}
 use Rattle.pack.specs.Names.{Name, eqName}
 use Rattle.pack.specs.RawNames.{rawName}
@@ -19,8 +19,7 @@ use Rattle.pack.specs.declared.table.Place.{Place}
 use Rattle.pack.specs.declared.table.Place.the-variants as pl
 use Rattle.pack.specs.Table.{table, rowsMost, cells, textsFrom, cellAt, spotAt, below, word, putWord, further, textOf, placeFrom, placeOf, foundIn, seek, numberIn, isFree, spare, inIndex, cellFor, linked, linkedAt, noted}
 use Rattle.pack.proofs.table.Place as Place-enum
-use Rattle.pack.proofs.TableIndex.{texts-is, word-append}
-use Rattle.pack.proofs.Interns.{and-false, found-number}
+use Rattle.pack.proofs.Interns.{found-number}
 
 -- the way down, further
 pub further-on : (n : Name) (f h : ℕ) → 4 ≤ h → h / 2 ≡ further n f h
@@ -46,26 +45,6 @@ text-part t p l b e h i j =
     ∙ take-capped t b l (omega arith)
     ∙ ap (take l) (drop-part t (p + 1) b i)
     ∙ ap (λ y. take y (drop (p + 1) t)) h
-
--- the bytes of two lists, one after the other
-module _ (t x : List ℕ) where
-  pub byte-first : (i : ℕ) → i < length t → getD t i 0 ≡ getD (t ++ x) i 0
-  byte-first i h = sym (List·getD-append t x 0 i h)
-
-  pub byte-second : (i : ℕ) → length t ≤ i → getD x (i - length t) 0 ≡ getD (t ++ x) i 0
-  byte-second i h = let z : length t + (i - length t) ≡ i = omega arith in sym (getD-append-add t x (i - length t) 0) ∙ ap (λ k. getD (t ++ x) k 0) z
-
-  -- a name of the second
-  pub text-second : (p : ℕ) → length t ≤ p → rawName x (p - length t) ≡ rawName (t ++ x) p
-  unfolding rawName
-  text-second p h =
-      let z : length t + (p - length t + 1) ≡ p + 1 = omega arith in
-      ap (λ k. take k (drop (p - length t + 1) x)) (byte-second p h)
-      ∙ ap (take (getD (t ++ x) p 0)) (sym (drop-append-add t x (p - length t + 1)) ∙ ap (λ k. drop k (t ++ x)) z)
-
--- a list in two parts
-pub halves : (t : List ℕ) (b : ℕ) → take b t ++ take (length t - b) (drop b t) ≡ t
-halves t b = ap (λ (y : List ℕ). take b t ++ y) (take-all (length t - b) (drop b t) (omega (arith, length-drop b t))) ∙ take-append-drop b t
 
 -- a tree, by what the cell i holds
 pub place-spent : (f : ℕ) (t : List ℕ) (n : Name) (h i w : ℕ) → f ≤ 0 → placeFrom f t n h i w ≡ pl.Lost
@@ -131,19 +110,10 @@ pub seek-found : (t : List ℕ) (n : Name) (c : ℕ) (p : Place) → c ≤ 17408
 unfolding seek rowsMost
 seek-found t n c p h e q = rw (sym e, le-ltb 17408 c h, q)
 
-ltb-add : (k a b : ℕ) → ltb (k + a) (k + b) ≡ ltb a b
-ltb-add k a b = ⊎-elim
-    (λ (h : a < b). lt-ltb (k + a) (k + b) (omega arith) ∙ sym (lt-ltb a b h))
-    (λ (h : b ≤ a). le-ltb (k + a) (k + b) (omega arith) ∙ sym (le-ltb a b h))
-    (lt-or-le a b)
-
 -- whether there is room for one name more
-pub spare-by : (t x : List ℕ) (c : ℕ) → length t ≡ textsFrom → c ≡ word t 0 → ltb c 17408 && ltb (length x) 65536 ≡ spare (t ++ x)
-unfolding spare rowsMost
-spare-by t x c l e =
-    let w : word (t ++ x) 0 ≡ c = word-append t x 0 (omega (arith, texts-is)) ∙ sym e in
-    let z : length (t ++ x) ≡ textsFrom + length x = length-append t x ∙ ap (λ k. k + length x) l in
-    rw (w, z, le-leb textsFrom (textsFrom + length x) (omega arith), ltb-add textsFrom (length x) 65536)
+pub spare-is : (t : List ℕ) (c : ℕ) → c ≡ word t 0 → ltb c 17408 && (leb 120834 (length t) && ltb (length t) 186370) ≡ spare t
+unfolding spare rowsMost textsFrom
+spare-is t c e = ap (λ k. ltb k 17408 && (leb 120834 (length t) && ltb (length t) 186370)) e
 
 -- the cell for a name
 module _ (t : List ℕ) (n : Name) where
@@ -154,10 +124,6 @@ module _ (t : List ℕ) (n : Name) where
   pub cell-none : spare t ≡ false → pl.Lost ≡ cellFor t n
   unfolding cellFor
   cell-none e = rw e
-
-  pub cell-short : length t < textsFrom → pl.Lost ≡ cellFor t n
-  unfolding spare
-  cell-short h = cell-none (rw (lt-leb textsFrom (length t) h) (and-false (ltb (word t 0) rowsMost) refl))
 
 -- the arms of a match on a place but for `Free`
 pub not-free : (p : Place) → OneOf (0 ∷ 2 ∷ []) (tagOf Place-enum.the-type p) → isFree p ≡ false

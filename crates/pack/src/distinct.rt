@@ -5,9 +5,9 @@ use crate::siphash::hash;
 use crate::siphash::last;
 use crate::siphash::quad;
 ghost use mathlib.Core.Path.{_≡_};
-ghost use Prim.Native.Nat.{_+_, _*_, _<_, _/_, _%_};
+ghost use Prim.Native.Nat.{_+_, _<_};
 ghost use lib.ListN.{length, getD};
-ghost use Rattle.pack.specs.Distinct.{letters as lettersOf, product as productOf, way as wayOf, freeFrom, freeCell, telling as tellingIn, gets, entered};
+ghost use Rattle.pack.specs.Distinct.{letters as lettersOf, product as productOf, keyFor, way as wayOf, tag as tagOf, first as firstOf, after as afterOf, isOf, freeFrom, freeOn, telling as tellingIn, gets, tagged, entered};
 
 // How many cells there are.
 pub const CELLS: usize = 32768;
@@ -34,46 +34,105 @@ fn product(key: usize, c: usize) -> usize
     x * y
 }
 
+// The key for the last eight letters of a name: of a longer one, the key with its first eight.
+fn key_for(key: usize, n: &[u8]) -> usize
+    ensures { λ r. ⌜ r ≡ keyFor key (now (n .entry)) ⌝ }
+{
+    if 8 < n.len() {
+        return product(key, letters(&n[..8]));
+    }
+    key
+}
+
 // The way of a name.
-fn way(key: usize, n: &[u8]) -> usize
+pub fn way(key: usize, n: &[u8]) -> usize
     ensures { λ r. ⌜ r ≡ wayOf key (now (n .entry)) ⌝ }
 {
-    if (key == 0) | (8 < n.len()) {
+    if (key == 0) | (16 < n.len()) {
         return hash(n);
     }
-    let h = product(key, letters(n));
+    let h = product(key_for(key, n), letters(n));
     h / 4294967296 + h % 4294967296
 }
 
-// The free cell for the name n of s on a way of which `way` is left, from the cell `first` on.
-fn free_from(s: &[u8], t: &[u16], n: &[u8], way: usize, first: usize) -> usize
-    requires { ⌜ first < 32768 ⌝ }
-    ensures { λ r. ⌜ r ≡ freeFrom 256 (now (s .entry)) (now (t .entry)) (now (n .entry)) way first (getD (now (t .entry)) first 0) ⌝ }
+// What is kept of a way.
+fn tag(h: usize) -> usize
+    ensures { λ r. ⌜ (r ≡ tagOf h) × (r < 65536) ⌝ }
+{
+    h / 65536 % 65536
+}
+
+// The first cell of a way.
+fn first(key: usize, h: usize) -> usize
+    ensures { λ r. ⌜ (r ≡ firstOf key h) × (r < 32768) ⌝ }
+{
+    if key == 0 {
+        return 2 * (h % 16384);
+    }
+    h % CELLS
+}
+
+// The cell after i on a way of which h is left.
+fn after(key: usize, h: usize, i: usize) -> usize
+    requires { ⌜ i < 32768 ⌝ }
+    ensures { λ r. ⌜ (r ≡ afterOf key h i) × (r < 32768) ⌝ }
+{
+    let step = 2 * (h % 16384) + 1;
+    if key == 0 {
+        return (i + 2 * step) % CELLS;
+    }
+    (i + step) % CELLS
+}
+
+// Whether the cell i, which is that of the name at p, is that of the name n of s, whose way has the tag g.
+fn is_of(s: &[u8], t: &[u16], n: &[u8], key: usize, g: usize, i: usize, p: usize) -> bool
+    requires { ⌜ (i < 32768) × (p + 1 < 18446744073709551616) ⌝ }
+    ensures { λ r. ⌜ r ≡ isOf (now (s .entry)) (now (t .entry)) (now (n .entry)) key g i p ⌝ }
+{
+    if (key == 0) & (cell(t, i + 1) != g) {
+        return false;
+    }
+    is_at(s, p, n)
+}
+
+// The free cell for the name n of s on a way of which `left` is left, from the cell `start` on.
+fn free_from(
+    s: &[u8],
+    t: &[u16],
+    n: &[u8],
+    key: usize,
+    g: usize,
+    left: usize,
+    start: usize,
+) -> usize
+    requires { ⌜ start < 32768 ⌝ }
+    ensures { λ r. ⌜ r ≡ freeFrom 256 (now (s .entry)) (now (t .entry)) (now (n .entry)) key g left start (getD (now (t .entry)) start 0) ⌝ }
 {
     let mut f: usize = 256;
-    let mut h = way;
-    let mut i = first;
+    let mut h = left;
+    let mut i = start;
     while 0 < f {
         let w = cell(t, i);
         if w == 0 {
             return i;
         }
-        if is_at(s, w - 1, n) {
+        if is_of(s, t, n, key, g, i, w - 1) {
             return CELLS;
         }
-        i = (i + (2 * (h % 16384) + 1)) % CELLS;
+        i = after(key, h, i);
         h = h / 2;
         f = f - 1;
     }
     CELLS
 }
 
-// The free cell for the name n of s.
-pub fn free_cell(s: &[u8], t: &[u16], n: &[u8], key: usize) -> usize
-    ensures { λ r. ⌜ r ≡ freeCell (now (s .entry)) (now (t .entry)) key (now (n .entry)) ⌝ }
+// The free cell for the name n of s, whose way is h.
+pub fn free_cell(s: &[u8], t: &[u16], n: &[u8], key: usize, h: usize) -> usize
+    ensures { λ r. ⌜ r ≡ freeOn (now (s .entry)) (now (t .entry)) key (now (n .entry)) h ⌝ }
 {
-    let h = way(key, n);
-    free_from(s, t, n, h / CELLS, h % CELLS)
+    let g = tag(h);
+    let i = first(key, h);
+    free_from(s, t, n, key, g, h / CELLS, i)
 }
 
 // Whether all names have cells.
@@ -83,13 +142,24 @@ pub fn telling(t: &[u16]) -> bool
     (t.len() == ROOM) & (cell(t, CELLS) == 0)
 }
 
-// The cell i for the name at p. Whether it gets one.
-pub fn enter(t: &mut [u16], i: usize, p: usize) -> bool
+// The tag beside the cell i, where there is no key.
+fn keep_tag(t: &mut [u16], i: usize, key: usize, h: usize)
+    requires { ⌜ (length (now t) ≡ 32769) × (i < 32768) ⌝ }
+    ensures { λ _. ⌜ now (t .exit) ≡ tagged key (tagOf h) i (now (t .entry)) ⌝ }
+{
+    if key == 0 {
+        t[i + 1] = tag(h) as u16;
+    }
+}
+
+// The cell i for the name at p, whose way is h. Whether it gets one.
+pub fn enter(t: &mut [u16], i: usize, key: usize, h: usize, p: usize) -> bool
     requires { ⌜ length (now t) ≡ 32769 ⌝ }
-    ensures { λ r. ⌜ (now (t .exit) ≡ entered i p (now (t .entry))) × (r ≡ gets i p) ⌝ }
+    ensures { λ r. ⌜ (now (t .exit) ≡ entered key (tagOf h) i p (now (t .entry))) × (r ≡ gets i p) ⌝ }
 {
     if (i < CELLS) & (p < 65535) {
         t[i] = (p + 1) as u16;
+        keep_tag(t, i, key, h);
         return true;
     }
     t[CELLS] = 1;

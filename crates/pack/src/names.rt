@@ -3,6 +3,7 @@ use crate::distinct::ROOM;
 use crate::distinct::enter;
 use crate::distinct::free_cell;
 use crate::distinct::telling;
+use crate::distinct::way;
 use crate::intern::same;
 use crate::siphash::hash;
 use wire::answer::Read;
@@ -208,8 +209,9 @@ fn repeated(s: &[u8], q: usize, n: usize, p: usize, next: usize, key: usize, t: 
         return seen(s, p, n, q);
     }
     let b = p + 1;
-    let i = free_cell(s, t, &s[b..next], key);
-    if enter(t, i, p) {
+    let h = way(key, &s[b..next]);
+    let i = free_cell(s, t, &s[b..next], key, h);
+    if enter(t, i, key, h, p) {
         return false;
     }
     seen(s, p, n, q)
@@ -244,27 +246,31 @@ fn few_names(s: &[u8], q: usize, count: usize) -> Skipped
     read_names(s, q, count, 0, &mut none)
 }
 
-// The same with cells of its own.
-fn told_names(s: &[u8], q: usize, count: usize, key: usize) -> Skipped
+// The same with cells.
+fn in_cells(s: &[u8], q: usize, count: usize, key: usize) -> Skipped
     ensures { λ r. ⌜ r ≡ skip (namesAfter (now (s .entry)) [] count q) ⌝ }
 {
     let mut t = [0u16; ROOM];
     read_names(s, q, count, key, &mut t)
 }
 
-// The same of a pack that is short names nearly all, with a key: first those of a part of it, so that one which is refused soon does
-// not wait for the key of all.
-fn keyed_names(s: &[u8], q: usize, count: usize) -> Skipped
+// The same, with a key where names are many and short. First those of `part` bytes, where it is not 0: a pack that is refused soon then
+// does not wait for the key of all. Since it calls itself it is not inlined: cells stand on the stack only while they are used.
+fn told_names(s: &[u8], q: usize, count: usize, part: usize) -> Skipped
+    requires { ⌜ part ≤ length (now s) ⌝ }
     ensures { λ r. ⌜ r ≡ skip (namesAfter (now (s .entry)) [] count q) ⌝ }
 {
-    let m = s.len() / 16;
-    let part = hash(&s[..m]);
-    let r = told_names(&s[..m], q, count, part);
-    let Skipped::Early = r else {
-        return r;
-    };
-    let all = hash(s);
-    told_names(s, q, count, all)
+    if 0 < part {
+        let r = told_names(&s[..part], q, count, 0);
+        let Skipped::Early = r else {
+            return r;
+        };
+    }
+    if count <= s.len() / 17 {
+        return in_cells(s, q, count, 0);
+    }
+    let key = hash(s);
+    in_cells(s, q, count, key)
 }
 
 // The same of many names: first those of a few bytes, for which no cells are laid.
@@ -276,8 +282,8 @@ fn many_names(s: &[u8], q: usize, count: usize) -> Skipped
     let Skipped::Early = r else {
         return r;
     };
-    if s.len() / 10 < count {
-        return keyed_names(s, q, count);
+    if (s.len() / 17 < count) & (8192 < s.len()) {
+        return told_names(s, q, count, s.len() / 16);
     }
     told_names(s, q, count, 0)
 }

@@ -1,5 +1,5 @@
-// A table of names behind an index of trees (specs/Table), so that a name is found without looking at all others. The index is lent
-// as t and the names behind it as x. All is total: a byte past the end is 0, and a store there does nothing.
+// A table of names behind an index of trees (specs/Table), so that a name is found without looking at all others. All is total: a byte
+// past the end is 0, and a store there does nothing.
 use crate::cells::byte_at;
 use crate::cells::set_byte;
 use crate::intern::Found;
@@ -9,14 +9,11 @@ use crate::record::Pack;
 use crate::siphash::hash;
 use crate::siphash::last;
 use wire::writer::capped;
-ghost use mathlib.Core.List.{_++_};
 ghost use mathlib.Core.Path.{_≡_};
 ghost use Prim.Native.Nat.{_+_, _*_, _-_, _/_, _≤_, _<_};
-ghost use lib.ListN.{length, getD};
-ghost use Rattle.pack.specs.Names.{eqName};
-ghost use Rattle.pack.specs.RawNames.{rawName};
+ghost use lib.ListN.{length};
 ghost use Rattle.pack.specs.Intern.{foundOf};
-ghost use Rattle.pack.specs.Table.{word as wordIn, putWord, further as furtherOf, textsFrom, placeFrom, placeOf, Near, cellAt, seek, numberIn, spare as spareIn, inIndex, cellFor, linked, unindexed, linkedAt, noted};
+ghost use Rattle.pack.specs.Table.{word as wordIn, putWord, further as furtherOf, placeFrom, placeOf, Near, cellAt, seek, numberIn, spare as spareIn, inIndex, cellFor, linked, unindexed, linkedAt, noted};
 
 // How many names can have rows.
 const ROWS: usize = 17408;
@@ -38,32 +35,15 @@ pub enum Place {
     Lost,
 }
 
-// A byte of t and x, one after the other.
-fn byte_of(t: &[u8], x: &[u8], i: usize) -> usize
-    ensures { λ r. ⌜ (r ≡ getD (now (t .entry) ++ now (x .entry)) i 0) × (r < 256) ⌝ }
-{
-    if i < t.len() {
-        return t[i] as usize;
-    }
-    byte_at(x, i - t.len())
-}
-
-// 16 bits of t and x. Where both bytes stand in t they are compiled into one load.
-fn word(t: &[u8], x: &[u8], i: usize) -> usize
+// 16 bits of t. Where both bytes are there they are compiled into one load.
+fn word(t: &[u8], i: usize) -> usize
     requires { ⌜ i < 1000000 ⌝ }
-    ensures { λ r. ⌜ (r ≡ wordIn (now (t .entry) ++ now (x .entry)) i) × (r < 65536) ⌝ }
+    ensures { λ r. ⌜ (r ≡ wordIn (now (t .entry)) i) × (r < 65536) ⌝ }
 {
     if i + 1 < t.len() {
         return t[i] as usize + 256 * t[i + 1] as usize;
     }
-    byte_of(t, x, i) + 256 * byte_of(t, x, i + 1)
-}
-
-// How many names have rows.
-fn count(t: &[u8]) -> usize
-    ensures { λ r. ⌜ (r ≡ wordIn (now (t .entry)) 0) × (r < 65536) ⌝ }
-{
-    byte_at(t, 0) + 256 * byte_at(t, 1)
+    byte_at(t, i) + 256 * byte_at(t, i + 1)
 }
 
 fn put_word(t: &mut [u8], i: usize, v: usize)
@@ -72,14 +52,6 @@ fn put_word(t: &mut [u8], i: usize, v: usize)
 {
     set_byte(t, i, (v % 256) as u8);
     set_byte(t, i + 1, (v / 256 % 256) as u8);
-}
-
-// Whether the name whose spot is w is n.
-fn is_text(t: &[u8], x: &[u8], w: usize, n: &[u8]) -> bool
-    requires { ⌜ (length (now t) ≤ textsFrom) × (w < 65536) ⌝ }
-    ensures { λ r. ⌜ r ≡ eqName (rawName (now (t .entry) ++ now (x .entry)) (textsFrom + w)) (now (n .entry)) ⌝ }
-{
-    is_at(x, TEXTS + w - t.len(), n)
 }
 
 // The way h of a name after one step more, after which f are left: the next bit, or the next letter.
@@ -94,21 +66,21 @@ fn further(n: &[u8], f: usize, h: usize) -> usize
 }
 
 // Where a name is from a cell on.
-fn descend(t: &[u8], x: &[u8], n: &[u8], bits: usize, cell: usize) -> Place
-    requires { ⌜ (length (now t) ≤ textsFrom) × (cell < 200000) ⌝ }
-    ensures { λ r. ⌜ (r ≡ placeFrom 17409 (now (t .entry) ++ now (x .entry)) (now (n .entry)) bits cell (wordIn (now (t .entry) ++ now (x .entry)) (cellAt cell))) × Near r ⌝ }
+fn descend(t: &[u8], n: &[u8], bits: usize, cell: usize) -> Place
+    requires { ⌜ cell < 200000 ⌝ }
+    ensures { λ r. ⌜ (r ≡ placeFrom 17409 (now (t .entry)) (now (n .entry)) bits cell (wordIn (now (t .entry)) (cellAt cell))) × Near r ⌝ }
 {
     let mut f = ROWS + 1;
     let mut h = bits;
     let mut i = cell;
     while 0 < f {
-        let w = word(t, x, 2 + 2 * i);
+        let w = word(t, 2 + 2 * i);
         if w == 0 {
             return Place::Free(i);
         }
         let k = w - 1;
-        let p = word(t, x, SPOTS + 2 * k);
-        if is_text(t, x, p, n) {
+        let p = word(t, SPOTS + 2 * k);
+        if is_at(t, TEXTS + p, n) {
             return Place::Taken(k);
         }
         i = HEADS + 2 * k + h % 2;
@@ -119,24 +91,23 @@ fn descend(t: &[u8], x: &[u8], n: &[u8], bits: usize, cell: usize) -> Place
 }
 
 // Where a name is from the head of its number on.
-fn place_of(t: &[u8], x: &[u8], n: &[u8]) -> Place
-    requires { ⌜ length (now t) ≤ textsFrom ⌝ }
-    ensures { λ r. ⌜ (r ≡ placeOf (now (t .entry) ++ now (x .entry)) (now (n .entry))) × Near r ⌝ }
+fn place_of(t: &[u8], n: &[u8]) -> Place
+    ensures { λ r. ⌜ (r ≡ placeOf (now (t .entry)) (now (n .entry))) × Near r ⌝ }
 {
     let h = hash(n);
-    descend(t, x, n, h / HEADS + 2251799813685248, h % HEADS)
+    descend(t, n, h / HEADS + 2251799813685248, h % HEADS)
 }
 
 // The place of the name n in a table with an index.
 pub fn seek_name(t: &[u8], n: &[u8]) -> Found
     ensures { λ r. ⌜ (foundOf r ≡ seek (now (t .entry)) (now (n .entry))) × (numberIn (foundOf r) ≤ 65535 + (length (now (t .entry)) - 65535)) ⌝ }
 {
-    let c = count(t);
-    let b = capped(t.len(), 0, TEXTS);
+    let c = word(t, 0);
     if ROWS < c {
+        let b = capped(t.len(), 0, TEXTS);
         return find_name(&t[b..], n);
     }
-    let p = place_of(&t[..b], &t[b..], n);
+    let p = place_of(t, n);
     match p {
         Place::Taken(k) => Found::At(k),
         Place::Free(_) => Found::Missing(c),
@@ -145,11 +116,10 @@ pub fn seek_name(t: &[u8], n: &[u8]) -> Found
 }
 
 // Whether the number of one name more and its spot fit.
-fn spare(t: &[u8], x: &[u8]) -> bool
-    requires { ⌜ length (now t) ≡ textsFrom ⌝ }
-    ensures { λ r. ⌜ r ≡ spareIn (now (t .entry) ++ now (x .entry)) ⌝ }
+fn spare(t: &[u8]) -> bool
+    ensures { λ r. ⌜ r ≡ spareIn (now (t .entry)) ⌝ }
 {
-    (count(t) < ROWS) & (x.len() < Pack::BYTES)
+    (word(t, 0) < ROWS) & ((TEXTS <= t.len()) & (t.len() < ROOM))
 }
 
 // A cell that the index does not have is none.
@@ -164,12 +134,11 @@ fn in_index(p: Place) -> Place
 }
 
 // The cell for the name n, which comes next.
-fn cell_for(t: &[u8], x: &[u8], n: &[u8]) -> Place
-    requires { ⌜ length (now t) ≡ textsFrom ⌝ }
-    ensures { λ r. ⌜ (r ≡ cellFor (now (t .entry) ++ now (x .entry)) (now (n .entry))) × Near r ⌝ }
+fn cell_for(t: &[u8], n: &[u8]) -> Place
+    ensures { λ r. ⌜ (r ≡ cellFor (now (t .entry)) (now (n .entry))) × Near r ⌝ }
 {
-    if spare(t, x) {
-        return in_index(place_of(t, x, n));
+    if spare(t) {
+        return in_index(place_of(t, n));
     }
     Place::Lost
 }
@@ -179,7 +148,7 @@ fn link(t: &mut [u8], i: usize, p: usize)
     requires { ⌜ i < 200000 ⌝ }
     ensures { λ _. ⌜ now (t .exit) ≡ linked (wordIn (now (t .entry)) 0) i p (now (t .entry)) ⌝ }
 {
-    let c = count(t);
+    let c = word(t, 0);
     put_word(t, SPOTS + 2 * c, p);
     put_word(t, 2 + 2 * i, c + 1);
     put_word(t, 0, c + 1);
@@ -204,22 +173,11 @@ fn link_at(t: &mut [u8], cell: Place, p: usize)
     link(t, i, p);
 }
 
-// The cell for the name n in a table whose names stand behind the index.
-fn cell_in(t: &[u8], n: &[u8]) -> Place
-    ensures { λ r. ⌜ (r ≡ cellFor (now (t .entry)) (now (n .entry))) × Near r ⌝ }
-{
-    if t.len() < TEXTS {
-        return Place::Lost;
-    }
-    let b = TEXTS;
-    cell_for(&t[..b], &t[b..], n)
-}
-
 // A row for the name n, which comes next; without rows for all from then on, where it can have none.
 pub fn note(t: &mut [u8], n: &[u8])
     ensures { λ _. ⌜ now (t .exit) ≡ noted (now (n .entry)) (now (t .entry)) ⌝ }
 {
-    let cell = cell_in(t, n);
+    let cell = cell_for(t, n);
     let b = capped(t.len(), 0, TEXTS);
     let p = t.len() - b;
     link_at(t, cell, p);

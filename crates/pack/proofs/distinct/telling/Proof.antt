@@ -10,4 +10,8 @@ returns : tie.Need-returns
 returns c = telling-is _ _ (c .cell .ensures)
 
 pub telling-spec : {M : Type 1} → statement M
-telling-spec = tie.close (tie.spec cell-requires returns)
+telling-spec =
+    tie.close
+    (tie.spec
+    cell-requires
+    returns)

@@ -9,6 +9,9 @@ hash-requires c κs = search needs
 returns : tie.Need-returns
 returns c = way-hash _ _ _ (c .before .if1 .taken) (c .hash .ensures)
 
+key-for-requires : tie.Need-key-for-requires
+key-for-requires c κs = search needs
+
 letters-requires : tie.Need-letters-requires
 letters-requires c κs = search needs
 
@@ -19,7 +22,16 @@ add-result : tie.Need-add-result
 add-result c = search needs
 
 returns-2 : tie.Need-returns-2
-returns-2 c = way-product _ _ _ _ (c .before .before .if1 .left) (c .before .letters .ensures) (c .product .ensures)
+returns-2 c = way-product _ _ _ _ _ (c .before .before .before .if1 .left) (c .before .before .key-for .ensures) (c .before .letters .ensures) (c .product .ensures)
 
 pub way-spec : {M : Type 1} → statement M
-way-spec = tie.close (tie.spec hash-requires returns letters-requires product-requires add-result returns-2)
+way-spec =
+    tie.close
+    (tie.spec
+    hash-requires
+    returns
+    key-for-requires
+    letters-requires
+    product-requires
+    add-result
+    returns-2)

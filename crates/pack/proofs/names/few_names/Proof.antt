@@ -13,4 +13,9 @@ returns : tie.Need-returns
 returns c = search needs
 
 pub few-names-spec : {M : Type 1} → statement M
-few-names-spec = tie.close (tie.spec slice-aggregate-read-names read-names-requires returns)
+few-names-spec =
+    tie.close
+    (tie.spec
+    slice-aggregate-read-names
+    read-names-requires
+    returns)

@@ -20,14 +20,14 @@ enum-told c = search needs
 returns : tie.Need-returns
 returns c = names-ahead (c .before .before .before .before .before .args .s .now) (c .before .before .before .capped .result) _ _ _ (c .match .keys2) (c .before .few-names .ensures)
 
-keyed-names-requires : tie.Need-keyed-names-requires
-keyed-names-requires c κs = search needs
+told-names-requires : tie.Need-told-names-requires
+told-names-requires c κs = omega arith
 
 returns-2 : tie.Need-returns-2
 returns-2 c = search needs
 
-told-names-requires : tie.Need-told-names-requires
-told-names-requires c κs = search needs
+told-names-requires-2 : tie.Need-told-names-requires-2
+told-names-requires-2 c κs = omega arith
 
 returns-3 : tie.Need-returns-3
 returns-3 c = search needs
@@ -41,7 +41,7 @@ many-names-spec =
     few-names-requires
     enum-told
     returns
-    keyed-names-requires
-    returns-2
     told-names-requires
+    returns-2
+    told-names-requires-2
     returns-3)

@@ -1,23 +1,22 @@
 use Prim.Native.Nat.{_<_}
 use native.Mathlib.Omega.{arith}
-use mathlib.Core.List.{_++_}
 use mathlib.Core.Path.{_≡_, _∙_, refl, sym}
-use Rattle.pack.specs.Table.{Near, cellAt, placeFrom, word}
+use Rattle.pack.specs.Table.{Near, cellAt, placeFrom, textsFrom, word}
 use Rattle.pack.proofs.TableLaws.{place-free, place-here, place-on, place-spent}
 use Rattle.pack.proofs.table.descend.Statement.{statement}
 use Rattle.pack.proofs.table.descend.Tie as tie
 
 abbrev Inv-loop : tie.InvT-loop
-Inv-loop t x n bits cell f₀ h₀ i₀ f h i = (i < 200000) × (placeFrom f (t ++ x) n h i (word (t ++ x) (cellAt i)) ≡ placeFrom 17409 (t ++ x) n bits cell (word (t ++ x) (cellAt cell)))
+Inv-loop t n bits cell f₀ h₀ i₀ f h i = (i < 200000) × (placeFrom f t n h i (word t (cellAt i)) ≡ placeFrom 17409 t n bits cell (word t (cellAt cell)))
 
 abbrev μ-loop : tie.MeasureT-loop
-μ-loop t x n bits cell f₀ h₀ i₀ f h i = f
+μ-loop t n bits cell f₀ h₀ i₀ f h i = f
 
 add-f : tie.Need-add-f Inv-loop μ-loop
 add-f c = omega arith
 
 loop-holds : tie.Need-loop-holds Inv-loop μ-loop
-loop-holds c = (c .before .before .before .pre .1, refl)
+loop-holds c = (c .before .before .pre, refl)
 
 mul-word : tie.Need-mul-word Inv-loop μ-loop
 mul-word c = omega arith
@@ -44,12 +43,15 @@ add-word-2 c = omega (arith, c .before .word .ensures .1)
 word-requires-2 : tie.Need-word-requires-2 Inv-loop μ-loop
 word-requires-2 c κs = omega (arith, c .before .word .ensures .1)
 
-is-text-requires : tie.Need-is-text-requires Inv-loop μ-loop
-is-text-requires c κs = (c .before .before .before .before .before .before .before .before .pre .0, c .word2 .ensures .1)
+add-is-at : tie.Need-add-is-at Inv-loop μ-loop
+add-is-at c = omega (arith, c .word2 .ensures .1)
+
+is-at-requires : tie.Need-is-at-requires Inv-loop μ-loop
+is-at-requires c κs = omega (arith, c .word2 .ensures .1)
 
 returns-2 : tie.Need-returns-2 Inv-loop μ-loop
-unfolding Near
-returns-2 c = (sym (place-here _ _ _ _ _ _ _ (c .before .before .before .before .before .loop-test .taken) (c .before .before .before .before .word .ensures .0) (c .before .before .before .if1 .left) (c .before .before .word2 .ensures .0) (sym (c .before .is-text .ensures) ∙ c .if2 .taken)) ∙ c .before .before .before .before .before .before .loop .inv .1, omega (arith, c .before .before .before .before .word .ensures .1))
+unfolding Near textsFrom
+returns-2 c = (sym (place-here _ _ _ _ _ _ _ (c .before .before .before .before .before .loop-test .taken) (c .before .before .before .before .word .ensures .0) (c .before .before .before .if1 .left) (c .before .before .word2 .ensures .0) (sym (c .before .is-at .ensures) ∙ c .if2 .taken)) ∙ c .before .before .before .before .before .before .loop .inv .1, omega (arith, c .before .before .before .before .word .ensures .1))
 
 mul-i : tie.Need-mul-i Inv-loop μ-loop
 mul-i c = omega (arith, c .before .before .before .before .word .ensures .1)
@@ -70,9 +72,10 @@ loop-less : tie.Need-loop-less Inv-loop μ-loop
 loop-less c = omega arith
 
 loop-again : tie.Need-loop-again Inv-loop μ-loop
+unfolding textsFrom
 loop-again c = (
   omega (arith, c .before .before .before .before .before .word .ensures .1),
-  sym (place-on _ _ _ _ _ _ _ _ (c .before .before .before .before .before .before .loop-test .taken) (c .before .before .before .before .before .word .ensures .0) (c .before .before .before .before .if1 .left) (c .before .before .before .word2 .ensures .0) (sym (c .before .before .is-text .ensures) ∙ c .before .if2 .left) (c .further .ensures)) ∙ c .before .before .before .before .before .before .before .loop .inv .1,
+  sym (place-on _ _ _ _ _ _ _ _ (c .before .before .before .before .before .before .loop-test .taken) (c .before .before .before .before .before .word .ensures .0) (c .before .before .before .before .if1 .left) (c .before .before .before .word2 .ensures .0) (sym (c .before .before .is-at .ensures) ∙ c .before .if2 .left) (c .further .ensures)) ∙ c .before .before .before .before .before .before .before .loop .inv .1,
 )
 
 returns-3 : tie.Need-returns-3 Inv-loop μ-loop
@@ -95,7 +98,8 @@ descend-spec =
     mul-word-2
     add-word-2
     word-requires-2
-    is-text-requires
+    add-is-at
+    is-at-requires
     returns-2
     mul-i
     add-i

@@ -6,8 +6,8 @@ use borrow.Author.Needs.{needs}
 use Rattle.pack.proofs.table.link.Statement.{statement}
 use Rattle.pack.proofs.table.link.Tie as tie
 
-count-requires : tie.Need-count-requires
-count-requires c κs = search needs
+word-requires : tie.Need-word-requires
+word-requires c κs = search needs
 
 mul-put-word : tie.Need-mul-put-word
 mul-put-word c = search needs
@@ -41,16 +41,16 @@ same-length c = search needs
 
 returns : tie.Need-returns
 returns c =
-    let w = c .before .before .before .before .before .before .before .before .before .before .before .before .count .result in
+    let w = c .before .before .before .before .before .before .before .before .before .before .before .before .word .result in
     c .before .before .put-word3 .ensures
     ∙ ap (λ l. putWord l 0 (w + 1)) (c .before .before .before .before .before .before .put-word2 .ensures ∙ ap (λ l. putWord l (cellAt (c .before .before .before .before .before .before .before .before .before .before .before .before .before .before .before .args .i)) (w + 1)) (c .before .before .before .before .before .before .before .before .before .before .put-word .ensures))
-    ∙ linked-steps (c .before .before .before .before .before .before .before .before .before .before .before .before .before .before .before .args .t .now) w (c .before .before .before .before .before .before .before .before .before .before .before .before .before .before .before .args .i) (c .before .before .before .before .before .before .before .before .before .before .before .before .before .before .before .args .p) (c .before .before .before .before .before .before .before .before .before .before .before .before .count .ensures .0)
+    ∙ linked-steps (c .before .before .before .before .before .before .before .before .before .before .before .before .before .before .before .args .t .now) w (c .before .before .before .before .before .before .before .before .before .before .before .before .before .before .before .args .i) (c .before .before .before .before .before .before .before .before .before .before .before .before .before .before .before .args .p) (c .before .before .before .before .before .before .before .before .before .before .before .before .word .ensures .0)
 
 pub link-spec : {M : Type 1} → statement M
 link-spec =
     tie.close
     (tie.spec
-    count-requires
+    word-requires
     mul-put-word
     add-put-word
     put-word-requires

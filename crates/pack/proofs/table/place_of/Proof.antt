@@ -1,5 +1,4 @@
 use Prim.Native.Nat.{_+_, _/_, _%_}
-use mathlib.Core.List.{_++_}
 use mathlib.Core.Path.{_∙_, ap}
 use Rattle.pack.specs.Table.{cellAt, heads, placeFrom, placeOf, way, word}
 use borrow.Author.Needs.{needs}
@@ -18,8 +17,8 @@ descend-requires c κs = search needs
 returns : tie.Need-returns
 unfolding placeOf way
 returns c =
-    let t = c .before .before .before .before .before .args .t .now ++ c .before .before .before .before .before .args .x .now in (
-      c .descend .ensures .0 ∙ ap (λ h. placeFrom 17409 t (c .before .before .before .before .before .args .n .now) (h / heads + 2251799813685248) (h % heads) (word t (cellAt (h % heads)))) (c .before .hash .ensures),
+    let t = c .before .before .before .before .args .t .now in (
+      c .descend .ensures .0 ∙ ap (λ h. placeFrom 17409 t (c .before .before .before .before .args .n .now) (h / heads + 2251799813685248) (h % heads) (word t (cellAt (h % heads)))) (c .before .hash .ensures),
       c .descend .ensures .1,
     )
 

@@ -1,18 +1,14 @@
 use native.Mathlib.Omega.{arith}
-use Prim.Native.Nat.{ℕ}
-use mathlib.Core.List.{List}
-use mathlib.Core.Path.{_∙_, ap, subst, sym}
-use lib.ListN.{length-take}
+use mathlib.Core.Path.{_∙_, subst, sym}
 use Rattle.pack.specs.Intern.{foundOf}
-use Rattle.pack.specs.Table.{Near, foundIn, numberIn, placeOf, textsFrom}
-use Rattle.pack.proofs.TableLaws.{found-less, halves, seek-found, seek-plain}
-use Rattle.pack.proofs.TableIndex.{texts-is}
+use Rattle.pack.specs.Table.{Near, foundIn, numberIn, textsFrom}
+use Rattle.pack.proofs.TableLaws.{found-less, seek-found, seek-plain}
 use borrow.Author.Needs.{needs}
 use Rattle.pack.proofs.table.seek_name.Statement.{statement}
 use Rattle.pack.proofs.table.seek_name.Tie as tie
 
-count-requires : tie.Need-count-requires
-count-requires c κs = search needs
+word-requires : tie.Need-word-requires
+word-requires c κs = search needs
 
 capped-requires : tie.Need-capped-requires
 capped-requires c κs = search needs
@@ -32,24 +28,12 @@ find-name-requires c κs = search needs
 returns : tie.Need-returns
 unfolding textsFrom
 returns c = (
-  c .find-name .ensures ∙ seek-plain (c .before .before .before .before .before .before .before .args .t .now) (c .before .before .before .before .before .before .before .args .n .now) (c .before .before .before .capped .result) (omega (arith, c .before .before .before .before .count .ensures .0, c .before .before .if1 .taken)) (c .before .before .before .capped .ensures),
-  found-less (c .before .before .before .before .before .before .before .args .t .now) (c .before .before .before .before .before .before .before .args .n .now) (c .before .before .before .capped .result) _ (c .find-name .ensures),
+  c .find-name .ensures ∙ seek-plain (c .before .before .before .before .before .before .before .args .t .now) (c .before .before .before .before .before .before .before .args .n .now) (c .before .before .capped .result) (omega (arith, c .before .before .before .before .word .ensures .0, c .before .before .before .if1 .taken)) (c .before .before .capped .ensures),
+  found-less (c .before .before .before .before .before .before .before .args .t .now) (c .before .before .before .before .before .before .before .args .n .now) (c .before .before .capped .result) _ (c .find-name .ensures),
 )
 
-slice-aggregate-place-of : tie.Need-slice-aggregate-place-of
-slice-aggregate-place-of c = simp length-take (omega (arith, c .before .before .capped .ensures))
-
-sub-place-of : tie.Need-sub-place-of
-sub-place-of c = search needs
-
-part-place-of-start : tie.Need-part-place-of-start
-part-place-of-start c = search needs
-
-part-place-of-end : tie.Need-part-place-of-end
-part-place-of-end c = search needs
-
 place-of-requires : tie.Need-place-of-requires
-place-of-requires c κs = simp length-take (omega (arith, texts-is, c .before .before .before .capped .ensures))
+place-of-requires c κs = tt
 
 enum-known-p : tie.Need-enum-known-p
 enum-known-p c = search needs
@@ -62,31 +46,27 @@ enum-told-2 c = search needs
 
 returns-2 : tie.Need-returns-2
 unfolding foundOf foundIn numberIn Near
-returns-2 c = (seek-found _ _ _ _ (c .before .before .before .before .before .before .if1 .left) (c .before .before .before .before .before .before .before .before .count .ensures .0) (sym (c .before .p .given .1) ∙ c .before .before .before .place-of .ensures .0 ∙ ap (λ (y : List ℕ). placeOf y (c .before .before .before .before .before .before .before .before .before .before .before .args .n .now)) (halves (c .before .before .before .before .before .before .before .before .before .before .before .args .t .now) (c .before .before .before .before .before .before .before .capped .result))), omega (arith, subst Near (c .before .p .given .1) (c .before .before .before .place-of .ensures .1)))
+returns-2 c = (seek-found _ _ _ _ (c .before .before .before .before .if1 .left) (c .before .before .before .before .before .word .ensures .0) (sym (c .before .p .given .1) ∙ c .before .before .before .place-of .ensures .0), omega (arith, subst Near (c .before .p .given .1) (c .before .before .before .place-of .ensures .1)))
 
 returns-3 : tie.Need-returns-3
 unfolding foundOf foundIn numberIn
-returns-3 c = (seek-found _ _ _ _ (c .before .before .before .before .before .if1 .left) (c .before .before .before .before .before .before .before .count .ensures .0) (sym (c .enum-told .given .1) ∙ c .before .before .place-of .ensures .0 ∙ ap (λ (y : List ℕ). placeOf y (c .before .before .before .before .before .before .before .before .before .before .args .n .now)) (halves (c .before .before .before .before .before .before .before .before .before .before .args .t .now) (c .before .before .before .before .before .before .capped .result))), omega (arith, c .before .before .before .before .before .if1 .left))
+returns-3 c = (seek-found _ _ _ _ (c .before .before .before .if1 .left) (c .before .before .before .before .word .ensures .0) (sym (c .enum-told .given .1) ∙ c .before .before .place-of .ensures .0), omega (arith, c .before .before .before .if1 .left))
 
 returns-4 : tie.Need-returns-4
 unfolding foundOf foundIn numberIn
-returns-4 c = (seek-found _ _ _ _ (c .before .before .before .before .before .if1 .left) (c .before .before .before .before .before .before .before .count .ensures .0) (sym (c .enum-told2 .given .1) ∙ c .before .before .place-of .ensures .0 ∙ ap (λ (y : List ℕ). placeOf y (c .before .before .before .before .before .before .before .before .before .before .args .n .now)) (halves (c .before .before .before .before .before .before .before .before .before .before .args .t .now) (c .before .before .before .before .before .before .capped .result))), omega (arith, c .before .before .before .before .before .if1 .left))
+returns-4 c = (seek-found _ _ _ _ (c .before .before .before .if1 .left) (c .before .before .before .before .word .ensures .0) (sym (c .enum-told2 .given .1) ∙ c .before .before .place-of .ensures .0), omega (arith, c .before .before .before .if1 .left))
 
 pub seek-name-spec : {M : Type 1} → statement M
 seek-name-spec =
     tie.close
     (tie.spec
-    count-requires
+    word-requires
     capped-requires
     sub-find-name
     part-find-name-start
     part-find-name-end
     find-name-requires
     returns
-    slice-aggregate-place-of
-    sub-place-of
-    part-place-of-start
-    part-place-of-end
     place-of-requires
     enum-known-p
     enum-told

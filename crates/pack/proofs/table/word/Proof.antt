@@ -1,7 +1,6 @@
 use native.Mathlib.Omega.{arith}
 use Prim.Native.Nat.{_+_}
 use Rattle.pack.specs.Table.{word}
-use Rattle.pack.proofs.TableLaws.{byte-first}
 use borrow.Author.Needs.{needs}
 use Rattle.pack.proofs.table.word.Statement.{statement}
 use Rattle.pack.proofs.table.word.Tie as tie
@@ -13,7 +12,7 @@ shared-slice-read-result : tie.Need-shared-slice-read-result
 shared-slice-read-result c = search needs
 
 cast-result : tie.Need-cast-result
-cast-result c = omega (arith, c .before .before .before .shared-slice-known .given (c .before .before .before .before .args .i))
+cast-result c = omega (arith, c .before .before .shared-slice-known .given (c .before .before .before .args .i))
 
 add-result : tie.Need-add-result
 add-result c = search needs
@@ -22,26 +21,26 @@ shared-slice-read-result-2 : tie.Need-shared-slice-read-result-2
 shared-slice-read-result-2 c = search needs
 
 cast-result-2 : tie.Need-cast-result-2
-cast-result-2 c = omega (arith, c .before .before .before .before .shared-slice-known .given (c .before .before .before .before .before .args .i + 1))
+cast-result-2 c = omega (arith, c .before .before .before .shared-slice-known .given (c .before .before .before .before .args .i + 1))
 
 mul-result : tie.Need-mul-result
-mul-result c = omega (arith, c .before .before .before .before .shared-slice-known .given (c .before .before .before .before .before .args .i + 1))
+mul-result c = omega (arith, c .before .before .before .shared-slice-known .given (c .before .before .before .before .args .i + 1))
 
 add-result-2 : tie.Need-add-result-2
-add-result-2 c = omega (arith, c .before .before .before .before .shared-slice-known .given (c .before .before .before .before .before .args .i), c .before .before .before .before .shared-slice-known .given (c .before .before .before .before .before .args .i + 1))
+add-result-2 c = omega (arith, c .before .before .before .shared-slice-known .given (c .before .before .before .before .args .i), c .before .before .before .shared-slice-known .given (c .before .before .before .before .args .i + 1))
 
 returns : tie.Need-returns
 unfolding word
-returns c = (omega (arith, byte-first (c .before .before .before .before .before .args .t .now) (c .before .before .before .before .before .args .x .now) (c .before .before .before .before .before .args .i) (omega arith), byte-first (c .before .before .before .before .before .args .t .now) (c .before .before .before .before .before .args .x .now) (c .before .before .before .before .before .args .i + 1) (c .before .before .if1 .taken)), omega (arith, c .before .before .before .before .shared-slice-known .given (c .before .before .before .before .before .args .i), c .before .before .before .before .shared-slice-known .given (c .before .before .before .before .before .args .i + 1)))
+returns c = (omega arith, omega (arith, c .before .before .before .shared-slice-known .given (c .before .before .before .before .args .i), c .before .before .before .shared-slice-known .given (c .before .before .before .before .args .i + 1)))
 
-byte-of-requires : tie.Need-byte-of-requires
-byte-of-requires c κs = search needs
+byte-at-requires : tie.Need-byte-at-requires
+byte-at-requires c κs = search needs
 
-add-byte-of : tie.Need-add-byte-of
-add-byte-of c = search needs
+add-byte-at : tie.Need-add-byte-at
+add-byte-at c = search needs
 
-byte-of-requires-2 : tie.Need-byte-of-requires-2
-byte-of-requires-2 c κs = search needs
+byte-at-requires-2 : tie.Need-byte-at-requires-2
+byte-at-requires-2 c κs = search needs
 
 mul-result-2 : tie.Need-mul-result-2
 mul-result-2 c = search needs
@@ -51,7 +50,7 @@ add-result-3 c = search needs
 
 returns-2 : tie.Need-returns-2
 unfolding word
-returns-2 c = (omega (arith, c .before .byte-of .ensures .0, c .byte-of2 .ensures .0), omega (arith, c .before .byte-of .ensures .1, c .byte-of2 .ensures .1))
+returns-2 c = (omega (arith, c .before .byte-at .ensures .0, c .byte-at2 .ensures .0), omega (arith, c .before .byte-at .ensures .1, c .byte-at2 .ensures .1))
 
 pub word-spec : {M : Type 1} → statement M
 word-spec =
@@ -66,9 +65,9 @@ word-spec =
     mul-result
     add-result-2
     returns
-    byte-of-requires
-    add-byte-of
-    byte-of-requires-2
+    byte-at-requires
+    add-byte-at
+    byte-at-requires-2
     mul-result-2
     add-result-3
     returns-2)

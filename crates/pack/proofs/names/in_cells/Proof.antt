@@ -1,7 +1,7 @@
 use Rattle.pack.proofs.DistinctLaws.{tells-none}
 use borrow.Author.Needs.{needs}
-use Rattle.pack.proofs.names.told_names.Statement.{statement}
-use Rattle.pack.proofs.names.told_names.Tie as tie
+use Rattle.pack.proofs.names.in_cells.Statement.{statement}
+use Rattle.pack.proofs.names.in_cells.Tie as tie
 
 slice-aggregate-read-names : tie.Need-slice-aggregate-read-names
 slice-aggregate-read-names c = search needs
@@ -12,5 +12,10 @@ read-names-requires c κs = tells-none _ _ _ _
 returns : tie.Need-returns
 returns c = search needs
 
-pub told-names-spec : {M : Type 1} → statement M
-told-names-spec = tie.close (tie.spec slice-aggregate-read-names read-names-requires returns)
+pub in-cells-spec : {M : Type 1} → statement M
+in-cells-spec =
+    tie.close
+    (tie.spec
+    slice-aggregate-read-names
+    read-names-requires
+    returns)
