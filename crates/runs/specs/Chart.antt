@@ -33,7 +33,7 @@ unfoldable pub choose : (Expr → Bool) → States → Name → Name
 choose g sNil f = f
 choose g (sCons s es ts rs rest) f = cond (eqName f s) (firstTrue g ts f) (choose g rest f)
 
--- a region begins anew where it has no history, is active and wasn't a cycle ago
+-- a region without history begins anew in a cycle in which it becomes active
 unfoldable pub anew : Bool → Bool → Kept → Bool
 anew history active k = not history && (active && not (k .was))
 
