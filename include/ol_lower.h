@@ -29,6 +29,29 @@ enum {
     OL_OUTPUT_ROOM = 9  /* bytes that the output needs */
 };
 
+/* A report: how many definitions are refused (two bytes, the lower first), then of each its kind (a byte) and its names,
+ * each after its length (a byte). The names of each kind stand behind it; README.md says what to do. */
+enum {
+    OL_KIND_NO_STATES = 1,                 /* machine */
+    OL_KIND_UNKNOWN_INITIAL_STATE = 2,     /* machine, initial state */
+    OL_KIND_UNKNOWN_TARGET = 3,            /* machine, state, target */
+    OL_KIND_OUTPUT_UNASSIGNED = 4,         /* machine, output, state */
+    OL_KIND_DUPLICATE_STATE = 5,           /* machine, state */
+    OL_KIND_UNKNOWN_REFINE = 6,            /* machine, state, refined machine */
+    OL_KIND_REFINE_CYCLE = 7,              /* machine, refined machine */
+    OL_KIND_UNKNOWN_OWNER = 8,             /* machine, owner */
+    OL_KIND_NO_BRANCHES = 9,               /* activation */
+    OL_KIND_NO_OUTPUTS = 10,               /* activation */
+    OL_KIND_BRANCH_OUTPUT_UNASSIGNED = 11, /* activation, output, branch */
+    OL_KIND_DUPLICATE_BRANCH = 12,         /* activation, branch */
+    OL_KIND_UNKNOWN_ACTIVATION_OWNER = 13, /* activation, owner */
+    OL_KIND_LAST_ARGS = 14,                /* activation */
+    OL_KIND_LAST_UNKNOWN = 15,             /* activation, variable */
+    OL_KIND_LAST_NEEDS_INIT = 16,          /* activation, variable */
+    OL_KIND_TOO_LARGE = 17,                /* machine */
+    OL_KIND_EMPTY_LEFT = 18                /* activation */
+};
+
 /* Every call returns one word: the number times 2^32 plus the value. */
 static inline uint32_t ol_number(uint64_t word) { return (uint32_t)(word >> 32); }
 static inline uint32_t ol_value(uint64_t word) { return (uint32_t)word; }

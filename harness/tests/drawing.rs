@@ -52,6 +52,27 @@ fn refinement_is_a_dashed_arrow() {
     assert_eq!(lines(&drawing, &["7 RefineCycle (M, M)", "color=red"]), 1, "{drawing}");
 }
 
+/// In preorder, a refinement after the state's own regions, with what is inside it.
+#[test]
+fn regions_have_the_ids_of_their_variables() {
+    let region = |deep: usize, state: &str| {
+        let at = " ".repeat(deep);
+        format!("{at}region\n{at}  initial {state}\n{at}  state {state}\n")
+    };
+    let first = format!("{}{}", region(4, "T"), region(8, "U"));
+    let one = format!("machine A\n  initial S\n  state S\n{first}    refines B\n  state V\n{}", region(4, "W"));
+    let two = format!("machine B\n  initial X\n  state X\n{}", region(4, "Y"));
+    let drawing = drawn_chart(&format!("{one}{two}"));
+    for (label, count) in
+        [("r1: region", 2), ("r2: region", 1), ("refines B as r3", 1), ("r4: region", 0), ("r5: region", 1)]
+    {
+        assert_eq!(lines(&drawing, &[label]), count, "{label}: {drawing}");
+    }
+    for made in ["__sm_r3_active = (__sm_state = S)", "(__sm_r3_state = S_X)", "__sm_r5_active = (__sm_state = V)"] {
+        assert!(drawing.contains(made), "{made}: {drawing}");
+    }
+}
+
 #[test]
 fn an_activation_is_a_tree_of_its_branches() {
     let drawing = drawn(&charts::two_branches()).unwrap();

@@ -41,7 +41,7 @@ pub enum Answer {
     TooDeep(usize),
     /// Bytes after the origins, from this offset.
     BytesAfter(usize),
-    /// Definitions are refused: bytes written to the report.
+    /// Definitions are refused: bytes written to the report, whose layout README.md of the repository has.
     Refused(usize),
     /// The report needs so many bytes.
     ReportRoom(usize),

@@ -7,7 +7,7 @@ use Rattle.activation_rules.specs.Refusals.{unknownOwner}
 use Rattle.activation_rules.specs.Checks.{branchNames, elseName}
 use Rattle.activation_rules.specs.Lower.{Lowered, lowered, make, refuse}
 
--- as `lower_activations` of 003: a refused one adds its refusal only; the origin has the branches' names, and the else scope's
+-- as `lower_activations` of `project.rs`: a refused one adds its refusal only; the origin has the branches' names, and the else scope's
 unfoldable pub into : Activation → Node → Lowered → Made → Made
 into A n (refuse r) k = refusing r k
 into A n (make ls es) k =

@@ -11,7 +11,7 @@ unfoldable pub firstName : List Name → Option Name
 firstName [] = none
 firstName (n ∷ ns) = some n
 
--- Activations, `first_variant` of 003: of enums with one name the last that has variants
+-- Activations, `first_variant` of `project.rs`: of enums with one name the last that has variants
 unfoldable pub firstVariant : List Enum → Name → Option Name
 firstVariant [] n = none
 firstVariant (e ∷ es) n = firstOf (firstVariant es n) (cond (eqName (e .name) n) (firstName (e .variants)) none)
@@ -21,7 +21,7 @@ unfoldable pub asVariable : Option Name → Option Expr
 asVariable none = none
 asVariable (some v) = some (eVar v)
 
--- Activations, holders as in 001 (`default_of`): arrays, and named types that are no enum with variants, have none
+-- Activations, holders as in `activation.rs` (`default_of`): arrays, and named types that are no enum with variants, have none
 unfoldable pub startOf : List Enum → Ty → Option Expr
 startOf es tBool = some (eConst (lBool false))
 startOf es tInt8 = some (eConst (lInt 0))

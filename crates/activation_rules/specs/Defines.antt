@@ -12,7 +12,7 @@ unfoldable pub firstLeft : List Name → Name
 firstLeft [] = []
 firstLeft (x ∷ xs) = x
 
--- Activations, as `define` in 001: a local for each equation, in the same order
+-- Activations, as `define` in `activation.rs`: a local for each equation, in the same order
 unfoldable pub asLocals : Ty → List Equation → List Port
 asLocals t [] = []
 asLocals t (e ∷ es) = record { name = firstLeft (e .lhs); ty = t } ∷ asLocals t es

@@ -12,7 +12,7 @@ unfoldable pub andAlso : Option Expr → Expr → Expr
 andAlso none c = c
 andAlso (some p) c = eBinary oAnd p c
 
--- Activations, flags as in 001: whether branch i is taken, and where a branch follows whether none is up to i
+-- Activations, flags as in `activation.rs`: whether branch i is taken, and where a branch follows whether none is up to i
 unfoldable pub flagEquations : Name → Option Expr → ℕ → List Expr → List Equation
 flagEquations a prior i [] = []
 flagEquations a prior i (c ∷ []) = eqn (flagVar a i) (andAlso prior c) ∷ []

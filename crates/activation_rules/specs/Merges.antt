@@ -11,7 +11,7 @@ unfoldable pub mergeFrom : Name → Name → ℕ → List Expr → Expr
 mergeFrom a o k [] = eVar (valueVar a other o)
 mergeFrom a o k (c ∷ cs) = eMerge (clockVar a k) (eVar (valueVar a (branch k) o)) (mergeFrom a o (suc k) cs)
 
--- Activations, merges as in 001: one equation for each output, in order
+-- Activations, merges as in `activation.rs`: one equation for each output, in order
 unfoldable pub mergeEquations : Name → List Expr → List Port → List Equation
 mergeEquations a cs [] = []
 mergeEquations a cs (p ∷ ps) = eqn (p .name) (mergeFrom a (p .name) 0 cs) ∷ mergeEquations a cs ps

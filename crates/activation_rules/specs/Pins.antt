@@ -2,7 +2,7 @@
 use mathlib.Core.Bool.{Bool, true, false, cond, _||_}
 use Rattle.pack.specs.Syntax.{Expr, Exprs, eArray, eArrow, eBinary, eCall, eCast, eConst, eField, eIf, eIndex, eIterate, eMerge, ePre, eStruct, eTuple, eUnary, eVar, eWhen, xCons, xNil}
 
--- Activations, scopes as in 001: each constant of an expression, by f
+-- Activations, scopes as in `activation.rs`: each constant of an expression, by f
 unfoldable mutual
   pub pin : (Expr → Expr) → Expr → Expr
   pin f (eConst l) = f (eConst l)

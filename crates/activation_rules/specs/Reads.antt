@@ -8,7 +8,7 @@ use Rattle.pack.specs.Syntax.{Expr, Exprs, eArray, eArrow, eBinary, eCall, eCas
 unfoldable pub push : Name → List Name → List Name
 push x l = cond (member x l) l (l ++ (x ∷ []))
 
--- Activations, samples as in 001 (`free_vars`): variables and the clock names of `when` and `merge`, each once, in preorder
+-- Activations, samples as in `activation.rs` (`free_vars`): variables and the clock names of `when` and `merge`, each once, in preorder
 unfoldable mutual
   pub reads : Expr → List Name → List Name
   reads (eConst l) r = r

@@ -13,11 +13,11 @@ use Rattle.activation_rules.specs.Samples.{dropIn, overSamples, sampleEq
 unfoldable pub scopeReads : Name → List Name → Equation → List Name
 scopeReads a vars e = readsOf vars (unlast a (e .rhs))
 
--- What a run is held to: the right side of a scope as 001 rewrites it
+-- What a run is held to: the right side of a scope as `activation.rs` rewrites it
 unfoldable pub rewritten : Name → ℕ → List Name → Scope → Equation → Expr
 rewritten a n vars s e = overSamples a n s (scopeReads a vars e) (unlast a (e .rhs))
 
--- Activations, scopes as in 001: equation by equation its new samples, then its value; `old` are sampled already
+-- Activations, scopes as in `activation.rs`: equation by equation its new samples, then its value; `old` are sampled already
 unfoldable pub scopeEquations : Name → ℕ → List Name → Scope → List Name → List Equation → List Equation
 scopeEquations a n vars s old [] = []
 scopeEquations a n vars s old (e ∷ es) =

@@ -21,7 +21,7 @@ unfoldable pub firstTyped : List Port → Name → Option Ty
 firstTyped [] n = none
 firstTyped (p ∷ ps) n = cond (eqName (p .name) n) (some (p .ty)) (firstTyped ps n)
 
--- Activations, `types` of 001: an output of the activation counts only where the owner and the holders have none of its name
+-- Activations, `types` of `activation.rs`: an output of the activation counts only where the owner and the holders have none of its name
 unfoldable pub typed : List Port → List Port → Name → Option Ty
 typed env outs n = firstOf (lastTyped env n) (firstTyped outs n)
 
@@ -39,10 +39,10 @@ unfoldable pub orBool : Option Ty → Ty
 orBool none = tBool
 orBool (some t) = t
 
--- Activations, samples as in 001: a sample has its variable's type
+-- Activations, samples as in `activation.rs`: a sample has its variable's type
 unfoldable pub sampleType : List Port → List Port → Name → Ty
 sampleType env outs v = orBool (typed env outs v)
 
--- Activations, scopes as in 001: a value has the type of the activation's first output of that name, else the variable's, else Bool
+-- Activations, scopes as in `activation.rs`: a value has the type of the activation's first output of that name, else the variable's, else Bool
 unfoldable pub valueType : List Port → List Port → Name → Ty
 valueType env outs o = orBool (firstOf (firstTyped outs o) (lastTyped env o))

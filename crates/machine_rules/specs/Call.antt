@@ -12,6 +12,7 @@ unfoldable pub finished : ℕ → ℕ → List Refusal → Package → Outcome
 finished output report [] p = written output p
 finished output report (r ∷ rs) p = reported report (reportBytes (r ∷ rs))
 
+-- the table, 6 to 9 and 0, for a package that was read: all machines are lowered, and what they made is written, or what is refused reported
 unfoldable pub machinesOf : ℕ → ℕ → Package → Outcome
 machinesOf output report p = let k : Made = madeMachines p in finished output report (k .refusals) (withoutMachines p k)
 

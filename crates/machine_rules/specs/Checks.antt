@@ -24,6 +24,7 @@ unfoldable mutual
   allNamesR rNil = []
   allNamesR (rCons i h ss rest) = allNamesS ss ++ allNamesR rest
 
+-- Check, DuplicateState: of names in order the first that is among those before it
 unfoldable pub repeated : List Name → List Name → Option Name
 repeated seen [] = none
 repeated seen (n ∷ ns) = elim (member n seen) [ true ↦ some n | false ↦ repeated (n ∷ seen) ns ]
@@ -32,10 +33,13 @@ repeated seen (n ∷ ns) = elim (member n seen) [ true ↦ some n | false ↦ re
 unfoldable pub badInitial : Name → Name → List Name → Option Refusal
 badInitial m i ns = cond (member i ns) none (some (unknownInitial m i))
 
+-- Check, UnknownTarget: a state's first transition that leads to none of the region's states
 unfoldable pub badTarget : Name → Name → List Name → List Transition → Option Refusal
 badTarget m s ns [] = none
 badTarget m s ns (t ∷ ts) = elim (member (t .target) ns) [ true ↦ badTarget m s ns ts | false ↦ some (unknownTarget m s (t .target)) ]
 
+-- Check: of the states of a region, whose names are `ns`, targets and then what is inside, state by state; of regions in order the initial and then
+-- the states
 unfoldable mutual
   pub badS : Name → List Name → States → Option Refusal
   badS m ns sNil = none
@@ -50,10 +54,12 @@ unfoldable pub unlessCovered : Bool → Option Name → Option Name
 unlessCovered true e = none
 unlessCovered false e = e
 
+-- a region's error, unless a region after it covers
 unfoldable pub unlessOther : Option Name → Bool → Option Name
 unlessOther none b = none
 unlessOther (some s) b = cond b none (some s)
 
+-- Check, Covered: the state to report for an output. Without regions it is the state itself, with regions the first region's
 unfoldable mutual
   pub uncoveredS : Name → States → Option Name
   uncoveredS o sNil = none
@@ -63,10 +69,12 @@ unfoldable mutual
   uncoveredR o s rNil = some s
   uncoveredR o s (rCons i h ss rest) = unlessOther (uncoveredS o ss) (coversR o rest)
 
+-- Check, the last one: each output covered, in the order of ports; OutputUnassigned
 unfoldable pub uncovered : Name → States → List Port → Option Refusal
 uncovered m ss [] = none
 uncovered m ss (p ∷ ps) = firstOf (asRefusal (λ s. unassigned m (p .name) s) (uncoveredS (p .name) ss)) (uncovered m ss ps)
 
+-- Check: no states, a name twice, initial and targets from the top region down, outputs; the first refusal counts
 unfoldable pub refusalOf : Machine → Option Refusal
 refusalOf m =
     firstOf (emptyTop (m .name) (m .states))

@@ -23,6 +23,7 @@ unfoldable pub transitionsOf : Name → List Transition → Expr
 transitionsOf v [] = eVar v
 transitionsOf v (t ∷ ts) = eIf (t .guard) (eVar (t .target)) (transitionsOf v ts)
 
+-- the test for a state: the state variable equals its name
 unfoldable pub isName : Name → Name → Expr
 isName v s = eBinary oEq (eVar v) (eVar s)
 
@@ -31,10 +32,12 @@ unfoldable pub orElse : Expr → Expr → States → Expr → Expr
 orElse test value sNil chain = value
 orElse test value (sCons s es ts rs rest) chain = eIf test value chain
 
+-- a region's next state: by the state it is in, the target of that state's first true guard, else the state
 unfoldable pub nextChain : Name → States → Expr
 nextChain v sNil = eVar v
 nextChain v (sCons s es ts rs rest) = orElse (isName v s) (transitionsOf v ts) rest (nextChain v rest)
 
+-- a state variable without restart: the initial state, then what was next a cycle ago
 unfoldable pub held : ℕ → Name → Expr
 held n initial = eArrow (eVar initial) (ePre (eVar (nextVar n)))
 
@@ -45,13 +48,16 @@ topEquations initial ss =
     ∷ record { lhs = nextVar 0 ∷ []; rhs = nextChain (stateVar 0) ss }
     ∷ []
 
+-- active now, and either not a cycle ago or this is the first cycle
 unfoldable pub justEntered : ℕ → Expr
 justEntered n = eBinary oAnd (eVar (activeVar n)) (eArrow (eConst (lBool true)) (eUnary oNot (ePre (eVar (activeVar n)))))
 
+-- a nested region's state: with history it is only held, without it begins anew where it was just entered
 unfoldable pub stateRhs : ℕ → Name → Bool → Expr
 stateRhs n initial true = held n initial
 stateRhs n initial false = eIf (justEntered n) (eVar initial) (held n initial)
 
+-- Emit, the three equations of a nested region: active, state, next; one that is not active stays where it is
 unfoldable pub regionEquations : ℕ → Expr → Name → Bool → States → List Equation
 regionEquations n active initial history ss =
     record { lhs = activeVar n ∷ []; rhs = active }
@@ -76,13 +82,16 @@ unfoldable mutual
   equationsR active n (rCons i h ss rest) =
       regionEquations n active i h ss ++ (equationsS false n (suc n) ss ++ equationsR active (suc n + sizeS ss) rest)
 
+-- the names of a region's own states, in order
 unfoldable pub namesOf : States → List Name
 namesOf sNil = []
 namesOf (sCons s es ts rs rest) = s ∷ namesOf rest
 
+-- the locals of every region: state and next, of the region's enum
 unfoldable pub regionLocals : Name → ℕ → List Port
 regionLocals m n = record { name = stateVar n; ty = tNamed (enumName m n) } ∷ record { name = nextVar n; ty = tNamed (enumName m n) } ∷ []
 
+-- Emit: the locals of the regions inside, in preorder; a nested one has `active` too, after the two of every region
 unfoldable mutual
   pub localsS : Name → ℕ → States → List Port
   localsS m n sNil = []
@@ -93,6 +102,7 @@ unfoldable mutual
   localsR m n (rCons i h ss rest) =
       regionLocals m n ++ ((record { name = activeVar n; ty = tBool } ∷ []) ++ (localsS m (suc n) ss ++ localsR m (suc n + sizeS ss) rest))
 
+-- Emit: an enum for each region inside, in preorder, whose variants are the region's states
 unfoldable mutual
   pub enumsS : Name → ℕ → States → List Enum
   enumsS m n sNil = []
@@ -109,14 +119,17 @@ isOnly o [] = false
 isOnly o (x ∷ []) = eqName x o
 isOnly o (x ∷ y ∷ l) = false
 
+-- the right side of that equation
 unfoldable pub ownValue : Name → List Equation → Option Expr
 ownValue o [] = none
 ownValue o (e ∷ es) = cond (isOnly o (e .lhs)) (some (e .rhs)) (ownValue o es)
 
+-- whether there is such an equation
 unfoldable pub isSome : Option Expr → Bool
 isSome none = false
 isSome (some e) = true
 
+-- Covered: every state has an equation of its own for the output or a region that covers it; some region covers it in all states
 unfoldable mutual
   pub coversS : Name → States → Bool
   coversS o sNil = true
@@ -143,6 +156,7 @@ defaultOf tChar = eConst (lChar 0)
 defaultOf (tArray n t) = eConst (lInt 0)
 defaultOf (tNamed n) = eConst (lInt 0)
 
+-- a value where there is one, else the default
 unfoldable pub fromOption : Option Expr → Expr → Expr
 fromOption none d = d
 fromOption (some e) d = e
@@ -159,11 +173,13 @@ unfoldable mutual
   valueR o d own n (rCons i h ss rest) =
       cond (coversS o ss) (valueS o d n (suc n) ss) (valueR o d own (suc n + sizeS ss) rest)
 
+-- Emit: one equation for each output port, in order, over the states of the top region
 unfoldable pub outputEquations : Machine → List Port → List Equation
 outputEquations m [] = []
 outputEquations m (p ∷ ps) =
     record { lhs = p .name ∷ []; rhs = valueS (p .name) (defaultOf (p .ty)) 0 1 (m .states) } ∷ outputEquations m ps
 
+-- Emit: the top region's equations, those of the regions inside, the outputs'
 unfoldable pub equationsOf : Machine → List Equation
 equationsOf m = topEquations (m .initial) (m .states) ++ (equationsS true 0 1 (m .states) ++ outputEquations m (m .outputs))
 
@@ -171,5 +187,6 @@ equationsOf m = topEquations (m .initial) (m .states) ++ (equationsS true 0 1 (m
 unfoldable pub enumsOf : Machine → List Enum
 enumsOf m = record { name = enumName (m .name) 0; variants = namesOf (m .states) } ∷ enumsS (m .name) 1 (m .states)
 
+-- the drawn locals come first
 unfoldable pub localsOf : Machine → List Port
 localsOf m = m .locals ++ (regionLocals (m .name) 0 ++ localsS (m .name) 1 (m .states))

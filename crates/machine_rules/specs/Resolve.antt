@@ -18,6 +18,7 @@ pub data Walk (A : Type 0) : Type 0 where
   stop : Refusal → Walk A
   went : A → ℕ → Walk A
 
+-- on with the walk, unless it stopped
 unfoldable pub walkOn : {A B : Type 0} → Walk A → (A → ℕ → Walk B) → Walk B
 walkOn (stop r) k = stop r
 walkOn (went a n) k = k a n
@@ -27,6 +28,7 @@ unfoldable pub prefixTransitions : Name → List Transition → List Transition
 prefixTransitions p [] = []
 prefixTransitions p (t ∷ ts) = record { guard = t .guard; target = p ++ t .target } ∷ prefixTransitions p ts
 
+-- Resolve: states, targets and initials get the prefix; equations, guards and history stay
 unfoldable mutual
   pub prefixS : Name → States → States
   prefixS p sNil = sNil
@@ -40,10 +42,12 @@ unfoldable mutual
 unfoldable pub shortName : ℕ → Name → Bool
 shortName p n = leb (p + length n) maxName
 
+-- the same of transitions' targets
 unfoldable pub shortTargets : ℕ → List Transition → Bool
 shortTargets p [] = true
 shortTargets p (t ∷ ts) = shortName p (t .target) && shortTargets p ts
 
+-- the same of states with all that is in them, and of regions
 unfoldable mutual
   pub shortS : ℕ → States → Bool
   shortS p sNil = true
@@ -74,12 +78,14 @@ module _ (top : Name) (refine : ℕ → Name → Name → ℕ → Walk Target) w
   unfoldable pub arrive : {A : Type 0} → ℕ → (ℕ → Walk A) → Walk A
   arrive n k = elim (ltb n maxStates) [ true ↦ k (n + 1) | false ↦ stop (tooLarge top) ]
 
+  -- Resolve: the sub-machine's region, its names after the state's and an underscore; TooLarge where one gets too long
   unfoldable pub withTarget : Name → Regions → Target → ℕ → Walk Regions
   withTarget s rs t n =
       cond (shortName (length s + 1) (t .initial) && shortS (length s + 1) (t .states))
       (went (snoc rs ((s ++ (95 ∷ [])) ++ t .initial) (prefixS (s ++ (95 ∷ [])) (t .states))) n)
       (stop (tooLarge top))
 
+  -- Resolve: a state's refinement, where it has one, after its own regions `rs`
   unfoldable pub withRefine : ℕ → Name → Option Name → Regions → ℕ → Walk Regions
   withRefine l s none rs n = went rs n
   withRefine l s (some m) rs n = walkOn (refine l s m n) (λ t k. withTarget s rs t k)
@@ -114,6 +120,7 @@ refineWith top ms path enter l s n c =
       | false ↦ elim (machineOf ms n) [ none ↦ stop (unknownRefine top s n) | some m ↦ enter m l c ]
     ]
 
+-- a sub-machine's initial and its resolved states
 unfoldable pub asTarget : Name → States → Target
 asTarget i ss = record { initial = i; states = ss }
 
@@ -125,8 +132,10 @@ refineAt (suc f) top ms path =
     deeper top (refineAt f top ms (m .name ∷ path)) l (λ k.
     walkOn (resolveS top (refineAt f top ms (m .name ∷ path)) k (m .states) c) (λ ss n. went (asTarget (m .initial) ss) n)))
 
+-- Resolve, of a top machine: its states are level 1, the path begins with its name, and no state has been counted
 unfoldable pub resolvedStates : List Drawing → Drawing → Walk States
 resolvedStates ms d = resolveS (d .name) (refineAt maxLevel (d .name) ms (d .name ∷ [])) (maxLevel - 1) (d .states) 0
 
+-- a drawn machine with its resolved states
 unfoldable pub asMachine : Drawing → States → Machine
 asMachine d ss = record { name = d .name; inputs = d .inputs; outputs = d .outputs; locals = d .locals; initial = d .initial; states = ss }

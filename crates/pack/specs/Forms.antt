@@ -156,6 +156,7 @@ typeOver ns (plain t) under = getD plainTypes t tBool
 typeOver ns (sized n) under = tArray n under
 typeOver ns (named i) under = tNamed (nameAt ns i)
 
+-- a type from its tree of heads, and the first type of some trees; only an array asks for one, and has it
 unfoldable mutual
   pub typeOf : List Name → Tree TypeHead → Ty
   typeOf ns (node h ts) = typeOver ns h (firstType ns ts)
@@ -207,6 +208,7 @@ exprOver ns (sample i b) es = eWhen (nth 0 es) (nameAt ns i) (flagOf b)
 exprOver ns (merge i) es = eMerge (nameAt ns i) (nth 0 es) (nth 1 es)
 exprOver ns (iterate k i b n) es = eIterate (getD iterKinds k iMap) (nameAt ns i) (flagOf b) es
 
+-- an expression from its tree of heads, and all expressions of some trees
 unfoldable mutual
   pub exprOf : List Name → Tree ExprHead → Expr
   exprOf ns (node h ts) = exprOver ns h (exprsOf ns ts)

@@ -105,6 +105,7 @@ unfoldable pub Deeper : (ℕ → Type 0) → ℕ → Type 0
 Deeper P zero = ⊥
 Deeper P (suc levels) = P levels
 
+-- states and regions with so many levels left below them: a region is one level further in
 unfoldable mutual
   pub FormedStates : Drawn → ℕ → Type 0
   FormedStates dNil levels = Unit {0}

@@ -11,6 +11,7 @@ use Rattle.pack.specs.declared.siphash.Lanes.{Lanes}
 unfoldable pub sum : ℕ → ℕ → ℕ
 sum x y = (x + y) % 2 ^ 64
 
+-- a word turned by k bits to the left
 unfoldable pub turned : ℕ → ℕ → ℕ
 turned x k = bitOr (x * 2 ^ k % 2 ^ 64) (x / 2 ^ (64 - k))
 
@@ -18,6 +19,7 @@ turned x k = bitOr (x * 2 ^ k % 2 ^ 64) (x / 2 ^ (64 - k))
 unfoldable pub halfRound : Lanes → ℕ → ℕ → Lanes
 halfRound h j k = record { a = sum (h .c) (h .d); b = bitXor (turned (h .b) j) (sum (h .a) (h .b)); c = turned (sum (h .a) (h .b)) 32; d = bitXor (turned (h .d) k) (sum (h .c) (h .d)) }
 
+-- a whole round
 unfoldable pub rounded : Lanes → Lanes
 rounded h = halfRound (halfRound h 13 16) 17 21
 
@@ -25,9 +27,11 @@ rounded h = halfRound (halfRound h 13 16) 17 21
 abbrev pub before : Lanes → ℕ → Lanes
 before h m = record { a = h .a; b = h .b; c = h .c; d = bitXor (h .d) m }
 
+-- the same word, after the round
 abbrev pub after : Lanes → ℕ → Lanes
 after h m = record { a = bitXor (h .a) m; b = h .b; c = h .c; d = h .d }
 
+-- eight bytes, given as two halves, through one round
 unfoldable pub mixed : Lanes → ℕ → ℕ → Lanes
 mixed h x y = after (rounded (before h (x + 4294967296 * y))) (x + 4294967296 * y)
 
@@ -35,6 +39,7 @@ mixed h x y = after (rounded (before h (x + 4294967296 * y))) (x + 4294967296 * 
 abbrev pub ended : Lanes → Lanes
 ended h = rounded (rounded (record { a = h .a; b = h .b; c = bitXor (h .c) 255; d = h .d }))
 
+-- the four lanes as one number
 unfoldable pub joined : Lanes → ℕ
 joined h = bitXor (bitXor (bitXor (ended h .a) (ended h .b)) (ended h .c)) (ended h .d)
 

@@ -31,6 +31,7 @@ pub data BinOp : Type 0 where
 pub data IterKind : Type 0 where
   iMap iFold : IterKind
 
+-- expressions in the order of the source, which is that of their tags, 0 to 16; and lists of them
 mutual
   pub data Expr : Type 0 where
     eConst : Lit → Expr

@@ -109,6 +109,7 @@ arrays b xNil = 0
 arrays true (xCons e es) = countOf es
 arrays false (xCons e es) = suc (countOf es)
 
+-- an expression: tag, names and numbers, counts, then what stands under it
 unfoldable mutual
   pub exprItems : Expr → List Item
   exprItems (eConst l) = raw (0 ∷ litBytes l) ∷ []
@@ -171,6 +172,7 @@ unfoldable pub regionCount : DrawnRegions → ℕ
 regionCount qNil = 0
 regionCount (qCons i h ss rest) = suc (regionCount rest)
 
+-- a state: name, equations, transitions, regions, refinement; a region: initial state, history, states
 unfoldable mutual
   pub drawnItems : Drawn → List Item
   drawnItems dNil = []

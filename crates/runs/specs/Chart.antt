@@ -33,7 +33,7 @@ unfoldable pub choose : (Expr → Bool) → States → Name → Name
 choose g sNil f = f
 choose g (sCons s es ts rs rest) f = cond (eqName f s) (firstTrue g ts f) (choose g rest f)
 
--- a region begins anew where it has no history, is active and wasn't a cycle ago
+-- a region without history begins anew in a cycle in which it becomes active
 unfoldable pub anew : Bool → Bool → Kept → Bool
 anew history active k = not history && (active && not (k .was))
 
@@ -109,9 +109,9 @@ keptIn G m (suc t) = kepts (cycle (λ g. G g t) m (keptIn G m t))
 unfoldable pub foundIn : Guards → Machine → ℕ → List Name
 foundIn G m t = founds (cycle (λ g. G g t) m (keptIn G m t))
 
--- The right side that is selected for the output o, where region k is found in the state `st k`. From the region p on, whose states'
--- regions have the ids from n on: the found state's first region that covers the output is entered; where there is none, the
--- state's first equation with the output as its single left name is selected.
+-- The right side that is selected for the output o, where region k is found in the state `st k`. The walk begins in the region p, whose
+-- states' regions have the ids from n on. In the state that is found there it goes on into the first region that gives the output in all of
+-- its states; a state without such a region selects by its own equations (`ownValue`).
 unfoldable mutual
   pub selectS : (ℕ → Name) → Name → ℕ → ℕ → States → Option Expr
   selectS st o p n sNil = none

@@ -125,7 +125,7 @@ pub record ActivationsWritten (O : Type 0) (s : List ℕ) (x : Outcome) : Type 0
   pub result : x ≡ writes pack
   pub lowered : ActivationsLowered O s pack
 
--- THE CLAIM, for every pack and every two buffer lengths: a definition is accepted if its lowering returns 0 on the pack that holds it
+-- THE CLAIM, for every pack and every two buffer lengths: all definitions of a pack are accepted where its lowering returns 0
 pub record DemandThree : Type 1 where
   pub machines : (O : Type 0) (s : List ℕ) (output report : ℕ) → Bytes s → numberOf (lowerMachines s output report) ≡ 0 → MachinesWritten O s (lowerMachines s output report)
   pub activations : (O : Type 0) (s : List ℕ) (output report : ℕ) → Bytes s → numberOf (lowerActivations s output report) ≡ 0 → ActivationsWritten O s (lowerActivations s output report)

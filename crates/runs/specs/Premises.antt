@@ -83,11 +83,11 @@ abbrev mutual
   sidesR R N (rCons i h ss rest) = sidesS R N ss × sidesR R N rest
 
 -- For a resolved machine:
--- - states: "a resolved state's name in its machine's equations is that state, an enum value of its own";
--- - free: "enum values .. none starting `__sm_`";
--- - base: "what a machine's equations define [is] on the clock of every cycle";
--- - guards: "guards .. are true or false .. every cycle";
--- - sides: "machine right sides have a value, every cycle".
+-- - states: the names of its states are enum values;
+-- - free: no enum value has a name that starts `__sm_`;
+-- - base: all that its equations define is present in every cycle;
+-- - guards: each guard has a truth value in every cycle, the one that the chart is fed;
+-- - sides: each right side of its states has a value in every cycle.
 pub record MachinePremises {O : Type 0} (R : Run O) (N : ℕ) (G : Guards) (m : Machine) : Type 0 where
   pub states : (x : Name) → member x (allNamesS (m .states)) ≡ true → R .enums x ≡ true
   pub free : (x : Name) → startsWith smPrefix x ≡ true → R .enums x ≡ false
@@ -96,9 +96,9 @@ pub record MachinePremises {O : Type 0} (R : Run O) (N : ℕ) (G : Guards) (m : 
   pub sides : sidesS R N (m .states)
 
 -- For an activation:
--- - free: "enum values .. none starting `__act_`";
--- - base: "an activation's outputs [are] on the clock of every cycle";
--- - conditions: "conditions are true or false .. every cycle".
+-- - free: no enum value has a name that starts `__act_`;
+-- - base: its outputs are present in every cycle;
+-- - conditions: each condition, `last` replaced, has a truth value in every cycle.
 pub record ActPremises {O : Type 0} (R : Run O) (N : ℕ) (C : Conditions) (A : Activation) : Type 0 where
   pub free : (x : Name) → startsWith actPrefix x ≡ true → R .enums x ≡ false
   pub base : portsPresent R N (A .outputs)

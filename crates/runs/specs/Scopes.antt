@@ -43,7 +43,7 @@ eqScope other other = true
 unfoldable pub scopeClock : Conditions → Activation → Scope → Clock
 scopeClock C A s u = eqScope (scopeIn C A u) s
 
--- what a scope's equations give for an output: the first that has it as its single left name, its right side as 001 rewrites it
+-- what a scope's equations give for an output: the first that has it as its single left name, its right side as `activation.rs` rewrites it
 unfoldable pub givenBy : Name → ℕ → List Name → Scope → Name → List Equation → Option Expr
 givenBy a n vars s o [] = none
 givenBy a n vars s o (e ∷ es) = cond (isOnly o (e .lhs)) (some (rewritten a n vars s e)) (givenBy a n vars s o es)

@@ -28,9 +28,9 @@ unfoldable pub latest : Option ℕ → Name → (ℕ → Name) → Name
 latest none initial chosen = initial
 latest (some u) initial chosen = chosen u
 
--- In the run the region n, active in the cycles A, has the states f. Each is the one chosen in the latest earlier active cycle, or the
--- initial state if there is none, or if the region keeps no history, is active now and wasn't a cycle ago. Chosen is the target of the
--- state's first true guard, else staying.
+-- In the run the region n, active in the cycles A, has the states f. A state is what was chosen when the region was last active before the
+-- cycle, by the first true guard of the state it had then. It is the initial one where there was no such cycle, and where a region without
+-- history becomes active.
 pub record Region {O : Type 0} (R : Run O) (N : ℕ) (G : Guards) (A : ℕ → Bool) (n : ℕ) (i : Name) (h : Bool) (ss : States) (f : ℕ → Name) : Type 0 where
   pub state : (t : ℕ) → t < N → R .at (stateVar n) t ≡ some (vEnum (f t))
   pub words : (t : ℕ) → f t ≡ cond (not h && (A t && not (wasActive A t))) i (latest (previous A t) i (λ u. choose (λ g. G g u) ss (f u)))

@@ -1,6 +1,7 @@
 //! A pack's charts as a drawing for Graphviz: what is drawn above, what it is lowered into below.
 
 use super::exprs::flat;
+use super::ids::Ids;
 use super::labels::{bare, bare_equation, cut, html, left, listed, table};
 use super::page::node;
 use super::steps::{refusal, Steps};
@@ -8,10 +9,11 @@ use super::words::name;
 use crate::answer::Answer;
 use crate::package::*;
 use std::cmp::Ordering;
-use std::collections::HashMap;
 
 /// Lines of a node's box.
 const MOST_LINES: usize = 80;
+/// Letters of a node's longest line for which it gets a blank more: viewers draw it wider than Graphviz reckons.
+const WIDER: usize = 32;
 /// Machines, states, branches and nodes of one drawing: Graphviz takes minutes for more.
 const MOST_BOXES: usize = 400;
 
@@ -38,9 +40,8 @@ pub fn picture(steps: &Steps) -> Option<String> {
     if boxes > MOST_BOXES {
         return None;
     }
-    let last = p.machines.iter().enumerate().map(|(i, m)| (m.name, i)).collect();
-    let (out, late) = (HEAD.into(), String::new());
-    let mut drawing = Drawing { p, machines: last, out, boxes: 0, drawn: 0, states: vec![], late };
+    let (ids, out, late) = (Ids::new(p), HEAD.into(), String::new());
+    let mut drawing = Drawing { p, ids, out, boxes: 0, drawn: 0, states: vec![], level: 1, next: 1, late };
     drawing.charts();
     drawing.after(steps);
     let Drawing { out, late, .. } = drawing;
@@ -54,14 +55,16 @@ fn count(states: &[State]) -> usize {
 
 struct Drawing<'a> {
     p: &'a Package,
-    /// Machines by name; of those with one name the last is meant.
-    machines: HashMap<Name, usize>,
+    ids: Ids,
     out: String,
     /// How many boxes have a number.
     boxes: usize,
     /// The machine that is drawn, and its states' boxes so far.
     drawn: usize,
     states: Vec<String>,
+    /// The region level of the states that are drawn, and the id of the next region inside.
+    level: usize,
+    next: usize,
     /// Edges between clusters, which belong to no cluster.
     late: String,
 }
@@ -105,7 +108,7 @@ impl Drawing<'_> {
         let owner = m.owner.map_or(String::new(), |o| format!(" in {}", name(p, o)));
         let head = format!("<b>machine {}</b>{}", html(&name(p, m.name)), html(&owner));
         let label = left(&head, &listed(p, &[("in", &m.inputs), ("out", &m.outputs), ("local", &m.locals)]));
-        (self.drawn, self.states) = (i, vec![]);
+        (self.drawn, self.states, self.level, self.next) = (i, vec![], 1, 1);
         self.put(1, &format!("subgraph cluster_{id} {{"));
         self.put(2, &format!("label=<{label}> {MACHINE}"));
         self.region(2, &id, m.initial, false, &m.states);
@@ -159,7 +162,12 @@ impl Drawing<'_> {
             self.states.push(id.clone());
         }
         let mut lines: Vec<String> = s.equations.iter().map(|e| cut(&bare_equation(p, e))).collect();
-        lines.extend(s.refines.map(|m| format!("refines {}", name(p, m))));
+        let (inside, own) = (self.ids.in_state(s, self.level), self.ids.in_regions(&s.regions, self.level));
+        let (refined, after) = (self.next.saturating_add(own), self.next.saturating_add(inside));
+        lines.extend(s.refines.map(|m| match self.ids.machine(m) {
+            Some(other) if other != self.drawn => format!("refines {} as r{refined}", name(p, m)),
+            _ => format!("refines {}", name(p, m)),
+        }));
         let label = left(&format!("<b>{}</b>", html(&name(p, s.name))), &lines);
         let anchor = if s.regions.is_empty() {
             self.put(level, &format!("{id} [label=<{label}>]"));
@@ -167,6 +175,7 @@ impl Drawing<'_> {
         } else {
             self.cluster(level, &id, &label, &s.regions)
         };
+        self.next = after;
         self.refinement(s, &anchor);
         anchor
     }
@@ -186,17 +195,20 @@ impl Drawing<'_> {
     }
 
     fn inner_region(&mut self, level: usize, id: &str, r: &Region) {
-        let label = if r.history { "region with history" } else { "region" };
+        let label = format!("r{}: region{}", self.next, if r.history { " with history" } else { "" });
+        self.next = self.next.saturating_add(1);
         self.put(level, &format!("subgraph cluster_{id} {{"));
         self.put(level + 1, &format!("label=<<i>{label}</i>> style=\"rounded,dashed\" color=\"#7a8ca3\""));
+        self.level += 1;
         self.region(level + 1, id, r.initial, r.history, &r.states);
+        self.level -= 1;
         self.put(level, "}");
     }
 
     /// A dashed arrow to the machine that a state refines, where it is there.
     fn refinement(&mut self, s: &State, from: &Anchor) {
-        let Some(machine) = s.refines.and_then(|m| self.machines.get(&m)) else { return };
-        if *machine == self.drawn {
+        let Some(machine) = s.refines.and_then(|m| self.ids.machine(m)) else { return };
+        if machine == self.drawn {
             return;
         }
         let style = "style=dashed color=\"#7a8ca3\" constraint=false arrowhead=empty";
@@ -285,8 +297,11 @@ impl Drawing<'_> {
     /// A node's box: its text.
     fn node(&mut self, id: &str, title: &str, p: &Package, n: &Node) {
         let text = node(p, n);
-        let mut lines = text.lines().map(|line| html(line).replace("  ", "&#160;&#160;"));
-        let head = format!("<b>{}</b>{title}", lines.next().unwrap_or_default());
+        let mut lines = text.lines();
+        let head = format!("<b>{}</b>{title}", html(lines.next().unwrap_or_default()));
+        let longest = text.lines().map(str::len).max().unwrap_or(0);
+        let blanks = |line: &str| if line.len() == longest { (longest + WIDER / 2) / WIDER } else { 0 };
+        let mut lines = lines.map(|line| html(line).replace("  ", "&#160;&#160;") + &"&#160;".repeat(blanks(line)));
         let mut rows: Vec<String> = [head].into_iter().chain(lines.by_ref().take(MOST_LINES)).collect();
         let more = lines.count();
         if more > 0 {

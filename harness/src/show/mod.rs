@@ -3,6 +3,7 @@
 pub mod answers;
 pub mod dot;
 pub mod exprs;
+pub mod ids;
 pub mod labels;
 pub mod page;
 pub mod steps;
