@@ -21,6 +21,8 @@ use Rattle.pack.specs.Intern.{render}
 use Rattle.machines.specs.Brought.{eachT}
 use Rattle.machines.specs.declared.sure.Num.{Num}
 use Rattle.machines.specs.Emits.{packName}
+use Rattle.machines.proofs.SureLaws.{or-none}
+use Rattle.machines.proofs.RefusalNames.{all-left, all-right}
 use Rattle.activations.specs.declared.base.Base.{Base}
 use Rattle.activations.specs.declared.parts.Act.{Act}
 use Rattle.activation_rules.specs.MadeNames.{lastVar, other}
@@ -49,24 +51,12 @@ use Rattle.activations.proofs.ActRead.{ActivationRead, act-to, activati
 use Rattle.activations.proofs.GuardLaws.{tail-length}
 use Rattle.activations.proofs.IdsKnown.{last-made}
 use Rattle.activations.proofs.TypesKnown.{value-old}
-use Rattle.activations.proofs.ReadsKnown.{or-none}
 use Rattle.activations.proofs.ScopesKnown.{Fits, FitsIn, scopes-known}
 use Rattle.activations.proofs.FoundOnce.{Has, VarsOnce, found-asked, found-once}
 use Rattle.activations.proofs.RowsKnown.{PortsIn, held-told, held-typed, none-told, old-told, old-typed, ports-known, rows-known}
 use Rattle.activations.proofs.HoldersKnown.{Holds, RowTypes, hold-holds, holder, holders-told, holders-written, known-types, noHolder, row-coded}
 use Rattle.activations.proofs.LocalsLeft.{Leaves, clocks-left, flags-left, leaves-more, leaves-none, leaves-one}
 use Rattle.activations.proofs.ScopeLocalsKnown.{branches-left, else-left}
-
--- of the first and of the rest of a list
-all-first : {A : Type 0} (Q : A → Type 0) (xs ys : List A) → All Q (xs ++ ys) → All Q xs
-unfolding All
-all-first Q [] ys h = tt
-all-first Q (x ∷ xs) ys h = (h .0, all-first Q xs ys (h .1))
-
-all-rest : {A : Type 0} (Q : A → Type 0) (xs ys : List A) → All Q (xs ++ ys) → All Q ys
-unfolding All
-all-rest Q [] ys h = h
-all-rest Q (x ∷ xs) ys h = all-rest Q xs ys (h .1)
 
 named-some : (x : List Name) → nameless x ≡ false → 0 < length x
 unfolding nameless
@@ -84,7 +74,7 @@ unfolding bodies leftlessBranch All
 branches-fit P [] h e = tt
 branches-fit P (b ∷ bs) h e =
     let o = or-none (leftless (b .equations)) (leftlessBranch bs) e in
-    (scope-fits P (b .equations) (all-first (Asked P) (rightSides (b .equations)) (bodies bs) h) (o .0), branches-fit P bs (all-rest (Asked P) (rightSides (b .equations)) (bodies bs) h) (o .1))
+    (scope-fits P (b .equations) (all-left (Asked P) (rightSides (b .equations)) (bodies bs) h) (o .0), branches-fit P bs (all-right (Asked P) (rightSides (b .equations)) (bodies bs) h) (o .1))
 
 -- there are as many conditions as branches
 pub conditions-length : (a : Name) (bs : List Branch) → length (conditionsOf a bs) ≡ length bs
@@ -147,16 +137,16 @@ module _ (ns : List Name) (fresh : Fresh [] ns) (legal : All LegalName ns) (few 
 
   asked : All (Asked (Has xs)) (bodies (A .branches) ++ rightSides (A .otherwise))
   unfolding expressions
-  asked = all-rest (Asked (Has (found (expressions A) []))) (conditions (A .branches)) (bodies (A .branches) ++ rightSides (A .otherwise)) (found-asked (expressions A))
+  asked = all-right (Asked (Has (found (expressions A) []))) (conditions (A .branches)) (bodies (A .branches) ++ rightSides (A .otherwise)) (found-asked (expressions A))
 
   -- the scopes fit
   fit-branches : All (FitsIn (Has xs)) (A .branches)
   unfolding leftlessIn
-  fit-branches = branches-fit (Has xs) (A .branches) (all-first (Asked (Has xs)) (bodies (A .branches)) (rightSides (A .otherwise)) asked) (or-none (leftlessBranch (A .branches)) (leftless (A .otherwise)) filled .0)
+  fit-branches = branches-fit (Has xs) (A .branches) (all-left (Asked (Has xs)) (bodies (A .branches)) (rightSides (A .otherwise)) asked) (or-none (leftlessBranch (A .branches)) (leftless (A .otherwise)) filled .0)
 
   fit-else : All (Fits (Has xs)) (A .otherwise)
   unfolding leftlessIn
-  fit-else = scope-fits (Has xs) (A .otherwise) (all-rest (Asked (Has xs)) (bodies (A .branches)) (rightSides (A .otherwise)) asked) (or-none (leftlessBranch (A .branches)) (leftless (A .otherwise)) filled .1)
+  fit-else = scope-fits (Has xs) (A .otherwise) (all-right (Asked (Has xs)) (bodies (A .branches)) (rightSides (A .otherwise)) asked) (or-none (leftlessBranch (A .branches)) (leftless (A .otherwise)) filled .1)
 
   -- THE LINK: the equations of holders
   pub holder-equations : (b : Base) (to : ℕ) → counted (enumIn ns s) s (b .enums) ≡ value enums to → FirstsAre ns s (b .enums) spots → (z : State) → render (tabled ns) (eachT (rowItems ns s b spots (A .name) env table) rows 0) z ≡ render (tabled ns) (each equationItems gs) z

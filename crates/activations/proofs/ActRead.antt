@@ -1,10 +1,10 @@
 -- What reading an activation, a branch, an equation says, part by part, and where the code finds the parts.
-use Prim.Native.Nat.{ℕ, zero, suc, _<_}
+use Prim.Native.Nat.{ℕ, zero, suc, _<_, _≤_}
 use mathlib.Core.List.{List, [], _∷_}
 use mathlib.Core.Path.{_≡_, sym, ap, subst, _∙_}
 use lib.ListN.{length}
-use Rattle.wire.specs.Answer.{Answer, counted, many, u16, value}
-use Rattle.wire.proofs.Answers.{bind-value, many-length, map-value}
+use Rattle.wire.specs.Answer.{Answer, counted, index, many, mapA, u16, value}
+use Rattle.wire.proofs.Answers.{bind-value, fwd-bind, fwd-index, fwd-many, fwd-map, fwd-u16, many-length, map-value}
 use Rattle.pack.specs.Names.{Name}
 use Rattle.pack.specs.Syntax.{Activation, Branch, Equation}
 use Rattle.pack.specs.Forms.{nameAt}
@@ -53,6 +53,11 @@ counted-value r s at xs q e =
     (a .1, a .2 ∙ ap (λ y. value y (a .1)) l, ap (λ y. many r y (a .1)) (sym l) ∙ a .3)
 
 module _ (ns : List Name) (s : List ℕ) where
+  -- names go forward
+  pub names-move : (at : ℕ) (xs : List Name) (q : ℕ) → namesIn ns s at ≡ value xs q → at ≤ q
+  unfolding namesIn counted nameIn
+  names-move at xs q e = fwd-bind (length s) at (u16 s at) _ (fwd-u16 s at) (λ n p. fwd-many (length s) (λ y. mapA (nameAt ns) (index (length ns) s y)) (λ y. fwd-map (length s) y _ _ (fwd-index (length ns) s y)) n p) xs q e .on
+
   pub equation-value : (at : ℕ) (x : Equation) (q : ℕ) → equationIn ns s at ≡ value x q → EquationRead ns s at x q
   unfolding equationIn
   equation-value at x q e =

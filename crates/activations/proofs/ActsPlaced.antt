@@ -3,7 +3,6 @@ use Prim.Native.Nat.{ℕ, zero, suc, _+_, _%_, _<_, _≤_}
 use native.Mathlib.Nat.{mod-eq-of-lt}
 use native.Mathlib.Omega.{arith}
 use mathlib.Core.List.{List, [], _∷_, _++_}
-use mathlib.Core.Bool.{Bool, true, false, cond}
 use mathlib.Core.Option.{some}
 use mathlib.Core.Path.{_≡_, refl, sym, ap, subst, _∙_}
 use lib.ListN.{length, getD, length-replicate, replicate}
@@ -12,7 +11,7 @@ use Rattle.wire.specs.Answer.{many, u16, value}
 use Rattle.wire.specs.Lists.{Bytes}
 use Rattle.wire.proofs.Answers.{u16-value}
 use Rattle.pack.specs.declared.record.Pack.{Pack}
-use Rattle.pack.specs.Names.{Name, eqName}
+use Rattle.pack.specs.Names.{Name}
 use Rattle.pack.specs.Legal.{Fresh, place}
 use Rattle.pack.specs.Syntax.{Activation, Node, Package}
 use Rattle.pack.specs.Forms.{nameAt}
@@ -45,16 +44,7 @@ use Rattle.activations.proofs.ActRead.{act-end-to, activation-value}
 use Rattle.activations.proofs.ActTableLaws.{judged-goal, judged-spot, other-refusal, own-refusal}
 use Rattle.activations.proofs.PlacingLaws.{draw-length, owner-at}
 use Rattle.activations.proofs.RowsNoted.{put-length, put-other, put-same}
-
--- a name's place is not past the names
-place-low : (names : List Name) (n : Name) → place names n ≤ length names
-unfolding place
-place-low [] n = omega arith
-place-low (x ∷ xs) n = go (eqName x n) (place-low xs n)
-  where
-    go : (b : Bool) → place xs n ≤ length xs → cond b 0 (suc (place xs n)) ≤ suc (length xs)
-    go true h = omega arith
-    go false h = omega arith
+use Rattle.activations.proofs.LookupLaws.{place-most}
 
 module _ (ns : List Name) (s : List ℕ) (short : length s ≤ 65536) where
   -- an offset at which a name stands is below 65,536
@@ -166,7 +156,7 @@ module _ (ns : List Name) (s : List ℕ) (short : length s ≤ 65536) (few : len
       let small-o : numberIn s (numberIn s p .next) .value < length ns = subst (λ y. y < length ns) (sym v) (o .small) in
       let named-o : nameAt ns (numberIn s (numberIn s p .next) .value) ≡ A .owner = ap (nameAt ns) v ∙ o .named in
       let f : namedT s nodes n (numberIn s (numberIn s p .next) .value) ≡ place N (A .owner) = found-place ns fresh (ownersT s nodes n) n N owners _ (A .owner) small-o named-o in
-      let k : place N (A .owner) ≤ length N = place-low N (A .owner) in
+      let k : place N (A .owner) ≤ length N = place-most N (A .owner) in
       let few-k : namedT s nodes n (numberIn s (numberIn s p .next) .value) < 65536 = omega (arith, f, k, owners .number) in
       let lp : p < 65536 = low ns s short p (A .name) (r .to-owner) (r .name) in
       let m = put-length t i p in

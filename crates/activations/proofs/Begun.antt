@@ -26,7 +26,7 @@ use Rattle.activation_rules.specs.Sought.{Sought, expressions, found}
 use Rattle.activation_rules.specs.Unlast.{conditionsOf}
 use Rattle.activation_rules.specs.Holders.{Holding, held, hold, unheld}
 use Rattle.activation_rules.specs.Checks.{checks}
-use Rattle.activation_rules.specs.Lower.{Lowered, actEquations, actLocals, lowered, make, makes, refuse, unless, withHolders}
+use Rattle.activation_rules.specs.Lower.{actEquations, actLocals, lowered, make, makes, refuse, unless, withHolders}
 use Rattle.activations.specs.Cells.{clearT, copyT}
 use Rattle.activations.specs.Places.{actAt}
 use Rattle.activations.specs.TypesAt.{Coded, TypesAre, firstPortsT}
@@ -37,6 +37,7 @@ use Rattle.activations.specs.LocalsAt.{Left, actLocalsT}
 use Rattle.activations.specs.EquationsAt.{actEquationsT}
 use Rattle.activations.specs.BegunAt.{Beginning, begunT, heldT}
 use Rattle.activations.specs.Basis.{Basis, ReadAt, Scratch, Types}
+use Rattle.activations.specs.Bringing.{IsMade, equationsOf, portsOf}
 use Rattle.activations.proofs.ActRead.{act-to, activation-value}
 use Rattle.activations.proofs.TypesKnown.{outputs-typed}
 use Rattle.activations.proofs.SoughtFound.{all-found}
@@ -84,27 +85,14 @@ module _ (es : List Enum) (A : Activation) (n : Node) where
     pub locals : ls ≡ actLocals (sampleType (variables n ++ ports) (A .outputs)) (valueType (variables n ++ ports) (A .outputs)) A ports (readable (variables n ++ ports) (A .outputs))
     pub written : qs ≡ actEquations A equations (readable (variables n ++ ports) (A .outputs))
 
--- the locals and the equations of what is made
-unfoldable madePorts : Lowered → List Port
-madePorts (refuse r) = []
-madePorts (make ls qs) = ls
-
-unfoldable madeEquations : Lowered → List Equation
-madeEquations (refuse r) = []
-madeEquations (make ls qs) = qs
-
-unfoldable isMade : Lowered → ℕ
-isMade (refuse r) = 0
-isMade (make ls qs) = 1
-
 not-made : (r : Refusal) (ls : List Port) (qs : List Equation) → refuse r ≡ make ls qs → ⊥
-unfolding isMade
-not-made r ls qs e = let z : _≡_ {A = ℕ} 0 1 = ap isMade e in omega arith
+unfolding IsMade
+not-made r ls qs e = subst IsMade (sym e) tt
 
 module _ (es : List Enum) (A : Activation) (n : Node) (ls : List Port) (qs : List Equation) where
   parts-made : (ps : List Port) (gs : List Equation) → holding es A n ≡ held ps gs → leftlessIn A ≡ false → makes A (variables n ++ ps) ps gs ≡ make ls qs → Makes es A n ls qs
-  unfolding makes madePorts madeEquations
-  parts-made ps gs h g f = record { ports = ps; equations = gs; holds = h; filled = g; locals = sym (ap madePorts f); written = sym (ap madeEquations f) }
+  unfolding makes portsOf equationsOf
+  parts-made ps gs h g f = record { ports = ps; equations = gs; holds = h; filled = g; locals = sym (ap portsOf f); written = sym (ap equationsOf f) }
 
   pub made-makes : lowered es A n ≡ make ls qs → Makes es A n ls qs
   made-makes e = checked (checks A) refl

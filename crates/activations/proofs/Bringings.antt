@@ -1,14 +1,14 @@
 -- What activations bring to a node, one after the other: the node with all of it, and how it is written.
 use Prim.Native.Nat.{ℕ, suc, _+_, _-_, _<_, _≤_}
 use native.Mathlib.Omega.{arith}
-use mathlib.Core.List.{List, [], _∷_, _++_, append-assoc, append-nil}
+use mathlib.Core.List.{List, [], _∷_, _++_, append-nil}
 use mathlib.Core.Bool.{Bool, true, false, cond}
 use mathlib.Core.Path.{_≡_, refl, sym, ap, subst, _∙_}
 use lib.ListN.{length, take, drop}
 use lib.Dec.{eqb}
 use lib.Seq.{drop-length}
 use borrow.Author.Tests.{eq-eqb, eqb-false, eqb-true, ne-eqb}
-use Rattle.wire.specs.Writer.{State, full, stateOf}
+use Rattle.wire.specs.Writer.{State, stateOf}
 use Rattle.wire.specs.declared.writer.Writer.{Writer}
 use Rattle.pack.specs.Names.{Name}
 use Rattle.pack.specs.Legal.{place}
@@ -22,6 +22,8 @@ use Rattle.machines.specs.Emits.{packName}
 use Rattle.machine_rules.specs.Machines.{extend}
 use Rattle.machines.specs.Sections.{nodeNames}
 use Rattle.machines.proofs.LocalLaws.{each-append}
+use Rattle.machines.proofs.RowLaws.{full-is}
+use Rattle.machines.proofs.Shares.{extend-extend}
 use Rattle.activations.specs.declared.base.Base.{Base}
 use Rattle.activations.specs.declared.parts.Act.{Act}
 use Rattle.activation_rules.specs.Lower.{Lowered, lowered, make, refuse}
@@ -53,10 +55,6 @@ unfolding added extend portsOf equationsOf
 added-is (refuse r) n = sym (extend-none n)
 added-is (make ls qs) n = refl
 
-extend-more : (a c : List Port) (b d : List Equation) (n : Node) → extend c d (extend a b n) ≡ extend (a ++ c) (b ++ d) n
-unfolding extend
-extend-more a c b d n = λ i. record { name = n .name; kind = n .kind; inputs = n .inputs; outputs = n .outputs; locals = append-assoc (n .locals) a c i; equations = append-assoc (n .equations) b d i }
-
 module _ (es : List Enum) (nodes : List Name) (k : ℕ) where
   joins-is : (A : Activation) (n : Node) → joins es nodes k A n ≡ extend (cond (eqb (place nodes (A .owner)) k) (portsOf (lowered es A n)) []) (cond (eqb (place nodes (A .owner)) k) (equationsOf (lowered es A n)) []) n
   unfolding joins
@@ -73,7 +71,7 @@ module _ (es : List Enum) (nodes : List Name) (k : ℕ) where
   joined-is (A ∷ As) n =
       joined-is As (joins es nodes k A n)
       ∙ ap (extend (brought es nodes portsOf k As (joins es nodes k A n)) (brought es nodes equationsOf k As (joins es nodes k A n))) (joins-is A n)
-      ∙ extend-more (cond (eqb (place nodes (A .owner)) k) (portsOf (lowered es A n)) []) (brought es nodes portsOf k As (joins es nodes k A n)) (cond (eqb (place nodes (A .owner)) k) (equationsOf (lowered es A n)) []) (brought es nodes equationsOf k As (joins es nodes k A n)) n
+      ∙ extend-extend (cond (eqb (place nodes (A .owner)) k) (portsOf (lowered es A n)) []) (brought es nodes portsOf k As (joins es nodes k A n)) (cond (eqb (place nodes (A .owner)) k) (equationsOf (lowered es A n)) []) (brought es nodes equationsOf k As (joins es nodes k A n)) n
 
 -- an activation that is made
 pub made-is : (l : Lowered) → IsMade l → l ≡ make (portsOf l) (equationsOf l)
@@ -142,10 +140,6 @@ module _ (ns : List Name) (es : List Enum) (old s spots : List ℕ) (b : Base) (
       (e ∙ ap (λ (y : List ℕ). actEquationsT ns old s b spots y (x .hold .held) (x .rows) (x .hold .env) (x .outs) act (conditionsOf (A .name) (A .branches)) z) named)
       (subst (λ (y : List ℕ). LeftAs locals later′ (actLocalsT ns s old (b .made) y spots (x .hold .env) (x .outs) (b .last) (x .hold .held) (x .rows) act (quiet later))) named f)
 
-pub full-now : (out made : List ℕ) (v : Writer) → v .full ≡ true → stateOf out made v ≡ full
-unfolding stateOf
-full-now out made v e = rw e
-
 -- how many activations are left to write, where a full writer stops
 pub record Ahead (count i c : ℕ) (stop : Bool) : Type 0 where
   pub some : 0 < c → i + c ≡ count
@@ -153,10 +147,6 @@ pub record Ahead (count i c : ℕ) (stop : Bool) : Type 0 where
 
 pub ahead-start : (count : ℕ) (stop : Bool) → Ahead count 0 count stop
 ahead-start count stop = record { some = λ l. omega arith; none = λ l e. omega arith }
-
-pub left-less : (n n′ : ℕ) (stop : Bool) → 0 < n → n′ ≡ cond stop 0 (n - 1) → n′ < n
-left-less n n′ true l e = omega arith
-left-less n n′ false l e = omega arith
 
 pub ahead-next : (count i c c′ : ℕ) (stop stop′ : Bool) → Ahead count i c stop → 0 < c → c′ ≡ cond stop′ 0 (c - 1) → Ahead count (i + 1) c′ stop′
 ahead-next count i c c′ stop true A l e = record { some = λ h. absurd (omega arith); none = λ h f. absurd (let z : _≡_ {A = ℕ} 1 0 = ap (λ (b : Bool). cond b 1 0) f in omega arith) }
@@ -263,6 +253,6 @@ module _ (ns : List Name) (s old : List ℕ) (es : List Enum) (N : List Node) (A
     where
       go : (b : Bool) → v .full ≡ b → stateOf out made v ≡ render old (each items (brought es names f k As m)) z₀
       go true e =
-          let g = full-now out made v e in
+          let g = full-is out made v e in
           g ∙ sym (render-full old (each items (brought es names f k (drop i As) (nodeAfter i)))) ∙ sym (ap (render old (each items (brought es names f k (drop i As) (nodeAfter i)))) g) ∙ W .rest
       go false e = sym (ap (λ (xs : List X). render old (each items xs) (stateOf out made v)) (all-done i (A .none l e ∙ sym L) (nodeAfter i))) ∙ W .rest

@@ -3,9 +3,9 @@
 use Prim.Native.Nat.{ℕ, suc, _+_, _*_, _/_, _%_}
 use native.Mathlib.Nat.{add-mul-div-left, add-mul-mod-self-left, mod-add-div}
 use native.Mathlib.Omega.{arith}
-use mathlib.Core.List.{List, [], _∷_, _++_, append-assoc, append-nil}
+use mathlib.Core.List.{List, [], _∷_, _++_, append-assoc, append-eq-nil-iff, append-nil, cons-ne-nil}
 use mathlib.Core.Bool.{Bool, true, false, cond}
-use mathlib.Core.Option.{Option, none, some}
+use mathlib.Core.Option.{Option, none, some, Option·some-injective}
 use mathlib.Core.Path.{_≡_, refl, sym, ap, subst, _∙_}
 use lib.ListN.{length, length-append}
 use lib.Dec.{eqb}
@@ -13,7 +13,6 @@ use borrow.Author.Tests.{eqb-true}
 use Rattle.wire.specs.Bytes.{two}
 use Rattle.pack.specs.Names.{Name}
 use Rattle.pack.specs.Legal.{place}
-use Rattle.pack.specs.Report.{Refusal}
 use Rattle.pack.specs.Syntax.{Activation, Enum, Equation, Node, Port}
 use Rattle.pack.specs.Read.{portIn, portsIn}
 use Rattle.machines.specs.Brought.{totalT}
@@ -41,18 +40,6 @@ two-more y q =
     ap (λ x. x / 256 % 256) z ∙ ap (λ x. x % 256) (add-mul-div-left y (256 * q) (omega arith)) ∙ add-mul-mod-self-left (y / 256) 256 q in
     λ i. a i ∷ b i ∷ []
 
-no-refusal : (r : Refusal) (rs : List Refusal) → r ∷ rs ≡ [] → ⊥
-no-refusal r rs e = let z : suc (length rs) ≡ 0 = ap length e in omega arith
-
--- nothing after nothing
-first-none : (xs ys : List Refusal) → xs ++ ys ≡ [] → xs ≡ []
-first-none [] ys e = refl
-first-none (x ∷ xs) ys e = absurd (no-refusal x (xs ++ ys) e)
-
-rest-none : (xs ys : List Refusal) → xs ++ ys ≡ [] → ys ≡ []
-rest-none [] ys e = e
-rest-none (x ∷ xs) ys e = absurd (no-refusal x (xs ++ ys) e)
-
 -- an activation that is accepted in its owner
 pub record AcceptedIn (es : List Enum) (A : Activation) (o : Option Node) : Type 0 where
   pub owner : Node
@@ -63,12 +50,12 @@ pub record AcceptedIn (es : List Enum) (A : Activation) (o : Option Node) : Type
 
 made-in : (es : List Enum) (A : Activation) (n : Node) (l : Lowered) → lowered es A n ≡ l → refusalIn l ≡ [] → AcceptedIn es A (some n)
 unfolding refusalIn
-made-in es A n (refuse r) e h = absurd (no-refusal r [] h)
+made-in es A n (refuse r) e h = absurd (cons-ne-nil r [] h)
 made-in es A n (make ls qs) e h = record { owner = n; locals = ls; equations = qs; found = refl; is = e }
 
 accepted-in : (es : List Enum) (A : Activation) (o : Option Node) → refusalIn (fateIn es A o) ≡ [] → AcceptedIn es A o
 unfolding fateIn refusalIn
-accepted-in es A none h = absurd (no-refusal _ [] h)
+accepted-in es A none h = absurd (cons-ne-nil _ [] h)
 accepted-in es A (some n) h = made-in es A n (lowered es A n) refl h
 
 module _ (es : List Enum) (N : List Node) where
@@ -76,10 +63,10 @@ module _ (es : List Enum) (N : List Node) where
   unfolding refusalsOf
   none-in before [] A post e =
       ap (λ (Bs : List Activation). refusalIn (fateIn es A (ownerOf es N Bs A))) (append-nil before)
-      ∙ first-none (refusalIn (fateIn es A (ownerOf es N before A))) _ e
+      ∙ append-eq-nil-iff {p = refusalIn (fateIn es A (ownerOf es N before A))} .0 e .0
   none-in before (B ∷ mid) A post e =
       ap (λ (Bs : List Activation). refusalIn (fateIn es A (ownerOf es N Bs A))) (sym (append-assoc before (B ∷ []) mid))
-      ∙ none-in (before ++ (B ∷ [])) mid A post (rest-none (refusalIn (fateIn es B (ownerOf es N before B))) _ e)
+      ∙ none-in (before ++ (B ∷ [])) mid A post (append-eq-nil-iff {p = refusalIn (fateIn es B (ownerOf es N before B))} .0 e .1)
 
   -- each is, where no refusal is made
   pub accepted-each : (As : List Activation) → refusalsOf es N [] As ≡ [] → (before : List Activation) (A : Activation) (post : List Activation) → As ≡ before ++ (A ∷ post) → AcceptedIn es A (ownerOf es N before A)
@@ -91,13 +78,6 @@ pub node-at : (f : Node → Node) (pre : List Node) (n : Node) (post : List Node
 unfolding nodeOf
 node-at f [] n post = refl
 node-at f (x ∷ pre) n post = node-at f pre n post
-
-pub was-node : (z x y : Node) → some x ≡ some y → x ≡ y
-was-node z x y e = ap inside e
-  where
-    inside : Option Node → Node
-    inside none = z
-    inside (some u) = u
 
 module _ (ns : List Name) (s : List ℕ) (es : List Enum) (N : List Node) (As : List Activation) (acts : List ℕ) (drawn : Drawn ns s es N As acts) (fates : Fates ns s es N As acts) (accepted : refusalsOf es N [] As ≡ []) where
   -- the counts of a row
@@ -153,7 +133,7 @@ module _ (ns : List Name) (s : List ℕ) (es : List Enum) (N : List Node) (As : 
           → (q : ℕ) × (length (added (lowered es A (m before)) (m before) .locals) ≡ length (m before .locals) + madeT acts (length before) + 65536 * q) × (length (added (lowered es A (m before)) (m before) .equations) ≡ length (m before .equations) + equationCountT s acts (length before) + 65536 * q)
       one-here h =
           let a = accepted-each es N As accepted before A post e in
-          let same : a .owner ≡ m before = was-node n (a .owner) (m before) (sym (a .found) ∙ owner-here h) in
+          let same : a .owner ≡ m before = Option·some-injective (a .owner) (m before) (sym (a .found) ∙ owner-here h) in
           let is : lowered es A (m before) ≡ make (a .locals) (a .equations) = ap (lowered es A) (sym same) ∙ a .is in
           let l = added-long (a .locals) (a .equations) is in
           let la = l .0 in

@@ -1,13 +1,11 @@
 -- What the code refuses of an activation before `last` is sought is what the definition refuses.
-use Prim.Native.Nat.{ℕ, zero, suc, _+_, _%_, _<_, _≤_}
+use Prim.Native.Nat.{ℕ, zero, suc, _+_, _<_, _≤_}
 use native.Mathlib.Omega.{arith}
-use native.Mathlib.Nat.{mod-eq-of-lt}
 use mathlib.Core.List.{List, [], _∷_, _++_}
 use mathlib.Core.Bool.{Bool, true, false, cond, not, _&&_, _||_}
 use mathlib.Core.Option.{Option, none, some}
 use mathlib.Core.Path.{_≡_, refl, sym, ap, subst, _∙_}
 use lib.ListN.{length, getD}
-use lib.Seq.{getD-set-other, getD-set-same}
 use lib.Dec.{eqb, ltb}
 use borrow.Author.Tests.{eq-eqb, eqb-true, le-ltb, lt-ltb, ne-eqb}
 use Rattle.wire.specs.Answer.{counted, many, u16, value}
@@ -28,7 +26,7 @@ use Rattle.machines.proofs.NamesPlaced.{alone}
 use Rattle.machines.proofs.TablesFilled.{fill-at, fill-length}
 use Rattle.machines.specs.Stands.{endOf}
 use Rattle.machines.proofs.Reading.{many-cut, many-more, many-over, name-number}
-use Rattle.machines.proofs.SureLaws.{end-to, number-num, number-to, then-to}
+use Rattle.machines.proofs.SureLaws.{chosen, end-to, left-out, number-num, number-to, then-to}
 use Rattle.activations.specs.declared.parts.Act.{Act}
 use Rattle.activations.specs.declared.refused.Refused.{Refused}
 use Rattle.activations.specs.Cells.{clearT, putT}
@@ -44,23 +42,7 @@ use Rattle.activations.specs.Walks.{LastIs}
 use Rattle.activations.proofs.MisusedFound.{any-misused-is}
 use Rattle.activations.specs.ChecksAt.{assignBranchesT, assignScopeT, assignT, assignedT, called, checksT, inScopesT, leftlessScopeT, leftlessT, namelessT, orElseT, overEquation, refusalBy, refusedT, repeatedIn, repeatedT, scopeNameT, unassignedT}
 use Rattle.activations.proofs.ActRead.{ActivationRead, act-to, branch-end-to, branch-number-to, branch-value, body-to, counted-value, equation-value}
-use Rattle.activations.proofs.RowsNoted.{put-length}
-
--- a choice that is known
-on-true : {A : Type 0} (b : Bool) (x y : A) → b ≡ true → cond b x y ≡ x
-on-true b x y e = rw e
-
-on-false : {A : Type 0} (b : Bool) (x y : A) → b ≡ false → cond b x y ≡ y
-on-false b x y e = rw e
-
--- a word that was put, and the others
-pub put-same : (t : List ℕ) (i v : ℕ) → i < length t → v < 65536 → getD (putT t i v) i 0 ≡ v
-unfolding putT
-put-same t i v l h = getD-set-same t i (v % 65536) 0 l ∙ mod-eq-of-lt h
-
-pub put-other : (t : List ℕ) (i j v : ℕ) → (j ≡ i → ⊥) → getD (putT t i v) j 0 ≡ getD t j 0
-unfolding putT
-put-other t i j v n = getD-set-other t i j (v % 65536) 0 n
+use Rattle.activations.proofs.RowsNoted.{put-length, put-other, put-same}
 
 module _ (ns : List Name) (fresh : Fresh [] ns) (s : List ℕ) where
   -- a table marks the names seen
@@ -77,7 +59,7 @@ module _ (ns : List Name) (fresh : Fresh [] ns) (s : List ℕ) where
           ap (λ y. eqb y 0) (ap (λ y. getD (putT t i 1) y 0) (eqb-true j i f) ∙ put-same t i 1 (omega arith) (omega arith))
           ∙ ap (λ y. not (y || member (nameAt ns j) seen)) (sym (ap (eqName (nameAt ns j)) (sym e) ∙ alone ns fresh i j h k ∙ f))
       go false f =
-          ap (λ y. eqb y 0) (put-other t i j 1 (λ y. let z : _≡_ {A = ℕ} 0 1 = ap (λ u. cond u 0 1) (sym (eq-eqb j i y) ∙ f) in omega arith))
+          ap (λ y. eqb y 0) (put-other t i 1 j (λ y. let z : _≡_ {A = ℕ} 0 1 = ap (λ u. cond u 0 1) (sym (eq-eqb j i y) ∙ f) in omega arith))
           ∙ m j k
           ∙ ap (λ y. not (y || member (nameAt ns j) seen)) (sym (ap (eqName (nameAt ns j)) (sym e) ∙ alone ns fresh i j h k ∙ f))
 
@@ -137,7 +119,7 @@ module _ (ns : List Name) (fresh : Fresh [] ns) (s : List ℕ) where
           where
             at-index : (b : Bool) → eqb y x ≡ b → getD (putT t y (suc k)) x 0 ≡ cond b (suc k) (getD t x 0)
             at-index true f = ap (λ z. getD (putT t z (suc k)) x 0) (eqb-true y x f) ∙ put-same t x (suc k) (omega arith) (omega arith)
-            at-index false f = put-other t y x (suc k) (λ g. let z : _≡_ {A = ℕ} 0 1 = ap (λ u. cond u 0 1) (sym (eq-eqb y x (sym g)) ∙ f) in omega arith)
+            at-index false f = put-other t y (suc k) x (λ g. let z : _≡_ {A = ℕ} 0 1 = ap (λ u. cond u 0 1) (sym (eq-eqb y x (sym g)) ∙ f) in omega arith)
 
         go : (y n : ℕ) → eqb n 1 && eqb y x ≡ isOnly (nameAt ns x) (e .lhs)
             → getD (cond (eqb n 1 && eqb (getD t y 0) k) (putT t y (suc k)) t) x 0 ≡ cond (isOnly (nameAt ns x) (e .lhs) && eqb (getD t x 0) k) (suc k) (getD t x 0)
@@ -315,14 +297,14 @@ module _ (ns : List Name) (fresh : Fresh [] ns) (s : List ℕ) where
     branch-called v h =
         let u = named-at (length (A .branches)) (r .b) (A .branches) (r .to-else) v (r .branches) h in
         ap (λ (a : Act). called ns (scopeNameT ns s a v)) (act-is .1)
-        ∙ ap (called ns) (on-true (ltb v (length (A .branches))) _ _ (lt-ltb v (length (A .branches)) h) ∙ (number-to s (r .to-branches) (length (A .branches)) (r .b) (λ n p. numberIn s (along (branchEnd ns s) v p) .value) (r .count) ∙ u .3))
+        ∙ ap (called ns) (chosen (ltb v (length (A .branches))) _ _ (lt-ltb v (length (A .branches)) h) ∙ (number-to s (r .to-branches) (length (A .branches)) (r .b) (λ n p. numberIn s (along (branchEnd ns s) v p) .value) (r .count) ∙ u .3))
         ∙ rw (lt-ltb (u .0) (length ns) (u .1)) (ap (λ y. y ∷ []) (u .2))
 
     else-called : called ns (scopeNameT ns s act (length (A .branches))) ≡ elseName ∷ []
     unfolding scopeNameT called
     else-called =
         ap (λ (a : Act). called ns (scopeNameT ns s a (length (A .branches)))) (act-is .1)
-        ∙ ap (called ns) (on-false (ltb (length (A .branches)) (length (A .branches))) _ _ (le-ltb (length (A .branches)) (length (A .branches)) (omega arith)))
+        ∙ ap (called ns) (left-out (ltb (length (A .branches)) (length (A .branches))) _ _ (le-ltb (length (A .branches)) (length (A .branches)) (omega arith)))
         ∙ rw (le-ltb (suc (length ns)) (length ns) (omega arith), ne-eqb (suc (length ns)) (length ns) (λ e. omega (arith, e)))
 
     old-called : (i : ℕ) (o : Name) → i < length ns → nameAt ns i ≡ o → called ns i ≡ o ∷ []
@@ -367,7 +349,7 @@ module _ (ns : List Name) (fresh : Fresh [] ns) (s : List ℕ) where
             stops : (w : ℕ) (b : Name) → getD T x 0 ≡ w → w ≤ length (A .branches) → called ns (scopeNameT ns s act w) ≡ b ∷ []
                 → refusalBy ns (A .name) (cond (ltb (act .n) (getD T x 0)) (unassignedT ns s act T n (endOf (portIn ns s p))) (refusedT 11 x (scopeNameT ns s act (getD T x 0)))) ≡ some (outputUnassigned (A .name) (o .name) b)
             stops w b d l c =
-                ap (refusalBy ns (A .name)) (on-false (ltb (act .n) (getD T x 0)) _ _ (le-ltb (act .n) (getD T x 0) (omega (arith, d, many-branches))))
+                ap (refusalBy ns (A .name)) (left-out (ltb (act .n) (getD T x 0)) _ _ (le-ltb (act .n) (getD T x 0) (omega (arith, d, many-branches))))
                 ∙ ap (λ y. refusalBy ns (A .name) (refusedT 11 x (scopeNameT ns s act y))) d
                 ∙ refused-by x (scopeNameT ns s act w) (o .name) b h k c
 
@@ -388,7 +370,7 @@ module _ (ns : List Name) (fresh : Fresh [] ns) (s : List ℕ) where
                 last : (b : Bool) → getD T x 0 ≡ cond (b && true) (suc (length (A .branches))) (reached (o .name) 0 0 (A .branches))
                     → refusalBy ns (A .name) (cond (ltb (act .n) (getD T x 0)) (unassignedT ns s act T n (endOf (portIn ns s p))) (refusedT 11 x (scopeNameT ns s act (getD T x 0))))
                     ≡ firstOf (cond b none (some (outputUnassigned (A .name) (o .name) elseName))) (inScopes A ps)
-                last true d = ap (refusalBy ns (A .name)) (on-true (ltb (act .n) (getD T x 0)) _ _ (lt-ltb (act .n) (getD T x 0) (omega (arith, d, many-branches)))) ∙ ih
+                last true d = ap (refusalBy ns (A .name)) (chosen (ltb (act .n) (getD T x 0)) _ _ (lt-ltb (act .n) (getD T x 0) (omega (arith, d, many-branches)))) ∙ ih
                 last false d = stops (length (A .branches)) elseName (d ∙ got ∙ w) (omega arith) else-called
 
     unfoldable few-branches : Type 0
@@ -426,20 +408,20 @@ module _ (ns : List Name) (fresh : Fresh [] ns) (s : List ℕ) where
     -- no branches, no outputs
     branches-first : (bs : List Branch) (n : ℕ) (x : Refused) (b : Option Refusal) → n ≡ length bs → refusalBy ns (A .name) x ≡ b → refusalBy ns (A .name) (cond (eqb n 0) (refusedT 9 (length ns) (length ns)) x) ≡ firstOf (branchless (A .name) bs) b
     unfolding branchless noBranches firstOf
-    branches-first [] n x b e f = ap (refusalBy ns (A .name)) (on-true (eqb n 0) _ _ (eq-eqb n 0 e)) ∙ one-named 8
-    branches-first (c ∷ bs) n x b e f = ap (refusalBy ns (A .name)) (on-false (eqb n 0) _ _ (ne-eqb n 0 (λ d. omega (arith, e, d)))) ∙ f
+    branches-first [] n x b e f = ap (refusalBy ns (A .name)) (chosen (eqb n 0) _ _ (eq-eqb n 0 e)) ∙ one-named 8
+    branches-first (c ∷ bs) n x b e f = ap (refusalBy ns (A .name)) (left-out (eqb n 0) _ _ (ne-eqb n 0 (λ d. omega (arith, e, d)))) ∙ f
 
     outputs-first : (ps : List Port) (n : ℕ) (x : Refused) (b : Option Refusal) → n ≡ length ps → refusalBy ns (A .name) x ≡ b → refusalBy ns (A .name) (cond (eqb n 0) (refusedT 10 (length ns) (length ns)) x) ≡ firstOf (outputless (A .name) ps) b
     unfolding outputless noOutputs firstOf
-    outputs-first [] n x b e f = ap (refusalBy ns (A .name)) (on-true (eqb n 0) _ _ (eq-eqb n 0 e)) ∙ one-named 9
-    outputs-first (p ∷ ps) n x b e f = ap (refusalBy ns (A .name)) (on-false (eqb n 0) _ _ (ne-eqb n 0 (λ d. omega (arith, e, d)))) ∙ f
+    outputs-first [] n x b e f = ap (refusalBy ns (A .name)) (chosen (eqb n 0) _ _ (eq-eqb n 0 e)) ∙ one-named 9
+    outputs-first (p ∷ ps) n x b e f = ap (refusalBy ns (A .name)) (left-out (eqb n 0) _ _ (ne-eqb n 0 (λ d. omega (arith, e, d)))) ∙ f
 
     doubled : (x : ℕ) (o : Option Name) → RepeatedAs x o → (y : Refused) (b : Option Refusal) → refusalBy ns (A .name) y ≡ b
         → refusalBy ns (A .name) (cond (ltb x (length ns)) (refusedT 12 x (length ns)) y) ≡ firstOf (asRefusal (λ n. duplicateBranch (A .name) n) o) b
     unfolding RepeatedAs asRefusal duplicateBranch firstOf refusalBy
-    doubled x none e y b f = ap (refusalBy ns (A .name)) (on-false (ltb x (length ns)) _ _ (le-ltb x (length ns) (omega (arith, e)))) ∙ f
+    doubled x none e y b f = ap (refusalBy ns (A .name)) (left-out (ltb x (length ns)) _ _ (le-ltb x (length ns) (omega (arith, e)))) ∙ f
     doubled x (some n) e y b f =
-        ap (refusalBy ns (A .name)) (on-true (ltb x (length ns)) _ _ (lt-ltb x (length ns) (e .0)))
+        ap (refusalBy ns (A .name)) (chosen (ltb x (length ns)) _ _ (lt-ltb x (length ns) (e .0)))
         ∙ λ j. some (record { kind = 12; names = A .name ∷ (old-called x n (e .0) (e .1) j ++ none-called j) })
 
     module _ (last : ℕ) (few : length ns < 65536) (by : Bytes s) (short : length s ≤ 65536) (L : LastIs ns last) (read : activationIn ns s at ≡ value A z) where

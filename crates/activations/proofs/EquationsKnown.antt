@@ -19,6 +19,7 @@ use Rattle.pack.specs.Intern.{render}
 use Rattle.pack.proofs.Interns.{render-append}
 use Rattle.machines.specs.Emits.{packName}
 use Rattle.machines.proofs.LocalLaws.{each-append}
+use Rattle.machines.proofs.MachineEmitted.{numbered}
 use Rattle.activations.specs.declared.base.Base.{Base}
 use Rattle.activations.specs.declared.parts.Act.{Act}
 use Rattle.activation_rules.specs.MadeNames.{other}
@@ -46,7 +47,6 @@ use Rattle.activations.specs.EquationsAt.{actEquationsT}
 use Rattle.activations.proofs.ActRead.{act-to, activation-value}
 use Rattle.activations.proofs.MergesEmitted.{merges-read}
 use Rattle.activations.proofs.FlagsWritten.{flags-written}
-use Rattle.activations.proofs.HolderWritten.{numbered}
 use Rattle.activations.proofs.ActKnown.{conditions-length, holder-equations, scopes-written}
 
 -- equations after equations

@@ -16,6 +16,7 @@ use Rattle.pack.proofs.Written.{render-full}
 use Rattle.machines.specs.declared.sure.Num.{Num}
 use Rattle.machines.specs.Sure.{numberIn, with}
 use Rattle.machines.proofs.SureLaws.{on}
+use Rattle.machines.proofs.SectionsShown.{raw-only}
 use Rattle.activations.specs.declared.made.Var.the-variants as vr
 use Rattle.activations.specs.Vars.{branchVar}
 use Rattle.activations.specs.UnlastAt.{unlastT}
@@ -25,10 +26,6 @@ use Rattle.activations.specs.FlagsAt.{branchFlagsT, flagItems, flagT, fl
 use Rattle.activations.proofs.UnlastLaws.{unlast-full}
 
 module _ (old : List ℕ) (a : Name) where
-  raw-alone : (xs : List ℕ) (t : State) → render old (raw xs ∷ []) t ≡ puts xs t
-  unfolding render putItem
-  raw-alone xs t = refl
-
   pub prior-none : (k : ℕ) (z : State) → k ≡ 0 → z ≡ render old (priorItems a k) z
   unfolding priorItems render
   prior-none zero z e = refl
@@ -75,7 +72,7 @@ module _ (old : List ℕ) (a : Name) where
         (h ∙ ap (unlastT ns s last old spots a at) (g ∙ ap (puts (2 ∷ 0 ∷ [])) (f ∙ ap (render old (priorItems a k)) e) ∙ joins))
       where
         joins : puts (2 ∷ 0 ∷ []) (render old (priorItems a k) (render old (list nameItems (branchVar vr.Untaken a k ∷ [])) w)) ≡ render old (list nameItems (branchVar vr.Untaken a k ∷ []) ++ (priorItems a k ++ (raw (2 ∷ 0 ∷ []) ∷ []))) w
-        joins = sym (render-append old (list nameItems (branchVar vr.Untaken a k ∷ [])) (priorItems a k ++ (raw (2 ∷ 0 ∷ []) ∷ [])) w ∙ render-append old (priorItems a k) (raw (2 ∷ 0 ∷ []) ∷ []) (render old (list nameItems (branchVar vr.Untaken a k ∷ [])) w) ∙ raw-alone (2 ∷ 0 ∷ []) (render old (priorItems a k) (render old (list nameItems (branchVar vr.Untaken a k ∷ [])) w)))
+        joins = sym (render-append old (list nameItems (branchVar vr.Untaken a k ∷ [])) (priorItems a k ++ (raw (2 ∷ 0 ∷ []) ∷ [])) w ∙ render-append old (priorItems a k) (raw (2 ∷ 0 ∷ []) ∷ []) (render old (list nameItems (branchVar vr.Untaken a k ∷ [])) w) ∙ raw-only old (2 ∷ 0 ∷ []) (render old (priorItems a k) (render old (list nameItems (branchVar vr.Untaken a k ∷ [])) w)))
 
     pub branch-is : (n k p : ℕ) (i : Num) (w x y : State) → i ≡ numberIn s p → x ≡ flagT ns s last old spots a k (i .next) w → y ≡ untakenT ns s last old spots a n k (i .next) x → y ≡ branchFlagsT ns s last old spots a n k p w
     unfolding branchFlagsT

@@ -1,9 +1,9 @@
 -- What the code writes of a holder's row is the holder's equation.
 use Prim.Native.Nat.{ℕ, _-_, _<_}
 use native.Mathlib.Omega.{arith}
-use mathlib.Core.List.{List, [], _∷_, append-nil}
-use mathlib.Core.Option.{Option, none, some}
-use mathlib.Core.Path.{_≡_, refl, sym, ap, subst, _∙_}
+use mathlib.Core.List.{List, [], _∷_}
+use mathlib.Core.Option.{Option, none, some, Option·none-ne-some}
+use mathlib.Core.Path.{_≡_, refl, sym, ap, _∙_}
 use lib.ListN.{length, getD, take, drop}
 use borrow.Author.Tests.{eq-eqb, ne-eqb}
 use Rattle.wire.specs.Answer.{counted, value}
@@ -14,17 +14,17 @@ use Rattle.pack.specs.Names.{Name}
 use Rattle.pack.specs.Report.{firstOf}
 use Rattle.pack.specs.Syntax.{Enum, Expr, Ty, eArrow, eConst, ePre, eVar}
 use Rattle.pack.specs.Forms.{nameAt}
-use Rattle.pack.specs.Legal.{Each, Fresh, LegalName, place}
+use Rattle.pack.specs.Legal.{Fresh, LegalName}
 use Rattle.pack.specs.Read.{enumIn, exprIn}
 use Rattle.pack.specs.Write.{each, equationItems, exprItems, list, litBytes, nameItems, nm, raw}
 use Rattle.pack.specs.Table.{tabled}
 use Rattle.pack.specs.Intern.{putItem, putName, render}
-use Rattle.pack.proofs.Copies.{copied-expr, render-known}
+use Rattle.pack.proofs.Copies.{copied-expr}
 use Rattle.pack.proofs.Interns.{render-append}
-use Rattle.pack.proofs.Tables.{code, place-at-name}
 use Rattle.machines.specs.Laid.{sliceOf}
 use Rattle.machines.specs.Emits.{packName}
 use Rattle.machines.proofs.SureLaws.{end-to}
+use Rattle.machines.proofs.MachineEmitted.{numbered}
 use Rattle.activations.specs.declared.base.Base.{Base}
 use Rattle.activations.specs.declared.types.Start.{Start}
 use Rattle.activations.specs.declared.types.Start.the-variants as sr
@@ -45,32 +45,22 @@ unfoldable exprOr : Expr → Option Expr → Expr
 exprOr d none = d
 exprOr d (some e) = e
 
-no-expr : (e : Expr) → none ≡ some e → ⊥
-no-expr e h = let z : _≡_ {A = ℕ} 0 1 = cc in omega arith
-
 equation-steps : (old : List ℕ) (n v : Name) (e : Expr) (z : State) → render old (equationItems (eqn n (eArrow e (ePre (eVar v))))) z ≡ render old (raw (5 ∷ []) ∷ raw (1 ∷ []) ∷ nm v ∷ []) (render old (exprItems e) (render old (raw (two 1) ∷ nm n ∷ raw (6 ∷ []) ∷ []) z))
 unfolding equationItems eqn list each nameItems exprItems render putItem
 equation-steps old n v e z = render-append old (exprItems e) (raw (5 ∷ []) ∷ raw (1 ∷ []) ∷ nm v ∷ []) (puts (6 ∷ []) (putName old n (puts (two 1) z)))
 
 module _ (ns : List Name) (fresh : Fresh [] ns) (legal : All LegalName ns) (few : length ns < 65536) (s : List ℕ) (by : Bytes s) where
-  -- an old name by its index
-  pub numbered : (x : ℕ) → x < length ns → (z : State) → puts (two x) z ≡ putName (tabled ns) (nameAt ns x) z
-  unfolding render putItem code Each
-  numbered x l z =
-      let k = place-at-name ns x fresh l in
-      sym (render-known ns (nm (nameAt ns x) ∷ []) z legal (subst (λ y. y < length ns) (sym k) l, tt) ∙ ap (λ y. puts y z) (append-nil (two (place ns (nameAt ns x)))) ∙ ap (λ y. puts (two y) z) k)
-
   literal-written : (tag : ℕ) (z : State) → puts (0 ∷ litBytes (zeroOf tag)) z ≡ render (tabled ns) (exprItems (eConst (zeroOf tag))) z
   unfolding exprItems render putItem
   literal-written tag z = refl
 
   name-written : (v : ℕ) → v < length ns → (z : State) → puts (1 ∷ two v) z ≡ render (tabled ns) (exprItems (eVar (nameAt ns v))) z
   unfolding exprItems render putItem puts
-  name-written v l z = numbered v l (put 1 z)
+  name-written v l z = numbered ns fresh legal few s by v l (put 1 z)
 
   start-written : (t : Start) (e : Expr) → startExpr ns t ≡ some e → StartIn ns t → (z : State) → puts (startBytes t) z ≡ render (tabled ns) (exprItems e) z
   unfolding startExpr StartIn startBytes exprOr
-  start-written sr.Missing e h i z = absurd (no-expr e h)
+  start-written sr.Missing e h i z = absurd (Option·none-ne-some e h)
   start-written (sr.Literal tag) e h i z = literal-written tag z ∙ ap (λ y. render (tabled ns) (exprItems (exprOr e y)) z) h
   start-written (sr.Name v) e h i z = name-written v i z ∙ ap (λ y. render (tabled ns) (exprItems (exprOr e y)) z) h
 
@@ -96,6 +86,6 @@ module _ (ns : List Name) (fresh : Fresh [] ns) (legal : All LegalName ns) (few 
         let y = put 6 (putName (tabled ns) (lastVar a (x .var)) (puts (two 1) z)) in
         ap (λ m. puts (two v) (put 1 (put 5 (puts (initBytes ns s b spots (wordT held h 1) (getD env (wordT held h 2) 0)) (put 6 (putName (tabled ns) (lastVar a m) (puts (two 1) z))))))) n
         ∙ ap (λ w. puts (two v) (put 1 (put 5 w))) (init-written (x .init) (wordT held h 1) (getD env (wordT held h 2) 0) t e (r .2) k f y)
-        ∙ numbered v (r .0) (put 1 (put 5 (render (tabled ns) (exprItems e) y)))
+        ∙ numbered ns fresh legal few s by v (r .0) (put 1 (put 5 (render (tabled ns) (exprItems e) y)))
         ∙ ap (λ m. putName (tabled ns) m (put 1 (put 5 (render (tabled ns) (exprItems e) y)))) (r .1)
         ∙ sym (equation-steps (tabled ns) (lastVar a (x .var)) (x .var) e z)

@@ -43,7 +43,6 @@ pub mod HoldLaws
 pub mod RowsNoted
 pub mod FirstsKept
 pub mod IdsKnown
-pub mod Keeping
 pub mod SoughtFound
 pub mod HoldKnown
 pub mod HolderLaws

@@ -33,13 +33,14 @@ unfolding mergeFrom mergedFrom
 merged-number a o k [] = refl
 merged-number a o k (c ∷ cs) = ap (eMerge (clockVar a k) (eVar (valueVar a (branch k) o))) (merged-number a o (suc k) cs)
 
-branch-scope : (n k : ℕ) → k < n → scopeAt n k ≡ branch k
+-- the scopes of branches, and the else scope after them
+pub scope-branch : (n k : ℕ) → k < n → scopeAt n k ≡ branch k
 unfolding scopeAt
-branch-scope n k l = rw (lt-ltb k n l)
+scope-branch n k l = rw (lt-ltb k n l)
 
-other-scope : (n k : ℕ) → n ≤ k → scopeAt n k ≡ other
+pub scope-else : (n k : ℕ) → n ≤ k → scopeAt n k ≡ other
 unfolding scopeAt
-other-scope n k l = rw (le-ltb k n l)
+scope-else n k l = rw (le-ltb k n l)
 
 module _ (old : List ℕ) (a o : Name) where
   pub turn-term : (n k : ℕ) (s : State) → render old (exprItems (eVar (valueVar a (scopeAt n k) o))) (putName old (branchVar vr.Clock a k) (put 15 s)) ≡ render old (turnItems a o n k) s
@@ -48,7 +49,7 @@ module _ (old : List ℕ) (a o : Name) where
 
   turn-branch : (n k : ℕ) → k < n → turnItems a o n k ≡ raw (15 ∷ []) ∷ nm (clockVar a k) ∷ exprItems (eVar (valueVar a (branch k) o))
   unfolding turnItems
-  turn-branch n k l = ap (λ (c : Scope). raw (15 ∷ []) ∷ nm (clockVar a k) ∷ exprItems (eVar (valueVar a c o))) (branch-scope n k l)
+  turn-branch n k l = ap (λ (c : Scope). raw (15 ∷ []) ∷ nm (clockVar a k) ∷ exprItems (eVar (valueVar a c o))) (scope-branch n k l)
 
   merge-items : (x : Name) (d e : Expr) → exprItems (eMerge x d e) ≡ (raw (15 ∷ []) ∷ nm x ∷ exprItems d) ++ exprItems e
   unfolding exprItems
@@ -71,7 +72,7 @@ module _ (old : List ℕ) (a o : Name) where
 
   pub merged-none : (n k j : ℕ) (s z : State) → j ≤ 0 → render old (exprItems (mergedFrom a o k j)) s ≡ z → render old (exprItems (eVar (valueVar a (scopeAt n n) o))) s ≡ z
   unfolding mergedFrom
-  merged-none n k zero s z l h = ap (λ (c : Scope). render old (exprItems (eVar (valueVar a c o))) s) (other-scope n n (omega arith)) ∙ h
+  merged-none n k zero s z l h = ap (λ (c : Scope). render old (exprItems (eVar (valueVar a c o))) s) (scope-else n n (omega arith)) ∙ h
   merged-none n k (suc j) s z l h = absurd (omega arith)
 
   pub merged-of : (n : ℕ) (cs : List Expr) (s : State) → length cs ≡ n → render old (exprItems (mergedFrom a o 0 n)) s ≡ render old (exprItems (mergeFrom a o 0 cs)) s

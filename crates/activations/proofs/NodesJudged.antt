@@ -8,11 +8,12 @@ use mathlib.Core.Path.{_≡_, refl, sym, ap, subst, _∙_}
 use lib.ListN.{length, getD, take, drop}
 use lib.Dec.{eqb}
 use borrow.Author.Tests.{eq-eqb, eqb-false, eqb-true, ne-eqb}
-use Rattle.pack.specs.Names.{Name, eqName}
+use Rattle.pack.specs.Names.{Name}
 use Rattle.pack.specs.Legal.{place}
 use Rattle.pack.specs.Syntax.{Activation, Enum, Node}
 use Rattle.pack.specs.Read.{activationIn}
 use Rattle.machines.specs.Sections.{nodeNames}
+use Rattle.machines.proofs.Shares.{length-names}
 use Rattle.activation_rules.specs.Refusals.{unknownOwner}
 use Rattle.activations.specs.declared.parts.Act.{Act}
 use Rattle.activations.specs.declared.refused.Refused.{Refused}
@@ -31,6 +32,7 @@ use Rattle.activations.specs.Judging.{JudgedIn, NodeJudged, RowJudged, R
 use Rattle.activations.proofs.Joined.{joined-snoc}
 use Rattle.activations.proofs.Splits.{Among, among, before-is, before-less, first, member-is}
 use Rattle.activations.proofs.ActTableLaws.{judged-goal, judged-spot, other-made, other-refusal, own-made, own-refusal}
+use Rattle.activations.proofs.LookupLaws.{place-most}
 
 -- all activations as they are, and all that were judged
 pub kept-none : (P : ℕ → Type 0) (acts : List ℕ) → RowsKept P acts acts
@@ -169,20 +171,6 @@ nodes-at ns s nodes j [] h (suc k) x xs e = absurd (let a = ap length e in omega
 nodes-at ns s nodes j (n ∷ N) h zero x xs e = let z : j ≡ j + 0 = omega arith in subst (λ (i : ℕ). NodeAt ns s nodes i x) z (subst (NodeAt ns s nodes j) (ap (first n) e) (h .0))
 nodes-at ns s nodes j (n ∷ N) h (suc k) x xs e = let z : suc j + k ≡ j + suc k = omega arith in subst (λ (i : ℕ). NodeAt ns s nodes i x) z (nodes-at ns s nodes (suc j) N (h .1) k x xs e)
 
-place-low : (ns : List Name) (x : Name) → place ns x ≤ length ns
-unfolding place
-place-low [] x = omega arith
-place-low (n ∷ ns) x = go (eqName n x) (place-low ns x)
-  where
-    go : (b : Bool) → place ns x ≤ length ns → cond b 0 (suc (place ns x)) ≤ suc (length ns)
-    go true h = omega arith
-    go false h = omega arith
-
-names-length : (N : List Node) → length (nodeNames N) ≡ length N
-unfolding nodeNames
-names-length [] = refl
-names-length (n ∷ N) = ap suc (names-length N)
-
 -- activations stay where they are drawn
 pub drawn-kept : (ns : List Name) (s : List ℕ) (es : List Enum) (N : List Node) (As : List Activation) → length As ≤ 6656 → (P : ℕ → Type 0) (acts acts′ : List ℕ) → RowsKept P acts acts′ → Drawn ns s es N As acts → Drawn ns s es N As acts′
 unfolding RowsKept
@@ -255,8 +243,8 @@ module _ (ns : List Name) (s : List ℕ) (es : List Enum) (N : List Node) (As : 
           (subst (λ (x : ℕ). FateIs ns (A .name) (refusalT acts₀ (length b)) x (refuse (unknownOwner (A .name) (A .owner)))) (sym (q .1)) (U b A p e g)))
       go false f =
           let g = eqb-false (place (nodeNames N) (A .owner)) (length N) f in
-          let h = place-low (nodeNames N) (A .owner) in
-          let w = names-length N in
+          let h = place-most (nodeNames N) (A .owner) in
+          let w = length-names N in
           P .fates b A p e (omega arith)
 
 -- the types of a node that was read

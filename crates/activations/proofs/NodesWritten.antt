@@ -35,6 +35,7 @@ use Rattle.machines.proofs.ListsShown.{copied, counted-parts}
 use Rattle.machines.proofs.SureLaws.{end-to}
 use Rattle.machines.proofs.ShownCounts.{node-equations-to, node-locals-to, node-value}
 use Rattle.machines.proofs.ShownItems.{raw-first}
+use Rattle.machines.proofs.RowLaws.{full-is}
 use Rattle.activations.specs.declared.base.Base.{Base}
 use Rattle.activation_rules.specs.Lower.{lowered}
 use Rattle.activations.specs.Joining.{eachAt, fateIn, joined, joins, ownerOf}
@@ -44,7 +45,7 @@ use Rattle.activations.specs.CountsAt.{bringsEquationsT, bringsLocalsT}
 use Rattle.activations.specs.Fates.{Drawn, NodeRead}
 use Rattle.activations.specs.Bringing.{AllMade, Counted, IsMade, Settled, brought, equationsOf, headItems, portsOf, tailItems}
 use Rattle.activations.proofs.Splits.{Among}
-use Rattle.activations.proofs.Bringings.{Ahead, full-now, joined-is}
+use Rattle.activations.proofs.Bringings.{Ahead, joined-is}
 use Rattle.activations.proofs.NodesJudged.{nodes-at, owner-here}
 use Rattle.activations.proofs.BroughtKnown.{AcceptedIn, accepted-each, equations-two, locals-two}
 
@@ -222,6 +223,6 @@ module _ (ns : List Name) (s : List ℕ) (es : List Enum) (N : List Node) (As : 
     where
       go : (b : Bool) → v .full ≡ b → stateOf out made v ≡ z₀
       go true e =
-          let g = full-now out made v e in
+          let g = full-is out made v e in
           g ∙ sym (render-full old (each nodeItems (restNodes k))) ∙ sym (ap (render old (each nodeItems (restNodes k))) g) ∙ f
       go false e = sym (ap (λ (l : List Node). render old (each nodeItems l) (stateOf out made v)) (no-nodes k (A .none l e ∙ sym (S .many)))) ∙ f

@@ -2,7 +2,7 @@
 use Prim.Native.Nat.{ℕ, suc, _+_, _-_, _<_, _≤_}
 use native.Mathlib.Omega.{arith}
 use mathlib.Core.List.{List, [], _∷_}
-use mathlib.Core.Bool.{Bool, true, false, cond, _&&_}
+use mathlib.Core.Bool.{Bool, true, false, cond}
 use mathlib.Core.Logic.{⊎-elim}
 use mathlib.Core.Path.{_≡_, refl, sym, ap, subst, _∙_}
 use lib.ListN.{length}
@@ -21,6 +21,7 @@ use Rattle.pack.proofs.Tables.{eqName-true}
 use Rattle.machines.specs.Laid.{sliceOf}
 use Rattle.machines.specs.Emits.{packName}
 use Rattle.machines.proofs.MachineEmitted.{numbered}
+use Rattle.machines.proofs.Refused.{eqName-turn}
 use Rattle.activation_rules.specs.MadeNames.{Scope, actPrefix, lastVar, madeName, sampleVar, scopeAt}
 use Rattle.activations.specs.Lookups.{MadeIs, isMade, placeBuilt}
 use Rattle.activation_rules.specs.Samples.{renamed}
@@ -64,14 +65,6 @@ eqb-turns x y = go (eqb x y) refl
     go : (b : Bool) → eqb x y ≡ b → b ≡ eqb y x
     go true e = sym (eq-eqb y x (sym (eqb-true x y e)))
     go false e = sym (ne-eqb y x (λ g. eqb-false x y e (sym g)))
-
--- one name is the other where the other is the one
-pub eqName-turns : (x y : Name) → eqName x y ≡ eqName y x
-unfolding eqName
-eqName-turns [] [] = refl
-eqName-turns [] (y ∷ ys) = refl
-eqName-turns (x ∷ xs) [] = refl
-eqName-turns (x ∷ xs) (y ∷ ys) = λ i. eqb-turns x y i && eqName-turns xs ys i
 
 -- by a Boolean that is computed
 pub by-bool : (P : Bool → Type 0) (b : Bool) → (b ≡ true → P true) → (b ≡ false → P false) → P b
@@ -135,7 +128,7 @@ module _ (ns : List Name) (fresh : Fresh [] ns) (legal : All LegalName ns) (few 
         (by-bool (λ (b : Bool). Stands x (cond b (renamedFrom (sampleT s spots (length ns) a (tabled ns) made n k) vs (sampleT s spots (length ns) a (tabled ns) made n k u) u) (renamedFrom (sampleT s spots (length ns) a (tabled ns) made n k) vs u y)) (renamed a (scopeAt n k) (namesOf ns a vs) (cond b (sampleVar a (scopeAt n k) (nameOf ns a v)) m))) (eqb v u)
         (λ e. subst (λ (w : ℕ). Stands x (renamedFrom (sampleT s spots (length ns) a (tabled ns) made n k) vs (sampleT s spots (length ns) a (tabled ns) made n k w) w) (renamed a (scopeAt n k) (namesOf ns a vs) (sampleVar a (scopeAt n k) (nameOf ns a v)))) (eqb-true v u e)
         (renamed-stands x vs (sampleT s spots (length ns) a (tabled ns) made n k v) v (sampleVar a (scopeAt n k) (nameOf ns a v)) (all .1)
-        (λ w i. sample-found v w (id-below ns a v (all .0)) i ∙ eqName-turns (nameOf ns a w) (sampleVar a (scopeAt n k) (nameOf ns a v)))
+        (λ w i. sample-found v w (id-below ns a v (all .0)) i ∙ eqName-turn (nameOf ns a w) (sampleVar a (scopeAt n k) (nameOf ns a v)))
         (taken (all .0) refl)))
         (λ e. renamed-stands x vs u y m (all .1) tells h))
 
@@ -152,4 +145,4 @@ module _ (ns : List Name) (fresh : Fresh [] ns) (legal : All LegalName ns) (few 
     unfolding chosenItems renamedT
     renamed-written ids all x i z =
         stood-written x (renamedFrom (sampleT s spots (length ns) a (tabled ns) made n k) ids x 65536) (renamed a (scopeAt n k) (namesOf ns a ids) (nameOf ns a x)) z i
-        (renamed-stands x ids x 65536 (nameOf ns a x) all (λ v j. ids-tell ns a fresh v x j i ∙ eqName-turns (nameOf ns a v) (nameOf ns a x)) (stays refl))
+        (renamed-stands x ids x 65536 (nameOf ns a x) all (λ v j. ids-tell ns a fresh v x j i ∙ eqName-turn (nameOf ns a v) (nameOf ns a x)) (stays refl))

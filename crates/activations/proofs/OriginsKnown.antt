@@ -3,7 +3,7 @@ use Prim.Native.Nat.{ℕ, zero, suc, _+_, _*_, _<_}
 use native.Mathlib.Omega.{arith}
 use mathlib.Core.List.{List, [], _∷_, _++_, append-assoc}
 use mathlib.Core.Bool.{Bool, true, false, cond}
-use mathlib.Core.Option.{Option, none, some}
+use mathlib.Core.Option.{Option, some, Option·none-ne-some, Option·some-injective}
 use mathlib.Core.Path.{_≡_, refl, sym, ap, subst, _∙_}
 use lib.ListN.{length, getD, length-append}
 use Rattle.wire.specs.Answer.{many, u16, value}
@@ -30,6 +30,7 @@ use Rattle.machines.proofs.LocalLaws.{each-append}
 use Rattle.machines.proofs.Reading.{many-cut, many-more, many-over, name-number}
 use Rattle.machines.proofs.ShownCounts.{equations-number, node-equations-to, node-value}
 use Rattle.machines.proofs.SureLaws.{number-to}
+use Rattle.machines.proofs.MachineEmitted.{numbered}
 use Rattle.activations.specs.declared.parts.Act.{Act}
 use Rattle.activation_rules.specs.Checks.{branchNames, elseName}
 use Rattle.activations.specs.Places.{actAt, branchEnd}
@@ -40,8 +41,7 @@ use Rattle.activations.specs.Joining.{fateIn, joined, nodeOf, originIn, 
 use Rattle.activation_rules.specs.Lower.{Lowered}
 use Rattle.activations.specs.OriginsAt.{branchesT, firstT, numbersT, originT, scopeNamesT}
 use Rattle.activations.proofs.ActRead.{act-to, activation-value, branch-end-to, branch-number-to, branch-value}
-use Rattle.activations.proofs.BroughtKnown.{AcceptedIn, accepted-each, row-equations, some-bring, two-more, was-node}
-use Rattle.activations.proofs.HolderWritten.{numbered}
+use Rattle.activations.proofs.BroughtKnown.{AcceptedIn, accepted-each, row-equations, some-bring, two-more}
 use Rattle.activations.proofs.Joined.{joined-name}
 use Rattle.activations.proofs.OriginLaws.{numbers-put}
 
@@ -55,21 +55,14 @@ record NodeOf (N : List Node) (x : Name) (f : Node → Node) (o : Node) : Type 0
   named : node .name ≡ x
   becomes : f node ≡ o
 
-no-node : (o : Node) → none ≡ some o → ⊥
-no-node o e = let z : _≡_ {A = ℕ} 0 1 = ap count e in omega arith
-  where
-    count : Option Node → ℕ
-    count none = 0
-    count (some y) = 1
-
 node-of : (N : List Node) (x : Name) (f : Node → Node) (o : Node) → nodeOf f N (place (nodeNames N) x) ≡ some o → NodeOf N x f o
 unfolding nodeOf nodeNames place
-node-of [] x f o e = absurd (no-node o e)
+node-of [] x f o e = absurd (Option·none-ne-some o e)
 node-of (y ∷ ys) x f o e = go (eqName (y .name) x) refl e (λ h. node-of ys x f o h)
   where
     go : (b : Bool) → eqName (y .name) x ≡ b → nodeOf f (y ∷ ys) (cond b 0 (suc (place (nodeNames ys) x))) ≡ some o → (nodeOf f ys (place (nodeNames ys) x) ≡ some o → NodeOf ys x f o) → NodeOf (y ∷ ys) x f o
     go true d h rest =
-        record { pre = []; node = y; later = ys; among = refl; place-is = ap (λ b. cond b 0 (suc (place (nodeNames ys) x))) d; named = eqName-true (y .name) x d; becomes = was-node o (f y) o h }
+        record { pre = []; node = y; later = ys; among = refl; place-is = ap (λ b. cond b 0 (suc (place (nodeNames ys) x))) d; named = eqName-true (y .name) x d; becomes = Option·some-injective (f y) o h }
     go false d h rest =
         let r = rest h in
         record {

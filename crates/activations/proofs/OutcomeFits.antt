@@ -14,17 +14,12 @@ use Rattle.pack.specs.Table.{textsFrom}
 use Rattle.machines.specs.declared.refusal.Judged.{Judged}
 use Rattle.machines.specs.Entries.{entryBytes}
 use Rattle.machines.specs.Filled.{Answers}
-use Rattle.machines.proofs.EntryLaws.{called-fits, entry-length, own-most}
+use Rattle.machines.proofs.EntryLaws.{entry-most}
 use Rattle.machines.proofs.OutcomeSmall.{InTable}
 
 -- an entry has three names, each with letters of the pack or the four of `else`
-pub entry-most : (s spots lets : List ℕ) (m : ℕ) (j : Judged) (r : ℕ) → length s ≤ 65536 → length lets ≤ 4 → r ≡ length (entryBytes s spots lets m j) → r ≤ 200000
-entry-most s spots lets m j r a b e =
-    let x = entry-length s spots lets m j _ refl in
-    let y = own-most s spots _ m refl in
-    let u = called-fits s spots lets (j .second) _ refl in
-    let v = called-fits s spots lets (j .third) _ refl in
-    omega arith
+pub entry-fits : (s spots lets : List ℕ) (m : ℕ) (j : Judged) (r : ℕ) → length s ≤ 65536 → length lets ≤ 4 → r ≡ length (entryBytes s spots lets m j) → r ≤ 200000
+entry-fits s spots lets m j r a b e = let x = entry-most s spots lets m j r e in omega arith
 
 sized-fits : (room : ℕ) (b : List ℕ) → InTable (sized room b)
 unfolding sized numberOf valueOf maxBytes

@@ -3,7 +3,7 @@ use Prim.Native.Nat.{ℕ, _+_, _-_, _%_, _<_}
 use native.Mathlib.Omega.{arith}
 use mathlib.Core.List.{List}
 use mathlib.Core.Path.{_≡_, sym, ap, _∙_}
-use lib.ListN.{length, getD, length-replicate, length-set, replicate, set}
+use lib.ListN.{length, getD, length-replicate, replicate}
 use Rattle.pack.specs.Names.{Name}
 use Rattle.machines.specs.declared.sure.Num.{Num}
 use Rattle.machines.specs.Settling.{fillT, findT, nodeEnd, nth}
@@ -56,6 +56,3 @@ draw-kept names s nodes n i p acts t z e h = ap length e ∙ draw-length names s
 
 pub draw-by : (ns : List Name) (names : ℕ) (s nodes : List ℕ) (n i p : ℕ) (acts t : List ℕ) → length ns ≡ names → t ≡ drawT names s nodes n i p acts → t ≡ drawT (length ns) s nodes n i p acts
 draw-by ns names s nodes n i p acts t e h = h ∙ ap (λ y. drawT y s nodes n i p acts) (sym e)
-
-pub cell-kept : (t u z : List ℕ) (i v : ℕ) → u ≡ set t i v → length t ≡ length z → length u ≡ length z
-cell-kept t u z i v e h = ap length e ∙ length-set t i v ∙ h

@@ -21,6 +21,8 @@ use Rattle.pack.proofs.Tables.{all-append, code, eqName-true}
 use Rattle.pack.proofs.Copies.{Lies, lies-expr}
 use Rattle.machines.specs.Marks.{among}
 use Rattle.machines.proofs.Reading.{many-end}
+use Rattle.machines.proofs.Refused.{eqName-turn}
+use Rattle.machines.proofs.SureLaws.{or-none}
 use Rattle.activations.specs.declared.met.Met.{Met}
 use Rattle.activations.specs.declared.met.Met.the-variants as mt
 use Rattle.activation_rules.specs.LastCalls.{plain}
@@ -42,7 +44,7 @@ use Rattle.activations.proofs.HeadCopies.{Kept, head-lies}
 use Rattle.activations.proofs.UnlastWritten.{bad-call, last-call, plain-call}
 use Rattle.activations.proofs.AskedLaws.{asked-last, asked-under}
 use Rattle.activations.proofs.IdLaws.{id-below, ids-tell, name-of-holder, name-of-old}
-use Rattle.activations.proofs.NumbersKnown.{by-bool, eqName-turns, eqb-turns}
+use Rattle.activations.proofs.NumbersKnown.{by-bool, eqb-turns}
 
 -- what lies between two offsets is as long as they are apart
 pub lies-length : (ns : List Name) (s : List ℕ) (at : ℕ) (is : List Item) (q : ℕ) → Lies ns s at is q → at + length (code ns is) ≡ q
@@ -134,7 +136,7 @@ module _ (ns : List Name) (a : Name) (fresh : Fresh [] ns) where
   unfolding among member namesOf All
   among-is x [] i h = refl
   among-is x (y ∷ ys) i h =
-      let e = ids-tell ns a fresh y x (h .0) i ∙ eqName-turns (nameOf ns a y) (nameOf ns a x) in
+      let e = ids-tell ns a fresh y x (h .0) i ∙ eqName-turn (nameOf ns a y) (nameOf ns a x) in
       let f = among-is x ys i (h .1) in
       λ j. e j || f j
 
@@ -167,10 +169,6 @@ push-fits x z h l =
 unfoldable pub Once : List ℕ → Type 0
 Once [] = Unit {0}
 Once (x ∷ xs) = (among x xs ≡ false) × Once xs
-
-pub or-none : (b c : Bool) → b || c ≡ false → (b ≡ false) × (c ≡ false)
-or-none true c e = absurd (let z : _≡_ {A = ℕ} 1 0 = ap (λ (d : Bool). cond d 1 0) e in omega arith)
-or-none false c e = (refl, e)
 
 -- one number more at the end
 pub among-snoc : (y x : ℕ) (z : List ℕ) → eqb x y ≡ false → among y (z ++ (x ∷ [])) ≡ among y z

@@ -3,7 +3,7 @@ use Prim.Native.Nat.{ℕ, zero, suc, _+_, _<_}
 use native.Mathlib.Omega.{arith}
 use mathlib.Core.List.{List, [], _∷_, _++_, append-assoc}
 use mathlib.Core.Bool.{Bool, true, false, cond}
-use mathlib.Core.Option.{Option, none, some}
+use mathlib.Core.Option.{none, some, Option·none-ne-some, Option·some-injective}
 use mathlib.Core.Path.{_≡_, refl, sym, ap, subst, _∙_}
 use lib.ListN.{length, length-append}
 use lib.Dec.{eqb, ltb}
@@ -18,6 +18,7 @@ use Rattle.pack.specs.Forms.{nameAt}
 use Rattle.pack.specs.Report.{Refusal, entries, reportBytes}
 use Rattle.pack.specs.Outcome.{reported}
 use Rattle.pack.specs.Write.{enc}
+use Rattle.pack.proofs.Tables.{all-append}
 use Rattle.machines.specs.declared.sure.Num.{Num}
 use Rattle.machines.specs.Brought.{totalT}
 use Rattle.machine_rules.specs.Call.{finished}
@@ -30,6 +31,8 @@ use Rattle.machines.specs.Sure.{numberIn}
 use Rattle.machines.proofs.EntryLaws.{entry-is}
 use Rattle.machines.proofs.Reading.{name-number}
 use Rattle.machines.proofs.SureLaws.{number-num}
+use Rattle.machines.proofs.RefusalNames.{Short}
+use Rattle.machines.proofs.ListsShown.{none-long}
 use Rattle.activations.specs.declared.refused.Refused.{Refused}
 use Rattle.activation_rules.specs.Checks.{elseName}
 use Rattle.activations.specs.ChecksAt.{called, refusalBy}
@@ -44,36 +47,12 @@ use Rattle.activations.proofs.ActRead.{activation-value}
 use Rattle.activations.proofs.Joined.{activations-refusals}
 use Rattle.activations.proofs.RefusalKinds.{LoweredKind, fate-kind}
 
-abbrev Short : Name → Type 0
-Short n = length n < 256
-
--- an option is not both
-none-some : {A : Type 0} (x : A) → none ≡ some x → ⊥
-none-some {A} x e = let z : _≡_ {A = ℕ} 0 1 = ap count e in omega arith
-  where
-    count : Option A → ℕ
-    count none = 0
-    count (some y) = 1
-
--- an option's value
-was-some : {A : Type 0} (z x y : A) → some x ≡ some y → x ≡ y
-was-some {A} z x y e = ap inside e
-  where
-    inside : Option A → A
-    inside none = z
-    inside (some u) = u
-
 -- the names of a checked pack are short
 short-at : (ns : List Name) → All LegalName ns → (i : ℕ) → i < length ns → Short (nameAt ns i)
 unfolding All nameAt
 short-at [] h i l = absurd (omega arith)
 short-at (n ∷ ns) h zero l = h .0 .1
 short-at (n ∷ ns) h (suc i) l = short-at ns (h .1) i (omega arith)
-
-all-both : (xs ys : List Name) → All Short xs → All Short ys → All Short (xs ++ ys)
-unfolding All
-all-both [] ys h k = k
-all-both (x ∷ xs) ys h k = (h .0, all-both xs ys (h .1) k)
 
 none-entered : [] ≡ entries []
 unfolding entries
@@ -112,7 +91,7 @@ module _ (ns : List Name) (s old spots : List ℕ) (P : PackOf ns s old spots) w
   unfolding judgedAs namesOf All
   entry-by a n r l e k =
       let m : namesOf s spots elseName a (judgedAs (length ns) r) ≡ n ∷ (called ns (r .second) ++ called ns (r .third)) = λ i. (P .placed a l ∙ e) i ∷ (called-known (r .second) i ++ called-known (r .third) i) in
-      let short : All Short (n ∷ (called ns (r .second) ++ called ns (r .third))) = (subst Short e (short-at ns (P .legal) a l), all-both (called ns (r .second)) (called ns (r .third)) (called-short (r .second)) (called-short (r .third))) in
+      let short : All Short (n ∷ (called ns (r .second) ++ called ns (r .third))) = (subst Short e (short-at ns (P .legal) a l), all-append Short (called ns (r .second)) (called ns (r .third)) (called-short (r .second)) (called-short (r .third))) in
       entry-is s spots elseName a (judgedAs (length ns) r) k (subst (All Short) (sym m) short)
       ∙ ap (λ (y : List Name). entries (record { kind = r .kind; names = y } ∷ [])) m
 
@@ -127,13 +106,13 @@ module _ (ns : List Name) (s old spots : List ℕ) (P : PackOf ns s old spots) w
     row-by n (refuse x) h k e = go (eqb (r .kind) 0) h
       where
         go : (b : Bool) → cond b none (some refusal) ≡ some x → (_≡_ {A = ℕ} (cond b 0 1) 1) × (cond b [] xs ≡ entries (x ∷ []))
-        go true h = absurd (none-some x h)
-        go false h = let y = was-some x refusal x h in (refl, e (subst (λ (z : Refusal). z .kind < 256) (sym y) k) ∙ ap (λ (z : Refusal). entries (z ∷ [])) y)
+        go true h = absurd (Option·none-ne-some x h)
+        go false h = let y = Option·some-injective refusal x h in (refl, e (subst (λ (z : Refusal). z .kind < 256) (sym y) k) ∙ ap (λ (z : Refusal). entries (z ∷ [])) y)
     row-by n (make ls es) h k e = go (eqb (r .kind) 0) (h .0)
       where
         go : (b : Bool) → cond b none (some refusal) ≡ none → (_≡_ {A = ℕ} (cond b 0 1) 0) × (cond b [] xs ≡ entries [])
         go true h = (refl, none-entered)
-        go false h = absurd (none-some refusal (sym h))
+        go false h = absurd (Option·none-ne-some refusal (sym h))
 
   module _ (es : List Enum) (N : List Node) (As : List Activation) (acts : List ℕ) (drawn : Drawn ns s es N As acts) (fates : Fates ns s es N As acts) where
     row : (before : List Activation) (A : Activation) (post : List Activation) → As ≡ before ++ (A ∷ post)
@@ -192,8 +171,4 @@ module _ (p : Package) (s old spots acts : List ℕ) (P : PackOf (p .names) s ol
 
     -- where nothing is
     pub accepted-known : refused ≡ 0 → madeActivations p .refusals ≡ []
-    accepted-known e = go (madeActivations p .refusals) (sym refused-is ∙ e)
-      where
-        go : (rs : List Refusal) → length rs ≡ 0 → rs ≡ []
-        go [] f = refl
-        go (x ∷ xs) f = absurd (omega arith)
+    accepted-known e = none-long (madeActivations p .refusals) (sym refused-is ∙ e)

@@ -29,6 +29,7 @@ use Rattle.activations.specs.UnlastAt.{copyItems, metItems, unlastT}
 use Rattle.activations.specs.NumbersAt.{idItems, lastIdT, sampleNameT, sampleT}
 use Rattle.activations.specs.RewriteAt.{chosenItems, clockedItems, hasConstT, overT, pinItems, pinT, pinnedT, renameItems, renameT, renamedFrom, renamedT}
 use Rattle.activations.proofs.Moving.{ended}
+use Rattle.activations.proofs.UnlastLaws.{copied-to}
 
 -- what stands for a number: one read more that is it, that is another, and the end
 module _ (f : ℕ → ℕ) (ids : List ℕ) (i x y z : ℕ) where
@@ -131,19 +132,15 @@ module _ (old s spots : List ℕ) (names : ℕ) (made : Bool) (a : Name) (n k : 
         i ∙ ap (λ (l : List ℕ). render old (clockedItems old s spots names made a n k ids x l) z) (g ∙ ap (λ (w : ℕ). sliceOf s p (w - p)) (f ∙ ap onwardT e))
         ∙ ap (λ (w : Met). render old (renameItems old s spots names made a n k ids held rows w p) z) (sym e)
 
-    copied-to : (p q : ℕ) (h : List ℕ) (x z : State) → h ≡ sliceOf s p (q - p) → x ≡ puts h z → x ≡ render old (copyItems s p q) z
-    unfolding copyItems render putItem
-    copied-to p q h x z e f = f ∙ ap (λ (y : List ℕ). puts y z) e
-
     pub rename-other : (m : Met) (p q : ℕ) (h : List ℕ) (x z : State) → OneOf (1 ∷ 2 ∷ 5 ∷ 6 ∷ []) (tagOf Met-enum.the-type m) → q ≡ onwardT m → h ≡ sliceOf s p (q - p) → x ≡ puts h z → x ≡ render old (renameItems old s spots names made a n k ids held rows m p) z
     unfolding renameItems onwardT
     rename-other (mt.Last v i e) p q h x z t f g j = absurd (⊎-elim (λ d. omega arith) (λ d. ⊎-elim (λ d. omega arith) (λ d. ⊎-elim (λ d. omega arith) (λ d. omega arith) d) d) t)
-    rename-other (mt.Bad u e) p q h x z t f g j = copied-to p e h x z (g ∙ ap (λ y. sliceOf s p (y - p)) f) j
-    rename-other (mt.Const e) p q h x z t f g j = copied-to p e h x z (g ∙ ap (λ y. sliceOf s p (y - p)) f) j
+    rename-other (mt.Bad u e) p q h x z t f g j = copied-to old s p e h x z (g ∙ ap (λ y. sliceOf s p (y - p)) f) j
+    rename-other (mt.Const e) p q h x z t f g j = copied-to old s p e h x z (g ∙ ap (λ y. sliceOf s p (y - p)) f) j
     rename-other (mt.Var i e) p q h x z t f g j = absurd (⊎-elim (λ d. omega arith) (λ d. ⊎-elim (λ d. omega arith) (λ d. ⊎-elim (λ d. omega arith) (λ d. omega arith) d) d) t)
     rename-other (mt.Clocked c u e) p q h x z t f g j = absurd (⊎-elim (λ d. omega arith) (λ d. ⊎-elim (λ d. omega arith) (λ d. ⊎-elim (λ d. omega arith) (λ d. omega arith) d) d) t)
-    rename-other (mt.Other u e) p q h x z t f g j = copied-to p e h x z (g ∙ ap (λ y. sliceOf s p (y - p)) f) j
-    rename-other mt.Nothing p q h x z t f g j = copied-to p 0 h x z (g ∙ ap (λ y. sliceOf s p (y - p)) f) j
+    rename-other (mt.Other u e) p q h x z t f g j = copied-to old s p e h x z (g ∙ ap (λ y. sliceOf s p (y - p)) f) j
+    rename-other mt.Nothing p q h x z t f g j = copied-to old s p 0 h x z (g ∙ ap (λ y. sliceOf s p (y - p)) f) j
 
     module _ (ns : List Name) (last : ℕ) where
       pub rename-done : (c p at : ℕ) (z y : State) → c ≤ 0 → walked ns s last (writeStep old (renameItems old s spots names made a n k ids held rows)) c p z ≡ walked ns s last (writeStep old (renameItems old s spots names made a n k ids held rows)) 1 at y → z ≡ renameT old s spots names made a n k ids held rows ns last at y

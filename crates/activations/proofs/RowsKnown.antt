@@ -21,11 +21,13 @@ use Rattle.pack.specs.Read.{portIn, portsIn}
 use Rattle.pack.proofs.Tables.{eqName-ne, eqName-true, member-either, place-at-name}
 use Rattle.machines.proofs.Reading.{many-cut, many-more}
 use Rattle.machines.proofs.TableLaws.{past-end}
+use Rattle.machines.proofs.Refused.{eqName-turn}
+use Rattle.machines.specs.Sure.{firstSome}
 use Rattle.activation_rules.specs.MadeNames.{lastVar}
 use Rattle.activation_rules.specs.Types.{firstTyped, lastTyped, portNames, readable, typed}
 use Rattle.activation_rules.specs.Sought.{Sought}
 use Rattle.activations.specs.Ids.{holderId, nameOf}
-use Rattle.activations.specs.TypeCodes.{codeOr, outT, typedT}
+use Rattle.activations.specs.TypeCodes.{outT, typedT}
 use Rattle.activations.specs.TypesAt.{Coded, TypesAre}
 use Rattle.activations.specs.SoughtAt.{RowIs, RowsFrom, wordT}
 use Rattle.activations.specs.NumbersAt.{lastIdT, lastRowT}
@@ -33,7 +35,7 @@ use Rattle.activations.specs.HeldAs.{KnownAt}
 use Rattle.activations.proofs.ActRead.{counted-value}
 use Rattle.activations.proofs.IdLaws.{holder-new, holder-old, name-of-holder, name-of-old}
 use Rattle.activations.proofs.TypesKnown.{coded-or, port-read, typed-old}
-use Rattle.activations.proofs.NumbersKnown.{by-bool, eqName-turns}
+use Rattle.activations.proofs.NumbersKnown.{by-bool}
 use Rattle.activations.proofs.FoundOnce.{Has, varsOf}
 
 -- whether there is a type
@@ -62,7 +64,7 @@ unfolding lastTyped portNames member isSome
 last-told [] m = refl
 last-told (p ∷ ps) m =
     is-first (lastTyped ps m) (cond (eqName (p .name) m) (some (p .ty)) none)
-    ∙ (λ i. last-told ps m i || (is-cond (eqName (p .name) m) (p .ty) ∙ eqName-turns (p .name) m) i)
+    ∙ (λ i. last-told ps m i || (is-cond (eqName (p .name) m) (p .ty) ∙ eqName-turn (p .name) m) i)
     ∙ or-comm (member m (portNames ps)) (eqName m (p .name))
 
 first-told : (ps : List Port) (m : Name) → isSome (firstTyped ps m) ≡ member m (portNames ps)
@@ -70,7 +72,7 @@ unfolding firstTyped portNames member isSome
 first-told [] m = refl
 first-told (p ∷ ps) m =
     by-bool (λ (b : Bool). isSome (cond b (some (p .ty)) (firstTyped ps m)) ≡ b || member m (portNames ps)) (eqName (p .name) m) (λ e. refl) (λ e. first-told ps m)
-    ∙ ap (λ (b : Bool). b || member m (portNames ps)) (eqName-turns (p .name) m)
+    ∙ ap (λ (b : Bool). b || member m (portNames ps)) (eqName-turn (p .name) m)
 
 typed-told : (env outs : List Port) (m : Name) → isSome (typed env outs m) ≡ member m (readable env outs)
 unfolding typed readable
@@ -206,5 +208,5 @@ module _ (ns : List Name) (fresh : Fresh [] ns) (few : length ns + length ns ≤
 
   -- no variable has the number of none
   pub none-told : length env ≤ 65536 → typedT env outs (length ns) 65536 ≡ 0
-  unfolding typedT codeOr
-  none-told l = (λ i. codeOr (sym (past-end env 65536 l) i) (out-past 65536 (omega arith) i))
+  unfolding typedT firstSome
+  none-told l = (λ i. firstSome (sym (past-end env 65536 l) i) (out-past 65536 (omega arith) i))

@@ -28,9 +28,9 @@ use Rattle.activations.specs.ByNumber.{ontoItems}
 use Rattle.activations.specs.Places.{bodyIn, branchEnd, equationEnd, firstLeftIn, rightSideIn}
 use Rattle.activations.specs.UnlastAt.{unlastT}
 use Rattle.activations.specs.NumbersAt.{idItems, sampleNameT}
-use Rattle.activations.specs.ReadsAt.{joinT, readsT}
+use Rattle.activations.specs.ReadsAt.{joinT, readsAt, readsT}
 use Rattle.activations.specs.RewriteAt.{hasConstT, overT, pinItems, pinT, pinnedT, renameItems, renameT}
-use Rattle.activations.specs.ScopesAt.{branchesT, equationT, equationsT, newItems, readsAt, sampleItems, scopeT, scopesT, valueItems}
+use Rattle.activations.specs.ScopesAt.{branchesT, equationT, equationsT, newItems, sampleItems, scopeT, scopesT, valueItems}
 use Rattle.activations.proofs.PassLaws.{full-walked}
 use Rattle.activations.proofs.UnlastLaws.{unlast-full}
 
@@ -119,8 +119,8 @@ module _ (old s spots : List ℕ) (names : ℕ) (made : Bool) (ns : List Name) (
     unfolding equationsT
     equations-full zero p seen = refl
     equations-full (suc c) p seen =
-        ap (equationsT old s spots names made ns last held rows env outs a n k c (equationEnd ns s p) (joinT (readsAt old s spots names made ns last held rows env outs a n p) seen)) (equation-full old s spots names made ns last held rows a n k (readsAt old s spots names made ns last held rows env outs a n p) seen p)
-        ∙ equations-full c (equationEnd ns s p) (joinT (readsAt old s spots names made ns last held rows env outs a n p) seen)
+        ap (equationsT old s spots names made ns last held rows env outs a n k c (equationEnd ns s p) (joinT (readsAt held rows env outs names ns s last p) seen)) (equation-full old s spots names made ns last held rows a n k (readsAt held rows env outs names ns s last p) seen p)
+        ∙ equations-full c (equationEnd ns s p) (joinT (readsAt held rows env outs names ns s last p) seen)
 
     equations-step : (c p e q : ℕ) (ids seen after : List ℕ) (y z : State) → e ≡ rightSideIn ns s p → ids ≡ readsT held rows env outs names ns s last e → q ≡ endOf (exprIn ns s e) → after ≡ joinT ids seen → y ≡ equationT old s spots names made ns last held rows a n k ids seen p z
         → equationsT old s spots names made ns last held rows env outs a n k c q after y ≡ equationsT old s spots names made ns last held rows env outs a n k (suc c) p seen z

@@ -20,8 +20,8 @@ use Rattle.activation_rules.specs.MadeNames.{scopeAt, valueVar}
 use Rattle.activations.specs.Places.{bodyIn, branchEnd, equationEnd, firstLeftIn, rightSideIn}
 use Rattle.activations.specs.TypeCodes.{typedT, valueTypeT}
 use Rattle.activations.specs.NumbersAt.{sampleNameT}
-use Rattle.activations.specs.ReadsAt.{joinT, readsT}
-use Rattle.activations.specs.LocalsAt.{Left, actLocalsT, branchLocalsT, clockLocalsT, equationLocalT, equationLocalsT, flagLocalsT, holderLocalsT, localReads, localT, namedT, newLocalT, newLocalsT, sampleLocalT, scopeLocalsT, valueLocalT}
+use Rattle.activations.specs.ReadsAt.{joinT, readsAt, readsT}
+use Rattle.activations.specs.LocalsAt.{Left, actLocalsT, branchLocalsT, clockLocalsT, equationLocalT, equationLocalsT, flagLocalsT, holderLocalsT, localT, namedT, newLocalT, newLocalsT, sampleLocalT, scopeLocalsT, valueLocalT}
 use Rattle.activations.proofs.LocalLaws.{named-is}
 
 module _ (ns : List Name) (s old : List ℕ) (made : Bool) (a : Name) (spots env outs : List ℕ) (n : ℕ) where
@@ -69,7 +69,7 @@ module _ (ns : List Name) (s old : List ℕ) (made : Bool) (a : Name) (spots env
     -- the loop over equations
     pub equations-on : (k c p e q names : ℕ) (ids seen after : List ℕ) (u z t : Left) → length ns ≡ names → 0 < c → e ≡ rightSideIn ns s p → ids ≡ readsT held rows env outs names ns s last e → q ≡ endOf (exprIn ns s e) → after ≡ joinT ids seen → u ≡ equationLocalT ns s old made a spots env outs n k ids seen p z
         → equationLocalsT ns s old made a spots env outs n last held rows k c p seen z ≡ t → equationLocalsT ns s old made a spots env outs n last held rows k (c - 1) q after u ≡ t
-    unfolding equationLocalsT localReads equationEnd
+    unfolding equationLocalsT readsAt equationEnd
     equations-on k zero p e q names ids seen after u z t d l f g h i j r = absurd (omega arith)
     equations-on k (suc c) p e q names ids seen after u z t d l f g h i j r =
         let w : suc c - 1 ≡ c = omega arith in

@@ -32,16 +32,17 @@ use Rattle.activations.specs.Ids.{IsId, holderId, nameOf, namesOf}
 use Rattle.activations.specs.TypeCodes.{typedT, valueTypeT}
 use Rattle.activations.specs.TypesAt.{Coded}
 use Rattle.activations.specs.NumbersAt.{lastIdT, sampleNameT}
-use Rattle.activations.specs.ReadsAt.{joinT, readsT}
-use Rattle.activations.specs.LocalsAt.{Left, branchLocalsT, equationLocalT, equationLocalsT, localReads, newLocalT, newLocalsT, sampleLocalT, scopeLocalsT, valueLocalT}
+use Rattle.activations.specs.ReadsAt.{joinT, readsAt, readsT}
+use Rattle.activations.specs.LocalsAt.{Left, branchLocalsT, equationLocalT, equationLocalsT, newLocalT, newLocalsT, sampleLocalT, scopeLocalsT, valueLocalT}
 use Rattle.activations.proofs.ActRead.{EquationRead, body-to, branch-end-to, branch-value, counted-value, equation-end-to, equation-value, right-side-to}
 use Rattle.activations.proofs.NodesRead.{expr-moves}
 use Rattle.activations.proofs.IdLaws.{id-below}
 use Rattle.activations.proofs.NumbersKnown.{by-bool, sample-made, sample-named}
-use Rattle.activations.proofs.ReadsKnown.{Once, Tells, names-append, reads-known}
+use Rattle.activations.proofs.ReadsKnown.{Tells, names-append}
 use Rattle.activations.proofs.ReadsEach.{reads-each}
-use Rattle.activations.proofs.ScopesKnown.{Fits, FitsIn, first-left-to, fresh-length, freshIn, ids-fresh, joined, names-fresh, names-move, scope-branch, scope-else}
+use Rattle.activations.proofs.ScopesKnown.{Fits, FitsIn, first-left-to, fresh-length, freshIn, ids-fresh, joined, names-fresh, reads-at}
 use Rattle.activations.proofs.LocalsLeft.{Leaves, leaves-more, leaves-none, leaves-one}
+use Rattle.activations.proofs.MergeLaws.{scope-branch, scope-else}
 
 -- a value's name begins as made ones do
 value-made : (a : Name) (c : Scope) (v : Name) → isMade (valueVar a c v) ≡ true
@@ -123,31 +124,12 @@ module _ (ns : List Name) (fresh : Fresh [] ns) (legal : All LegalName ns) (few 
         ap (λ (w : List Name). sampleLocals (sampleType ports outputs) a (scopeAt n k) new ++ (valuePort e ∷ scopeLocals (sampleType ports outputs) (valueType ports outputs) a vars (scopeAt n k) w es)) h
         ∙ ap (λ (w : List Name). sampleLocals (sampleType ports outputs) a (scopeAt n k) w ++ (valuePort e ∷ scopeLocals (sampleType ports outputs) (valueType ports outputs) a vars (scopeAt n k) (old ++ w) es)) g
 
-    -- what an equation reads
-    record ReadAt (p : ℕ) (x : Equation) (q : ℕ) : Type 0 where
-      ids : List ℕ
-      is : localReads ns s (tabled ns) made a spots env outs n last held rows p ≡ ids
-      all : All (IsId ns a) ids
-      named : namesOf ns a ids ≡ scopeReads a vars x
-      room : p + 3 * length ids ≤ q
-      once : Once ids
-      each : All Sampled ids
-
-    read-at : (p : ℕ) (x : Equation) (q : ℕ) → EquationRead ns s p x q → Fits P x → ReadAt p x q
-    unfolding localReads scopeReads
-    read-at p x q r f =
-        let h = reads-known ns fresh few s by short last L a held rows env outs vars P rowed old-told held-told none-told (r .to-rhs) (x .rhs) q (r .rhs) (f .1) in
-        let m = names-move ns s p (x .lhs) (r .to-rhs) (r .lhs) in
-        let i = h .2 in
-        record {
-          ids = readsT held rows env outs (length ns) ns s last (r .to-rhs);
-          is = ap (readsT held rows env outs (length ns) ns s last) (right-side-to ns s p x q r);
-          all = h .0;
-          named = h .1;
-          room = omega arith;
-          once = h .3;
-          each = reads-each ns few s by short last L a held rows env outs P rowed none-told Sampled sampled-old sampled-held (r .to-rhs) (x .rhs) q (r .rhs) (f .1);
-        }
+    -- the samples of what an equation reads
+    each-sampled : (p : ℕ) (x : Equation) (q : ℕ) (ids : List ℕ) → EquationRead ns s p x q → Fits P x → readsAt held rows env outs (length ns) ns s last p ≡ ids → All Sampled ids
+    unfolding readsAt
+    each-sampled p x q ids r f e =
+        subst (All Sampled) (sym (ap (readsT held rows env outs (length ns) ns s last) (right-side-to ns s p x q r)) ∙ e)
+        (reads-each ns few s by short last L a held rows env outs P rowed none-told Sampled sampled-old sampled-held (r .to-rhs) (x .rhs) q (r .rhs) (f .1))
 
     equation-left : (p : ℕ) (x : Equation) (q : ℕ) (ids seen : List ℕ) (z : Left) → EquationRead ns s p x q → Fits P x → All (IsId ns a) ids → All Sampled ids
         → Leaves ns s (sampleLocals (sampleType ports outputs) a (scopeAt n k) (namesOf ns a (freshIn seen ids)) ++ (valuePort x ∷ [])) z (equationLocalT ns s (tabled ns) made a spots env outs n k ids seen p z)
@@ -179,22 +161,22 @@ module _ (ns : List Name) (fresh : Fresh [] ns) (legal : All LegalName ns) (few 
     equations-left (suc c) p (x ∷ xs) q seen z e f all l =
         let m = many-more (equationIn ns s) c p x xs q e in
         let r = equation-value ns s p x (m .0) (m .1) in
-        let d = read-at p x (m .0) r (f .0) in
-        let i : p + 3 * length (d .ids) ≤ m .0 = d .room in
+        let d = reads-at ns fresh legal few s by short last L spots placed a made M n held rows env outs vars P rowed old-told held-told none-told p x (m .0) r (f .0) in
+        let i : p + 3 * length (d .0) ≤ m .0 = d .4 in
         let b = expr-moves ns s (r .to-rhs) (x .rhs) (m .0) (r .rhs) .1 in
-        let now : List ℕ = seen ++ freshIn seen (d .ids) in
-        let j : joinT (d .ids) seen ≡ now = joined ns a fresh few (d .ids) seen (d .all) (d .once) (omega arith) in
-        let g : namesOf ns a (freshIn seen (d .ids)) ≡ dropIn (namesOf ns a seen) (scopeReads a vars x) = names-fresh ns a fresh few seen (d .ids) all (d .all) ∙ ap (dropIn (namesOf ns a seen)) (d .named) in
-        let o = fresh-length seen (d .ids) in
-        let y = length-append seen (freshIn seen (d .ids)) in
-        let u = equationLocalT ns s (tabled ns) made a spots env outs n k (d .ids) seen p z in
-        let w : equationLocalsT ns s (tabled ns) made a spots env outs n last held rows k c (equationEnd ns s p) (joinT (localReads ns s (tabled ns) made a spots env outs n last held rows p) seen) (equationLocalT ns s (tabled ns) made a spots env outs n k (localReads ns s (tabled ns) made a spots env outs n last held rows p) seen p z)
+        let now : List ℕ = seen ++ freshIn seen (d .0) in
+        let j : joinT (d .0) seen ≡ now = joined ns a fresh few (d .0) seen (d .2) (d .5) (omega arith) in
+        let g : namesOf ns a (freshIn seen (d .0)) ≡ dropIn (namesOf ns a seen) (scopeReads a vars x) = names-fresh ns a fresh few seen (d .0) all (d .2) ∙ ap (dropIn (namesOf ns a seen)) (d .3) in
+        let o = fresh-length seen (d .0) in
+        let y = length-append seen (freshIn seen (d .0)) in
+        let u = equationLocalT ns s (tabled ns) made a spots env outs n k (d .0) seen p z in
+        let w : equationLocalsT ns s (tabled ns) made a spots env outs n last held rows k c (equationEnd ns s p) (joinT (readsAt held rows env outs (length ns) ns s last p) seen) (equationLocalT ns s (tabled ns) made a spots env outs n k (readsAt held rows env outs (length ns) ns s last p) seen p z)
         ≡ equationLocalsT ns s (tabled ns) made a spots env outs n last held rows k c (m .0) now u =
-        (λ t. equationLocalsT ns s (tabled ns) made a spots env outs n last held rows k c (equation-end-to ns s p x (m .0) r t) (joinT (d .is t) seen) (equationLocalT ns s (tabled ns) made a spots env outs n k (d .is t) seen p z))
+        (λ t. equationLocalsT ns s (tabled ns) made a spots env outs n last held rows k c (equation-end-to ns s p x (m .0) r t) (joinT (d .1 t) seen) (equationLocalT ns s (tabled ns) made a spots env outs n k (d .1 t) seen p z))
         ∙ (λ t. equationLocalsT ns s (tabled ns) made a spots env outs n last held rows k c (m .0) (j t) u) in
-        let v = equations-left c (m .0) xs q now u (m .2) (f .1) (all-append (IsId ns a) seen (freshIn seen (d .ids)) all (ids-fresh ns a fresh few seen (d .ids) (d .all))) (omega arith) in
+        let v = equations-left c (m .0) xs q now u (m .2) (f .1) (all-append (IsId ns a) seen (freshIn seen (d .0)) all (ids-fresh ns a fresh few seen (d .0) (d .2))) (omega arith) in
         subst (Leaves ns s (scopeLocals (sampleType ports outputs) (valueType ports outputs) a vars (scopeAt n k) (namesOf ns a seen) (x ∷ xs)) z) (sym w)
-        (joined-left p x xs (m .0) (d .ids) seen z _ r (f .0) (d .all) (d .each) g v)
+        (joined-left p x xs (m .0) (d .0) seen z _ r (f .0) (d .2) (each-sampled p x (m .0) (d .0) r (f .0) (d .1)) g v)
 
     -- THE LAW: a scope, whose count of equations stands at an offset
     pub scope-left : (at : ℕ) (es : List Equation) (q : ℕ) (z : Left) → equationsIn ns s at ≡ value es q → All (Fits P) es
@@ -226,4 +208,4 @@ module _ (ns : List Name) (fresh : Fresh [] ns) (legal : All LegalName ns) (few 
   -- the else scope
   pub else-left : (at : ℕ) (es : List Equation) (q : ℕ) (z : Left) → equationsIn ns s at ≡ value es q → All (Fits P) es
       → Leaves ns s (scopeLocals (sampleType ports outputs) (valueType ports outputs) a vars other [] es) z (scopeLocalsT ns s (tabled ns) made a spots env outs n last held rows n at z)
-  else-left at es q z e f = subst (λ (t : Scope). Leaves ns s (scopeLocals (sampleType ports outputs) (valueType ports outputs) a vars t [] es) z (scopeLocalsT ns s (tabled ns) made a spots env outs n last held rows n at z)) (scope-else n) (scope-left n at es q z e f)
+  else-left at es q z e f = subst (λ (t : Scope). Leaves ns s (scopeLocals (sampleType ports outputs) (valueType ports outputs) a vars t [] es) z (scopeLocalsT ns s (tabled ns) made a spots env outs n last held rows n at z)) (scope-else n n (omega arith)) (scope-left n at es q z e f)

@@ -6,12 +6,10 @@ use mathlib.Core.Bool.{Bool, false, cond}
 use mathlib.Core.Path.{_≡_, refl, sym, ap, _∙_}
 use lib.ListN.{length, length-append}
 use lib.Dec.{eqb}
-use borrow.Author.Tests.{le-ltb, lt-ltb}
-use Rattle.wire.specs.Answer.{counted, many, u16, value}
+use Rattle.wire.specs.Answer.{many, u16, value}
 use Rattle.wire.specs.Bytes.{two}
 use Rattle.wire.specs.Lists.{All, Bytes}
 use Rattle.wire.specs.Writer.{State, puts}
-use Rattle.wire.proofs.Answers.{fwd-bind, fwd-index, fwd-many, fwd-map, fwd-u16}
 use Rattle.pack.specs.Names.{Name}
 use Rattle.pack.specs.Syntax.{Branch, Equation, Expr, eVar}
 use Rattle.pack.specs.Forms.{nameAt}
@@ -27,7 +25,7 @@ use Rattle.machines.specs.declared.sure.Num.{Num}
 use Rattle.machines.specs.Emits.{packName}
 use Rattle.machines.proofs.LocalLaws.{each-append}
 use Rattle.machines.proofs.Reading.{many-cut, many-more, many-over, name-number}
-use Rattle.machines.proofs.SureLaws.{number-num, number-to}
+use Rattle.machines.proofs.SureLaws.{number-num, number-to, or-none}
 use Rattle.activation_rules.specs.MadeNames.{Scope, branch, other, sampleVar, scopeAt, valueVar}
 use Rattle.activation_rules.specs.Defines.{eqn, firstLeft}
 use Rattle.activation_rules.specs.Clocks.{onto}
@@ -42,17 +40,18 @@ use Rattle.activations.specs.Asked.{Asked}
 use Rattle.activations.specs.ByNumber.{ontoItems}
 use Rattle.activations.specs.TypeCodes.{typedT}
 use Rattle.activations.specs.NumbersAt.{idItems, lastIdT}
-use Rattle.activations.specs.ReadsAt.{joinT, readsT}
+use Rattle.activations.specs.ReadsAt.{joinT, readsAt, readsT}
 use Rattle.activations.specs.RewriteAt.{overT}
-use Rattle.activations.specs.ScopesAt.{branchesT, equationT, equationsT, newItems, readsAt, sampleItems, scopeT, scopesT, valueItems}
-use Rattle.activations.proofs.ActRead.{EquationRead, body-to, branch-end-to, branch-value, counted-value, equation-end-to, equation-value, right-side-to}
+use Rattle.activations.specs.ScopesAt.{branchesT, equationT, equationsT, newItems, sampleItems, scopeT, scopesT, valueItems}
+use Rattle.activations.proofs.ActRead.{EquationRead, body-to, branch-end-to, branch-value, counted-value, equation-end-to, equation-value, names-move, right-side-to}
 use Rattle.activations.proofs.NodesRead.{expr-moves}
 use Rattle.activations.proofs.ClockLaws.{onto-items}
 use Rattle.activations.proofs.IdLaws.{id-below}
 use Rattle.activations.proofs.NumbersKnown.{by-bool, eqb-turns, id-written, sample-named}
-use Rattle.activations.proofs.ReadsKnown.{Once, Tells, among-is, among-snoc, names-append, or-none, push-fits, reads-known}
+use Rattle.activations.proofs.ReadsKnown.{Once, Tells, among-is, among-snoc, names-append, push-fits, reads-known}
 use Rattle.activations.proofs.RewriteKnown.{rename-written}
 use Rattle.activations.proofs.PinsKnown.{pinned-written}
+use Rattle.activations.proofs.MergeLaws.{scope-branch, scope-else}
 
 -- those of the numbers that are not among others
 unfoldable pub freshIn : List ℕ → List ℕ → List ℕ
@@ -107,12 +106,6 @@ module _ (ns : List Name) (a : Name) (fresh : Fresh [] ns) (few : length ns + le
 
 -- the first left name of an equation that was read
 module _ (ns : List Name) (s : List ℕ) where
-  pub names-move : (at : ℕ) (x : List Name) (q : ℕ) → namesIn ns s at ≡ value x q → at ≤ q
-  unfolding namesIn counted nameIn
-  names-move at x q e =
-      let f = fwd-bind (length s) at (u16 s at) _ (fwd-u16 s at) (λ n p. fwd-many (length s) (nameIn ns s) (λ i. fwd-map (length s) i _ _ (fwd-index (length ns) s i)) n p) x q e in
-      f .on
-
   pub first-left-to : (at : ℕ) (x : List Name) (q : ℕ) → namesIn ns s at ≡ value x q → 0 < length x → (i : ℕ) × (firstLeftIn s at ≡ i) × (i < length ns) × (nameAt ns i ≡ firstLeft x)
   unfolding namesIn firstLeftIn firstLeft
   first-left-to at [] q e l = absurd (omega arith)
@@ -125,15 +118,6 @@ module _ (ns : List Name) (s : List ℕ) where
 pub equation-parts : (n : Name) (e : Expr) → equationItems (eqn n e) ≡ raw (two 1) ∷ nm n ∷ exprItems e
 unfolding equationItems eqn list each nameItems
 equation-parts n e = refl
-
--- the scopes of branches, and the else scope after them
-pub scope-branch : (n k : ℕ) → k < n → scopeAt n k ≡ branch k
-unfolding scopeAt
-scope-branch n k h = ap (λ (b : Bool). cond b (branch k) other) (lt-ltb k n h)
-
-pub scope-else : (n : ℕ) → scopeAt n n ≡ other
-unfolding scopeAt
-scope-else n = ap (λ (b : Bool). cond b (branch n) other) (le-ltb n n (omega arith))
 
 -- an equation with a left name, whose calls of `last` ask for variables that have rows; a branch of such
 abbrev pub Fits : (Name → Type 0) → Equation → Type 0
@@ -153,6 +137,16 @@ module _ (ns : List Name) (fresh : Fresh [] ns) (legal : All LegalName ns) (few 
     (none-told : typedT env outs (length ns) 65536 ≡ 0) where
   few-names : length ns < 65536
   few-names = omega arith
+
+  -- what an equation reads
+  pub reads-at : (p : ℕ) (x : Equation) (q : ℕ) → EquationRead ns s p x q → Fits P x
+      → (ids : List ℕ) × (readsAt held rows env outs (length ns) ns s last p ≡ ids) × All (IsId ns a) ids × (namesOf ns a ids ≡ scopeReads a vars x) × (p + 3 * length ids ≤ q) × Once ids
+  unfolding readsAt scopeReads
+  reads-at p x q r f =
+      let h = reads-known ns fresh few s by short last L a held rows env outs vars P rowed old-told held-told none-told (r .to-rhs) (x .rhs) q (r .rhs) (f .1) in
+      let m = names-move ns s p (x .lhs) (r .to-rhs) (r .lhs) in
+      let i = h .2 in
+      (readsT held rows env outs (length ns) ns s last (r .to-rhs), ap (readsT held rows env outs (length ns) ns s last) (right-side-to ns s p x q r), h .0, h .1, omega arith, h .3)
 
   module _ (k : ℕ) where
     -- the equation of a sample
@@ -213,15 +207,6 @@ module _ (ns : List Name) (fresh : Fresh [] ns) (legal : All LegalName ns) (few 
         ∙ ap (λ (is : List Item). render (tabled ns) is z) (each-append equationItems (sampleEquations a n (scopeAt n k) new) (rest new))
         ∙ render-append (tabled ns) (each equationItems (sampleEquations a n (scopeAt n k) new)) (each equationItems (rest new)) z
         ∙ render-append (tabled ns) (equationItems (eqn (valueVar a (scopeAt n k) (firstLeft (e .lhs))) (rewritten a n vars (scopeAt n k) e))) (each equationItems (scopeEquations a n vars (scopeAt n k) (old ++ new) es)) (render (tabled ns) (each equationItems (sampleEquations a n (scopeAt n k) new)) z)
-
-    reads-at : (p : ℕ) (x : Equation) (q : ℕ) → EquationRead ns s p x q → Fits P x
-        → (ids : List ℕ) × (readsAt (tabled ns) s spots (length ns) made ns last held rows env outs a n p ≡ ids) × All (IsId ns a) ids × (namesOf ns a ids ≡ scopeReads a vars x) × (p + 3 * length ids ≤ q) × Once ids
-    unfolding readsAt scopeReads
-    reads-at p x q r f =
-        let h = reads-known ns fresh few s by short last L a held rows env outs vars P rowed old-told held-told none-told (r .to-rhs) (x .rhs) q (r .rhs) (f .1) in
-        let m = names-move ns s p (x .lhs) (r .to-rhs) (r .lhs) in
-        let i = h .2 in
-        (readsT held rows env outs (length ns) ns s last (r .to-rhs), ap (readsT held rows env outs (length ns) ns s last) (right-side-to ns s p x q r), h .0, h .1, omega arith, h .3)
 
     -- no equation left; the rest where what was read and seen is told by names
     none-left : (seen : List ℕ) (z : State) → z ≡ render (tabled ns) (each equationItems (scopeEquations a n vars (scopeAt n k) (namesOf ns a seen) [])) z
@@ -289,6 +274,6 @@ module _ (ns : List Name) (fresh : Fresh [] ns) (legal : All LegalName ns) (few 
       ap (λ (x : Num). scopeT (tabled ns) s spots (length ns) made ns last held rows env outs a n n to (branchesT (tabled ns) s spots (length ns) made ns last held rows env outs a n 0 n (x .next) z)) (number-num s branches n b c)
       ∙ ap (scopeT (tabled ns) s spots (length ns) made ns last held rows env outs a n n to) (branches-known 0 n b bs to z d (omega arith) f)
       ∙ scope-known n to es q (render (tabled ns) (each equationItems (branchEquations a n vars 0 bs)) z) e g
-      ∙ ap (λ (t : Scope). render (tabled ns) (each equationItems (scopeEquations a n vars t [] es)) (render (tabled ns) (each equationItems (branchEquations a n vars 0 bs)) z)) (scope-else n)
+      ∙ ap (λ (t : Scope). render (tabled ns) (each equationItems (scopeEquations a n vars t [] es)) (render (tabled ns) (each equationItems (branchEquations a n vars 0 bs)) z)) (scope-else n n (omega arith))
       ∙ sym (render-append (tabled ns) (each equationItems (branchEquations a n vars 0 bs)) (each equationItems (scopeEquations a n vars other [] es)) z)
       ∙ ap (λ (is : List Item). render (tabled ns) is z) (sym (each-append equationItems (branchEquations a n vars 0 bs) (scopeEquations a n vars other [] es)))

@@ -7,33 +7,33 @@ use mathlib.Core.Option.{Option, none, some}
 use mathlib.Core.Path.{_≡_, refl, sym, ap, subst, _∙_}
 use lib.ListN.{length, drop, length-append, length-drop}
 use Rattle.activations.specs.declared.met.Met.{Met}
-use Rattle.wire.specs.Answer.{counted, index, many, mapA, u16, value}
+use Rattle.wire.specs.Answer.{many, value}
 use Rattle.wire.specs.Bytes.{two}
 use Rattle.wire.specs.Lists.{Bytes}
-use Rattle.wire.proofs.Answers.{fwd-bind, fwd-index, fwd-many, fwd-map, fwd-u16, u16-value}
+use Rattle.wire.proofs.Answers.{u16-value}
 use Rattle.pack.specs.Names.{Name, eqName}
 use Rattle.pack.specs.Syntax.{Activation, Branch, Equation, Expr, Exprs, eArray, eArrow, eBinary, eCall, eCast, eConst, eField, eIf, eIndex, eIterate, eMerge, ePre, eStruct, eTuple, eUnary, eVar, eWhen, xCons, xNil}
 use Rattle.pack.specs.Forms.{nameAt}
 use Rattle.pack.specs.Legal.{Fresh}
-use Rattle.pack.specs.Read.{activationIn, branchIn, equationIn, equationsIn, exprIn, nameIn, namesIn}
+use Rattle.pack.specs.Read.{activationIn, branchIn, equationIn, equationsIn, exprIn}
 use Rattle.pack.specs.Write.{exprItems, exprsItems}
 use Rattle.pack.proofs.Copies.{lies-equations, lies-expr}
-use Rattle.pack.proofs.Tables.{code, code-append}
+use Rattle.pack.proofs.Tables.{all-unit, code, code-append}
 use Rattle.machines.specs.Sure.{numberIn}
 use Rattle.machines.proofs.Reading.{many-cut, many-end, many-more, many-over, name-number}
 use Rattle.machines.proofs.SureLaws.{number-to, then-to}
 use Rattle.activation_rules.specs.LastCalls.{CallKind, asVar, badLast, callKind, lastName, lastOf, lastRest, lastShape, plain}
 use Rattle.activation_rules.specs.Sought.{Sought, bodies, conditions, expressions, found, note, rightSides, sought, soughtIn}
 use Rattle.activations.specs.Kids.{kids, listOf}
-use Rattle.activations.specs.Met.{metAt, onwardT}
+use Rattle.activations.specs.Met.{onwardT}
 use Rattle.activations.specs.Places.{actAt, branchEnd, eachOf, equationEnd, rightSideIn}
 use Rattle.activations.specs.Walks.{InitAt, LastIs, through}
 use Rattle.activations.specs.SoughtAt.{RowInit, Rows, RowsFrom, eachBranchT, noteT, rowsOf, seekAllT, seekBodyT, seekConditionT, seekEquationT, seekScopeT, seekStep, seekT}
 use Rattle.activations.proofs.Views.{View, toCome, vArray, vArrow, vBad, vBinary, vCall, vCast, vConst, vField, vIf, vIndex, vIterate, vLast, vMerge, vPre, vStruct, vTuple, vUnary, vVar, vWhen, viewed}
 use Rattle.activations.proofs.NodesRead.{expr-moves}
-use Rattle.activations.proofs.Keeping.{keeps-one}
 use Rattle.activations.proofs.RowsNoted.{note-count, note-is, note-length}
-use Rattle.activations.proofs.ActRead.{BranchRead, act-to, activation-value, body-to, branch-end-to, branch-number-to, branch-value, counted-value, equation-end-to, equation-value, right-side-to}
+use Rattle.activations.proofs.ActRead.{BranchRead, act-to, activation-value, body-to, branch-end-to, branch-number-to, branch-value, counted-value, equation-end-to, equation-value, names-move, right-side-to}
+use Rattle.activations.proofs.Walking.{FollowsBy, walks-by}
 
 -- calls, by their kind
 unfoldable pub kindSought : CallKind → Exprs → List Sought → List Sought
@@ -154,9 +154,13 @@ module _ (ns : List Name) (fresh : Fresh [] ns) (few : length ns < 65536) (s : L
     At : ℕ → Rows → List Sought → Type 0
     At p z hs = RowsFrom ns s (z .table) 0 hs × (z .count ≡ length hs) × (24576 ≤ length (z .table)) × (8 * z .count + base ≤ used + p)
 
-    at-on : (p q : ℕ) (z : Rows) (hs : List Sought) → p ≤ q → At p z hs → At q z hs
+    -- the same, where the end is not passed
+    abbrev Within : ℕ → Rows → List Sought → Type 0
+    Within p z hs = p ≤ end → At p z hs
+
+    at-on : (p q : ℕ) (z : Rows) (hs : List Sought) → p ≤ q → Within p z hs → Within q z hs
     unfolding At
-    at-on p q z hs l h = (h .0, h .1, h .2, let k = h .3 in omega arith)
+    at-on p q z hs l h y = let a = h (omega arith) in (a .0, a .1, a .2, let k = a .3 in omega arith)
 
     note-step : (p q var init next : ℕ) (v : Name) (i : Option Expr) (z : Rows) (hs : List Sought) → p + 8 ≤ q → q ≤ end → var < length ns → nameAt ns var ≡ v → InitAt ns s i init next → At p z hs → At q (noteT var init z) (note v i hs)
     unfolding At
@@ -168,35 +172,36 @@ module _ (ns : List Name) (fresh : Fresh [] ns) (few : length ns < 65536) (s : L
         let c = note-count var init z in
         (subst (λ x. RowsFrom ns s (noteT var init z .table) 0 (note x i hs)) e (n .0), n .1 ∙ ap (λ x. length (note x i hs)) e, omega arith, omega arith)
 
-    step-keeps : (p : ℕ) (e : Expr) (q : ℕ) (m : Met) (z : Rows) (hs : List Sought) → exprIn ns s p ≡ value e q → View ns s e m → q ≤ end → At p z hs → p < onwardT m → many (exprIn ns s) (length (toCome m e)) (onwardT m) ≡ value (toCome m e) q
-        → (b : List Sought) × At (onwardT m) (seekStep m p z) b × (through sought (toCome m e) b ≡ sought e hs)
+    step-keeps : (p : ℕ) (e : Expr) (q : ℕ) (m : Met) (z : Rows) (hs : List Sought) → exprIn ns s p ≡ value e q → View ns s e m → Within p z hs → p < onwardT m → many (exprIn ns s) (length (toCome m e)) (onwardT m) ≡ value (toCome m e) q
+        → (b : List Sought) × Within (onwardT m) (seekStep m p z) b × (through sought (toCome m e) b ≡ sought e hs)
     unfolding seekStep toCome kids through sought kindSought onwardT
-    step-keeps p e q m z hs d (vLast {f = f} {v = v} {xs = xs} {i = i} {var = var} {init = init} {next = next} k l n w) y h g t =
+    step-keeps p e q m z hs d (vLast {f = f} {v = v} {xs = xs} {i = i} {var = var} {init = init} {next = next} k l n w) h g t =
         let o : next ≡ q = many-end (exprIn ns s) next q t in
-        (note v i hs, note-step p next var init next v i z hs (let c = call-moves p q f xs v i d k in omega arith) (omega arith) l n w h, sym (call-sought f xs (lastOf v i) hs k))
-    step-keeps p e q m z hs d (vBad {f = f} {xs = xs} k) y h g t = (hs, at-on p _ z hs (omega arith) h, in-order xs hs ∙ sym (call-sought f xs badLast hs k))
-    step-keeps p e q m z hs d (vCall {f = f} {xs = xs} k) y h g t = (hs, at-on p _ z hs (omega arith) h, in-order xs hs ∙ sym (call-sought f xs plain hs k))
-    step-keeps p e q m z hs d vConst y h g t = (hs, at-on p _ z hs (omega arith) h, refl)
-    step-keeps p e q m z hs d (vVar l n) y h g t = (hs, at-on p _ z hs (omega arith) h, refl)
-    step-keeps p e q m z hs d (vWhen l n) y h g t = (hs, at-on p _ z hs (omega arith) h, refl)
-    step-keeps p e q m z hs d (vMerge l n) y h g t = (hs, at-on p _ z hs (omega arith) h, refl)
-    step-keeps p e q m z hs d vUnary y h g t = (hs, at-on p _ z hs (omega arith) h, refl)
-    step-keeps p e q m z hs d vBinary y h g t = (hs, at-on p _ z hs (omega arith) h, refl)
-    step-keeps p e q m z hs d vIf y h g t = (hs, at-on p _ z hs (omega arith) h, refl)
-    step-keeps p e q m z hs d vPre y h g t = (hs, at-on p _ z hs (omega arith) h, refl)
-    step-keeps p e q m z hs d vArrow y h g t = (hs, at-on p _ z hs (omega arith) h, refl)
-    step-keeps p e q m z hs d vField y h g t = (hs, at-on p _ z hs (omega arith) h, refl)
-    step-keeps p e q m z hs d vIndex y h g t = (hs, at-on p _ z hs (omega arith) h, refl)
-    step-keeps p e q m z hs d (vTuple {xs = xs}) y h g t = (hs, at-on p _ z hs (omega arith) h, in-order xs hs)
-    step-keeps p e q m z hs d (vArray {xs = xs}) y h g t = (hs, at-on p _ z hs (omega arith) h, in-order xs hs)
-    step-keeps p e q m z hs d (vStruct {xs = xs}) y h g t = (hs, at-on p _ z hs (omega arith) h, in-order xs hs)
-    step-keeps p e q m z hs d vCast y h g t = (hs, at-on p _ z hs (omega arith) h, refl)
-    step-keeps p e q m z hs d (vIterate {xs = xs}) y h g t = (hs, at-on p _ z hs (omega arith) h, in-order xs hs)
+        (note v i hs, λ y. note-step p next var init next v i z hs (let c = call-moves p q f xs v i d k in omega arith) y l n w (h (omega arith)), sym (call-sought f xs (lastOf v i) hs k))
+    step-keeps p e q m z hs d (vBad {f = f} {xs = xs} k) h g t = (hs, at-on p _ z hs (omega arith) h, in-order xs hs ∙ sym (call-sought f xs badLast hs k))
+    step-keeps p e q m z hs d (vCall {f = f} {xs = xs} k) h g t = (hs, at-on p _ z hs (omega arith) h, in-order xs hs ∙ sym (call-sought f xs plain hs k))
+    step-keeps p e q m z hs d vConst h g t = (hs, at-on p _ z hs (omega arith) h, refl)
+    step-keeps p e q m z hs d (vVar l n) h g t = (hs, at-on p _ z hs (omega arith) h, refl)
+    step-keeps p e q m z hs d (vWhen l n) h g t = (hs, at-on p _ z hs (omega arith) h, refl)
+    step-keeps p e q m z hs d (vMerge l n) h g t = (hs, at-on p _ z hs (omega arith) h, refl)
+    step-keeps p e q m z hs d vUnary h g t = (hs, at-on p _ z hs (omega arith) h, refl)
+    step-keeps p e q m z hs d vBinary h g t = (hs, at-on p _ z hs (omega arith) h, refl)
+    step-keeps p e q m z hs d vIf h g t = (hs, at-on p _ z hs (omega arith) h, refl)
+    step-keeps p e q m z hs d vPre h g t = (hs, at-on p _ z hs (omega arith) h, refl)
+    step-keeps p e q m z hs d vArrow h g t = (hs, at-on p _ z hs (omega arith) h, refl)
+    step-keeps p e q m z hs d vField h g t = (hs, at-on p _ z hs (omega arith) h, refl)
+    step-keeps p e q m z hs d vIndex h g t = (hs, at-on p _ z hs (omega arith) h, refl)
+    step-keeps p e q m z hs d (vTuple {xs = xs}) h g t = (hs, at-on p _ z hs (omega arith) h, in-order xs hs)
+    step-keeps p e q m z hs d (vArray {xs = xs}) h g t = (hs, at-on p _ z hs (omega arith) h, in-order xs hs)
+    step-keeps p e q m z hs d (vStruct {xs = xs}) h g t = (hs, at-on p _ z hs (omega arith) h, in-order xs hs)
+    step-keeps p e q m z hs d vCast h g t = (hs, at-on p _ z hs (omega arith) h, refl)
+    step-keeps p e q m z hs d (vIterate {xs = xs}) h g t = (hs, at-on p _ z hs (omega arith) h, in-order xs hs)
 
-    keeps : (p : ℕ) (e : Expr) (q : ℕ) (m : Met) (z : Rows) (hs : List Sought) → exprIn ns s p ≡ value e q → m ≡ metAt ns s last p → View ns s e m → q ≤ end → At p z hs → (b : List Sought) × At (onwardT m) (seekStep m p z) b × (through sought (toCome m e) b ≡ sought e hs)
-    keeps p e q m z hs d g v y h =
+    keeps : FollowsBy ns s few by short last L seekStep sought Within (λ e. Unit {0})
+    keeps p e q m z hs d g v u h =
         let w = viewed ns s few by last L p e q d in
-        step-keeps p e q m z hs d v y h (subst (λ n. p < onwardT n) (sym g) (w .moves)) (subst (λ n. many (exprIn ns s) (length (toCome n e)) (onwardT n) ≡ value (toCome n e) q) (sym g) (w .to))
+        let r = step-keeps p e q m z hs d v h (subst (λ n. p < onwardT n) (sym g) (w .moves)) (subst (λ n. many (exprIn ns s) (length (toCome n e)) (onwardT n) ≡ value (toCome n e) q) (sym g) (w .to)) in
+        (r .0, sym (r .2), r .1, all-unit (toCome m e))
 
   found-more : (z : Rows) (hs : List Sought) (k m : ℕ) → k ≤ m → Found ns s z hs k → Found ns s z hs m
   found-more z hs k m l h = (h .0, h .1, h .2, let a = h .3 in omega arith)
@@ -207,12 +212,8 @@ module _ (ns : List Name) (fresh : Fresh [] ns) (few : length ns < 65536) (s : L
   expr-found p e q z hs k d l h =
       let m = expr-moves ns s p e q d .0 in
       let a = h .3 in
-      let r = keeps-one ns s few by short last L seekStep sought q (At p k q (omega arith)) (keeps p k q (omega arith)) p e q z hs d (omega arith) (h .0, h .1, h .2, omega arith) in
+      let r = walks-by ns s few by short last L seekStep sought (Within p k q (omega arith)) (λ e. Unit {0}) (keeps p k q (omega arith)) p e q z hs d tt (λ y. (h .0, h .1, h .2, omega arith)) (omega arith) in
       (r .0, r .1, r .2, let b = r .3 in omega arith)
-
-  names-on : (at : ℕ) (xs : List Name) (q : ℕ) → namesIn ns s at ≡ value xs q → at ≤ q
-  unfolding namesIn counted nameIn
-  names-on at xs q e = fwd-bind (length s) at (u16 s at) _ (fwd-u16 s at) (λ n p. fwd-many (length s) (λ y. mapA (nameAt ns) (index (length ns) s y)) (λ y. fwd-map (length s) y _ _ (fwd-index (length ns) s y)) n p) xs q e .on
 
   equation-at : (at : ℕ) (z : Rows) → seekEquationT ns s last at z ≡ seekT ns s last (rightSideIn ns s at) z
   unfolding seekEquationT
@@ -225,7 +226,7 @@ module _ (ns : List Name) (fresh : Fresh [] ns) (few : length ns < 65536) (s : L
   equations-on (suc n) at (x ∷ xs) q e =
       let a = many-more (equationIn ns s) n at x xs q e in
       let r = equation-value ns s at x (a .0) (a .1) in
-      let o = names-on at (x .lhs) (r .to-rhs) (r .lhs) in
+      let o = names-move ns s at (x .lhs) (r .to-rhs) (r .lhs) in
       let m = expr-moves ns s (r .to-rhs) (x .rhs) (a .0) (r .rhs) .0 in
       let w = equations-on n (a .0) xs q (a .2) in
       omega arith
@@ -239,7 +240,7 @@ module _ (ns : List Name) (fresh : Fresh [] ns) (few : length ns < 65536) (s : L
   equations-found (suc n) at (x ∷ xs) q z hs k e l h =
       let a = many-more (equationIn ns s) n at x xs q e in
       let r = equation-value ns s at x (a .0) (a .1) in
-      let o = names-on at (x .lhs) (r .to-rhs) (r .lhs) in
+      let o = names-move ns s at (x .lhs) (r .to-rhs) (r .lhs) in
       let m = expr-moves ns s (r .to-rhs) (x .rhs) (a .0) (r .rhs) .0 in
       let w = equations-on n (a .0) xs q (a .2) in
       let f = expr-found (r .to-rhs) (x .rhs) (a .0) z hs k (r .rhs) (omega arith) h in

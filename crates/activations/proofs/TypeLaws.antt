@@ -18,14 +18,14 @@ use Rattle.pack.specs.Read.{portIn, typeIn}
 use Rattle.machines.specs.declared.sure.Num.{Num}
 use Rattle.machines.specs.Laid.{sliceOf}
 use Rattle.machines.specs.Stands.{endOf}
-use Rattle.machines.specs.Sure.{numberIn, sureOf}
+use Rattle.machines.specs.Sure.{firstSome, numberIn, sureOf}
 use Rattle.machines.proofs.SureLaws.{byte-is, no, on, yes}
 use Rattle.activations.proofs.types.Start as Start-enum
 use Rattle.activations.specs.declared.types.Start.{Start}
 use Rattle.activations.specs.declared.types.Start.the-variants as sr
 use Rattle.activations.specs.Cells.{clearT, putT}
 use Rattle.activations.specs.Places.{along, eachOf, rightSideIn}
-use Rattle.activations.specs.TypeCodes.{codeOr, outT, typedT, valueTypeT}
+use Rattle.activations.specs.TypeCodes.{outT, typedT, valueTypeT}
 use Rattle.activations.specs.TypesAt.{enumEnd, firstPortT, firstPortsT, firstVariantT, inputsIn, isMissing, plainStart, portEnd, portT, portsEnd, portsT, startAt, startT, threePortsT, typeBytes, variablesT, variantAt, variantOr, variantT, wordStart}
 use Rattle.activations.proofs.PlaceLaws.{along-end, each-end}
 
@@ -127,21 +127,13 @@ pub out-none : (outs : List ℕ) (names x : ℕ) → names ≤ x → 0 ≡ outT 
 unfolding outT
 out-none outs names x l = rw (le-ltb x names l)
 
-pub code-none : (c d : ℕ) → c ≡ 0 → d ≡ codeOr c d
-unfolding codeOr
-code-none c d e = yes c 0 d c d e refl
-
-pub code-some : (c d : ℕ) → (c ≡ 0 → ⊥) → c ≡ codeOr c d
-unfolding codeOr
-code-some c d e = no c 0 d c c e refl
-
-pub typed-is : (env outs : List ℕ) (names x c d r : ℕ) → c ≡ getD env x 0 → d ≡ outT outs names x → r ≡ codeOr c d → r ≡ typedT env outs names x
+pub typed-is : (env outs : List ℕ) (names x c d r : ℕ) → c ≡ getD env x 0 → d ≡ outT outs names x → r ≡ firstSome c d → r ≡ typedT env outs names x
 unfolding typedT
-typed-is env outs names x c d r e f g = g ∙ (λ j. codeOr (e j) (f j))
+typed-is env outs names x c d r e f g = g ∙ (λ j. firstSome (e j) (f j))
 
-pub value-is : (env outs : List ℕ) (names x c b d r : ℕ) → c ≡ outT outs names x → b ≡ getD env x 0 → d ≡ codeOr b 1 → r ≡ codeOr c d → r ≡ valueTypeT env outs names x
+pub value-is : (env outs : List ℕ) (names x c b d r : ℕ) → c ≡ outT outs names x → b ≡ getD env x 0 → d ≡ firstSome b 1 → r ≡ firstSome c d → r ≡ valueTypeT env outs names x
 unfolding valueTypeT
-value-is env outs names x c b d r e f g h = h ∙ (λ j. codeOr (e j) (g j)) ∙ ap (λ y. codeOr (outT outs names x) (codeOr y 1)) f
+value-is env outs names x c b d r e f g h = h ∙ (λ j. firstSome (e j) (g j)) ∙ ap (λ y. firstSome (outT outs names x) (firstSome y 1)) f
 
 pub word-none : (c : ℕ) → c ≡ 0 → sr.Missing ≡ wordStart c
 unfolding wordStart

@@ -5,7 +5,7 @@ use native.Mathlib.Nat.{mod-eq-of-lt}
 use mathlib.Core.List.{List, [], _∷_, _++_}
 use mathlib.Core.Bool.{Bool, true, false, cond}
 use mathlib.Core.Logic.{⊎-elim}
-use mathlib.Core.Option.{Option, none, some}
+use mathlib.Core.Option.{Option, none, some, Option·none-ne-some}
 use mathlib.Core.Path.{_≡_, refl, sym, ap, subst, _∙_}
 use lib.ListN.{length, getD, set, drop, length-append, length-set, length-drop}
 use lib.Seq.{getD-set-same, getD-set-other}
@@ -31,7 +31,7 @@ use Rattle.pack.proofs.Tables.{code}
 use Rattle.pack.proofs.TypeFormats.{fmtType}
 use Rattle.machines.specs.Laid.{sliceOf}
 use Rattle.machines.specs.Stands.{endOf}
-use Rattle.machines.specs.Sure.{byteIn, num, numberIn, with}
+use Rattle.machines.specs.Sure.{byteIn, firstSome, num, numberIn, with}
 use Rattle.machines.proofs.NamesPlaced.{alone}
 use Rattle.machines.proofs.Reading.{many-cut, many-end, many-more, many-over, name-number}
 use Rattle.machines.proofs.SureLaws.{byte-to, end-to, number-num, number-to, then-to}
@@ -41,7 +41,7 @@ use Rattle.machines.proofs.Validated.{first-none}
 use Rattle.activations.specs.Cells.{clearT, putT}
 use Rattle.activations.specs.Places.{along, eachOf}
 use Rattle.activation_rules.specs.Types.{firstTyped, lastTyped, orBool, typed, valueType, variables}
-use Rattle.activations.specs.TypeCodes.{codeOr, outT, readTy, typeAt, typedT, valueTypeT}
+use Rattle.activations.specs.TypeCodes.{outT, readTy, typeAt, typedT, valueTypeT}
 use Rattle.activations.specs.TypesAt.{Coded, TypesAre, firstPortT, firstPortsT, inputsIn, portEnd, portT, portsEnd, portsT, threePortsT, typeBytes, variablesT}
 use Rattle.activations.proofs.ActRead.{counted-value}
 
@@ -65,8 +65,8 @@ coded-type ns s c none e = rw e
 coded-type ns s c (some t) e = e .1
 
 -- the first of two codes
-pub coded-or : (ns : List Name) (s : List ℕ) (c d : ℕ) (o p : Option Ty) → Coded ns s c o → Coded ns s d p → Coded ns s (codeOr c d) (firstOf o p)
-unfolding Coded codeOr firstOf
+pub coded-or : (ns : List Name) (s : List ℕ) (c d : ℕ) (o p : Option Ty) → Coded ns s c o → Coded ns s d p → Coded ns s (firstSome c d) (firstOf o p)
+unfolding Coded firstSome firstOf
 coded-or ns s c d none p e f = rw e f
 coded-or ns s c d (some t) p e f = rw (ne-eqb c 0 (λ z. let l = e .0 in omega arith)) e
 
@@ -74,16 +74,13 @@ pub coded-bool : (ns : List Name) (s : List ℕ) → Coded ns s 1 (some tBool)
 unfolding Coded typeAt
 coded-bool ns s = (omega arith, refl)
 
-none-some : (t : Ty) → none ≡ some t → ⊥
-none-some t h = let z : _≡_ {A = ℕ} 0 1 = cc in omega arith
-
 -- what was read at a code
 read-some : (a : Answer Ty) (t : Ty) → readTy a ≡ some t → a ≡ value t (endOf a)
 unfolding readTy endOf orBool
 read-some (value x q) t e = ap (λ y. value (orBool y) q) e
-read-some early t e = absurd (none-some t e)
-read-some (illegal o) t e = absurd (none-some t e)
-read-some (deep o) t e = absurd (none-some t e)
+read-some early t e = absurd (Option·none-ne-some t e)
+read-some (illegal o) t e = absurd (Option·none-ne-some t e)
+read-some (deep o) t e = absurd (Option·none-ne-some t e)
 
 code-read : (ns : List Name) (s : List ℕ) (c : ℕ) → 2 ≤ c → typeAt ns s c ≡ readTy (typeIn ns s c)
 unfolding typeAt
@@ -414,6 +411,6 @@ module _ (ns : List Name) (fresh : Fresh [] ns) (few : length ns < 65536) (s : L
       unfolding valueTypeT valueType outT TypesAre
       value-old x h =
           rw (lt-ltb x (length ns) h)
-          (subst (Coded ns s (codeOr (getD outs x 0) (codeOr (getD env x 0) 1))) (value-or (firstTyped outputs (nameAt ns x)) (lastTyped ports (nameAt ns x)))
-          (coded-or ns s (getD outs x 0) (codeOr (getD env x 0) 1) (firstTyped outputs (nameAt ns x)) (firstOf (lastTyped ports (nameAt ns x)) (some tBool)) (O x h)
+          (subst (Coded ns s (firstSome (getD outs x 0) (firstSome (getD env x 0) 1))) (value-or (firstTyped outputs (nameAt ns x)) (lastTyped ports (nameAt ns x)))
+          (coded-or ns s (getD outs x 0) (firstSome (getD env x 0) 1) (firstTyped outputs (nameAt ns x)) (firstOf (lastTyped ports (nameAt ns x)) (some tBool)) (O x h)
           (coded-or ns s (getD env x 0) 1 (lastTyped ports (nameAt ns x)) (some tBool) (E x h) (coded-bool ns s))))

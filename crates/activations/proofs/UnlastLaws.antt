@@ -21,21 +21,21 @@ use Rattle.activations.specs.UnlastAt.{copyItems, metItems, unlastT}
 use Rattle.activations.proofs.Moving.{ended}
 use Rattle.activations.proofs.PassLaws.{full-walked}
 
-module _ (old s spots : List ℕ) (a : Name) where
-  -- no call of `last`: its bytes
-  copied-to : (p q : ℕ) (h : List ℕ) (x z : State) → h ≡ sliceOf s p (q - p) → x ≡ puts h z → x ≡ render old (copyItems s p q) z
-  unfolding copyItems render putItem
-  copied-to p q h x z e f = f ∙ ap (λ (y : List ℕ). puts y z) e
+-- no call of `last`: its bytes
+pub copied-to : (old s : List ℕ) (p q : ℕ) (h : List ℕ) (x z : State) → h ≡ sliceOf s p (q - p) → x ≡ puts h z → x ≡ render old (copyItems s p q) z
+unfolding copyItems render putItem
+copied-to old s p q h x z e f = f ∙ ap (λ (y : List ℕ). puts y z) e
 
+module _ (old s spots : List ℕ) (a : Name) where
   pub met-copied : (m : Met) (p q : ℕ) (h : List ℕ) (x z : State) → OneOf (1 ∷ 2 ∷ 3 ∷ 4 ∷ 5 ∷ 6 ∷ []) (tagOf Met-enum.the-type m) → q ≡ onwardT m → h ≡ sliceOf s p (q - p) → x ≡ puts h z → x ≡ render old (metItems s spots a m p) z
   unfolding metItems onwardT
   met-copied (mt.Last v i e) p q h x z k f g j = absurd (⊎-elim (λ d. omega arith) (λ d. ⊎-elim (λ d. omega arith) (λ d. ⊎-elim (λ d. omega arith) (λ d. ⊎-elim (λ d. omega arith) (λ d. ⊎-elim (λ d. omega arith) (λ d. omega arith) d) d) d) d) k)
-  met-copied (mt.Bad u e) p q h x z k f g j = copied-to p e h x z (g ∙ ap (λ y. sliceOf s p (y - p)) f) j
-  met-copied (mt.Const e) p q h x z k f g j = copied-to p e h x z (g ∙ ap (λ y. sliceOf s p (y - p)) f) j
-  met-copied (mt.Var i e) p q h x z k f g j = copied-to p e h x z (g ∙ ap (λ y. sliceOf s p (y - p)) f) j
-  met-copied (mt.Clocked c u e) p q h x z k f g j = copied-to p e h x z (g ∙ ap (λ y. sliceOf s p (y - p)) f) j
-  met-copied (mt.Other u e) p q h x z k f g j = copied-to p e h x z (g ∙ ap (λ y. sliceOf s p (y - p)) f) j
-  met-copied mt.Nothing p q h x z k f g j = copied-to p 0 h x z (g ∙ ap (λ y. sliceOf s p (y - p)) f) j
+  met-copied (mt.Bad u e) p q h x z k f g j = copied-to old s p e h x z (g ∙ ap (λ y. sliceOf s p (y - p)) f) j
+  met-copied (mt.Const e) p q h x z k f g j = copied-to old s p e h x z (g ∙ ap (λ y. sliceOf s p (y - p)) f) j
+  met-copied (mt.Var i e) p q h x z k f g j = copied-to old s p e h x z (g ∙ ap (λ y. sliceOf s p (y - p)) f) j
+  met-copied (mt.Clocked c u e) p q h x z k f g j = copied-to old s p e h x z (g ∙ ap (λ y. sliceOf s p (y - p)) f) j
+  met-copied (mt.Other u e) p q h x z k f g j = copied-to old s p e h x z (g ∙ ap (λ y. sliceOf s p (y - p)) f) j
+  met-copied mt.Nothing p q h x z k f g j = copied-to old s p 0 h x z (g ∙ ap (λ y. sliceOf s p (y - p)) f) j
 
   -- a call of `last`: its holder
   held-as : (v i e p : ℕ) (z : State) → putName old (lastVar a (packName s spots v)) (puts (1 ∷ []) z) ≡ render old (metItems s spots a (mt.Last v i e) p) z

@@ -11,7 +11,7 @@ use Rattle.wire.proofs.Answers.{fwd-many}
 use Rattle.pack.specs.Names.{Name}
 use Rattle.pack.specs.Syntax.{Expr}
 use Rattle.pack.specs.Read.{exprIn}
-use Rattle.pack.proofs.Tables.{all-append}
+use Rattle.pack.proofs.Tables.{all-append, all-unit}
 use Rattle.machines.proofs.Reading.{many-cut, many-end, many-more, many-over}
 use Rattle.machines.proofs.PackCounts.{fwd-exprIn}
 use Rattle.activations.specs.Met.{metAt, onwardT}
@@ -75,18 +75,13 @@ module _ (ns : List Name) (s : List ℕ) (few : length ns < 65536) (by : Bytes s
     abbrev pub Follows : Type 0
     Follows = (p : ℕ) (e : Expr) (q : ℕ) (m : Met) (z : S) → exprIn ns s p ≡ value e q → m ≡ metAt ns s last p → View ns s e m → T e z ≡ through T (toCome m e) (step m p z)
 
-    all-any : (es : List Expr) → All (λ e. Unit {0}) es
-    unfolding All
-    all-any [] = tt
-    all-any (e ∷ es) = (tt, all-any es)
-
     module _ (follows : Follows) where
       followed : FollowsBy T (λ (p : ℕ) (z y : S). z ≡ y) (λ e. Unit {0})
-      followed p e q m z y d g v k r = (step m p z, ap (T e) (sym r) ∙ follows p e q m z d g v, refl, all-any (toCome m e))
+      followed p e q m z y d g v k r = (step m p z, ap (T e) (sym r) ∙ follows p e q m z d g v, refl, all-unit (toCome m e))
 
       -- THE LAW: expressions read one after the other, and one alone
       pub walks : (n p : ℕ) (es : List Expr) (q : ℕ) (z : S) → many (exprIn ns s) n p ≡ value es q → walked ns s last step n p z ≡ through T es z
-      walks n p es q z e = walks-all T (λ (i : ℕ) (x y : S). x ≡ y) (λ e. Unit {0}) followed n p es q z z e (all-any es) refl
+      walks n p es q z e = walks-all T (λ (i : ℕ) (x y : S). x ≡ y) (λ e. Unit {0}) followed n p es q z z e (all-unit es) refl
 
       pub walks-one : (p : ℕ) (e : Expr) (q : ℕ) (z : S) → exprIn ns s p ≡ value e q → walked ns s last step 1 p z ≡ T e z
       walks-one p e q z d = walks-by T (λ (i : ℕ) (x y : S). x ≡ y) (λ e. Unit {0}) followed p e q z z d tt refl

@@ -17,12 +17,12 @@ use Rattle.activations.specs.declared.locals.Passed.{Passed}
 use Rattle.activation_rules.specs.MadeNames.{lastVar, scopeAt, valueVar}
 use Rattle.activations.specs.Vars.{branchVar}
 use Rattle.activations.specs.Cells.{putT}
-use Rattle.activations.specs.Places.{bodyIn, branchEnd, equationEnd, firstLeftIn, rightSideIn}
+use Rattle.activations.specs.Places.{bodyIn, branchEnd, equationEnd, firstLeftIn}
 use Rattle.activations.specs.Lookups.{placeBuilt, placeIn}
 use Rattle.activations.specs.TypeCodes.{typedT, valueTypeT}
 use Rattle.activations.specs.TypesAt.{typeBytes}
 use Rattle.activations.specs.NumbersAt.{sampleNameT}
-use Rattle.activations.specs.ReadsAt.{joinT, readsT}
+use Rattle.activations.specs.ReadsAt.{joinT, readsAt}
 
 -- what a pass over locals carries: the types that the next activation sees, the writer's state, how many locals there were, by 16 bits
 pub record Left : Type 0 where
@@ -105,14 +105,11 @@ module _ (ns : List Name) (s old : List ℕ) (made : Bool) where
 
       -- the index of `last`, the holders' rows
       module _ (last : ℕ) (held : List ℕ) (rows : ℕ) where
-        unfoldable pub localReads : ℕ → List ℕ
-        localReads p = readsT held rows env outs (length ns) ns s last (rightSideIn ns s p)
-
         -- c equations from p on
         unfoldable pub equationLocalsT : ℕ → ℕ → ℕ → List ℕ → Left → Left
         equationLocalsT k zero p seen z = z
         equationLocalsT k (suc c) p seen z =
-            equationLocalsT k c (equationEnd ns s p) (joinT (localReads p) seen) (equationLocalT k (localReads p) seen p z)
+            equationLocalsT k c (equationEnd ns s p) (joinT (readsAt held rows env outs (length ns) ns s last p) seen) (equationLocalT k (readsAt held rows env outs (length ns) ns s last p) seen p z)
 
         -- the scope k, whose count of equations stands at an offset
         unfoldable pub scopeLocalsT : ℕ → ℕ → Left → Left

@@ -9,6 +9,7 @@ use Rattle.machines.specs.Marks.{among}
 use Rattle.activations.specs.declared.met.Met.{Met}
 use Rattle.activations.specs.declared.met.Met.the-variants as mt
 use Rattle.activations.specs.Walks.{walked}
+use Rattle.activations.specs.Places.{rightSideIn}
 use Rattle.activations.specs.TypeCodes.{typedT}
 use Rattle.activations.specs.NumbersAt.{lastIdT}
 
@@ -44,3 +45,7 @@ module _ (held : List ℕ) (rows : ℕ) where
     -- what the expression at an offset reads
     unfoldable pub readsT : List Name → List ℕ → ℕ → ℕ → List ℕ
     readsT ns s last at = walked ns s last readStep 1 at []
+
+    -- what the equation at an offset reads
+    unfoldable pub readsAt : List Name → List ℕ → ℕ → ℕ → List ℕ
+    readsAt ns s last p = readsT ns s last (rightSideIn ns s p)

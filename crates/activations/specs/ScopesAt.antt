@@ -14,7 +14,7 @@ use Rattle.activation_rules.specs.MadeNames.{scopeAt, valueVar}
 use Rattle.activations.specs.ByNumber.{ontoItems}
 use Rattle.activations.specs.Places.{bodyIn, branchEnd, equationEnd, firstLeftIn, rightSideIn}
 use Rattle.activations.specs.NumbersAt.{idItems, sampleNameT}
-use Rattle.activations.specs.ReadsAt.{joinT, readsT}
+use Rattle.activations.specs.ReadsAt.{joinT, readsAt}
 use Rattle.activations.specs.RewriteAt.{overT}
 
 -- a pack's bytes, where each name stands in it, how many there are; an activation's name, its scope k of n branches
@@ -40,14 +40,10 @@ module _ (old s spots : List ℕ) (names : ℕ) (made : Bool) (ns : List Name) (
 
 -- the types of variables and outputs
 module _ (old s spots : List ℕ) (names : ℕ) (made : Bool) (ns : List Name) (last : ℕ) (held : List ℕ) (rows : ℕ) (env outs : List ℕ) (a : Name) (n : ℕ) where
-  -- what the equation at p reads
-  unfoldable pub readsAt : ℕ → List ℕ
-  readsAt p = readsT held rows env outs names ns s last (rightSideIn ns s p)
-
   -- c equations from p on
   unfoldable pub equationsT : ℕ → ℕ → ℕ → List ℕ → State → State
   equationsT k zero p seen z = z
-  equationsT k (suc c) p seen z = equationsT k c (equationEnd ns s p) (joinT (readsAt p) seen) (equationT old s spots names made ns last held rows a n k (readsAt p) seen p z)
+  equationsT k (suc c) p seen z = equationsT k c (equationEnd ns s p) (joinT (readsAt held rows env outs names ns s last p) seen) (equationT old s spots names made ns last held rows a n k (readsAt held rows env outs names ns s last p) seen p z)
 
   -- the scope k, whose count of equations stands at an offset
   unfoldable pub scopeT : ℕ → ℕ → State → State

@@ -9,6 +9,7 @@ use Rattle.wire.specs.Answer.{Answer, value, early, illegal, deep}
 use Rattle.pack.specs.Names.{Name}
 use Rattle.pack.specs.Syntax.{Ty, tBool}
 use Rattle.pack.specs.Read.{typeIn}
+use Rattle.machines.specs.Sure.{firstSome}
 
 -- what was read, where something was
 unfoldable pub readTy : Answer Ty → Option Ty
@@ -21,18 +22,14 @@ readTy (deep o) = none
 unfoldable pub typeAt : List Name → List ℕ → ℕ → Option Ty
 typeAt ns s c = cond (eqb c 0) none (cond (eqb c 1) (some tBool) (readTy (typeIn ns s c)))
 
--- c, or d where c is none
-unfoldable pub codeOr : ℕ → ℕ → ℕ
-codeOr c d = cond (eqb c 0) d c
-
 -- an output's code, by a name's number; holders that are no old names are no outputs
 unfoldable pub outT : List ℕ → ℕ → ℕ → ℕ
 outT outs names x = cond (ltb x names) (getD outs x 0) 0
 
 -- as typed: the variable's, else the output's
 unfoldable pub typedT : List ℕ → List ℕ → ℕ → ℕ → ℕ
-typedT env outs names x = codeOr (getD env x 0) (outT outs names x)
+typedT env outs names x = firstSome (getD env x 0) (outT outs names x)
 
 -- as valueType: the output's, else the variable's, else Bool
 unfoldable pub valueTypeT : List ℕ → List ℕ → ℕ → ℕ → ℕ
-valueTypeT env outs names x = codeOr (outT outs names x) (codeOr (getD env x 0) 1)
+valueTypeT env outs names x = firstSome (outT outs names x) (firstSome (getD env x 0) 1)

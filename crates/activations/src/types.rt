@@ -7,6 +7,7 @@ use crate::parts::after_type;
 use crate::parts::right_side;
 use machines::rows::between;
 use machines::sure::after_port;
+use machines::sure::first_some;
 use machines::sure::number;
 use machines::sure::sure;
 use pack::cells::cell;
@@ -22,7 +23,7 @@ ghost use lib.ListN.{length};
 ghost use Rattle.wire.specs.Writer.{stateOf, puts};
 ghost use Rattle.pack.specs.Names.{Name};
 ghost use Rattle.activations.specs.Cells.{clearT};
-ghost use Rattle.activations.specs.TypeCodes.{codeOr, outT, typedT, valueTypeT};
+ghost use Rattle.activations.specs.TypeCodes.{outT, typedT, valueTypeT};
 ghost use Rattle.activations.specs.TypesAt.{inputsIn, firstPortT, portsT, portsEnd, firstPortsT, variablesT, typeBytes, plainStart, variantOr, variantAt, firstVariantT, wordStart, variantT, startT, isMissing};
 
 // What a holder starts from: nothing, a literal of this tag with value 0, or a name.
@@ -107,20 +108,13 @@ fn output_type(outs: &[u16], names: usize, x: usize) -> usize
     0
 }
 
-// The code c, or d where there is none.
-fn code_or(c: usize, d: usize) -> usize
-    ensures { λ r. ⌜ r ≡ codeOr c d ⌝ }
-{
-    if c == 0 { d } else { c }
-}
-
 // The variable's type, else the output's.
 pub fn typed(env: &[u16], outs: &[u16], names: usize, x: usize) -> usize
     ensures { λ r. ⌜ r ≡ typedT (now (env .entry)) (now (outs .entry)) names x ⌝ }
 {
     let c = cell(env, x);
     let d = output_type(outs, names, x);
-    code_or(c, d)
+    first_some(c, d)
 }
 
 // The output's type, else the variable's, else Bool.
@@ -128,8 +122,8 @@ pub fn value_type(env: &[u16], outs: &[u16], names: usize, x: usize) -> usize
     ensures { λ r. ⌜ r ≡ valueTypeT (now (env .entry)) (now (outs .entry)) names x ⌝ }
 {
     let c = output_type(outs, names, x);
-    let d = code_or(cell(env, x), 1);
-    code_or(c, d)
+    let d = first_some(cell(env, x), 1);
+    first_some(c, d)
 }
 
 // The type of a code, as it stands in the pack.

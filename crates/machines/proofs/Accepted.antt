@@ -1,10 +1,8 @@
 -- What a machine that is not refused has: states in every region, and states that all give its outputs.
 use mathlib.Core.List.{List, _∷_}
 use mathlib.Core.Bool.{true}
-use mathlib.Core.Option.{Option, none, some}
+use mathlib.Core.Option.{Option, none, some, Option·some-ne-none}
 use mathlib.Core.Path.{_≡_, refl, sym, ap, _∙_}
-use Prim.Native.Nat.{ℕ}
-use native.Mathlib.Omega.{arith}
 use Rattle.pack.specs.Names.{Name, member}
 use Rattle.pack.specs.Syntax.{Port}
 use Rattle.machine_rules.specs.Resolved.{Machine, Regions, States, rCons, rNil, sCons, sNil}
@@ -15,28 +13,25 @@ use Rattle.machine_rules.specs.Checks.{badInitial, badR, badS, badTarget, empty
 use Rattle.machines.specs.Values.{Peopled, WholeR, WholeS}
 use Rattle.machines.proofs.Covered.{isNone, none-states}
 
-some-none : {A : Type 0} (a : A) → some a ≡ none → ⊥
-some-none a e = let z : _≡_ {A = ℕ} 0 1 = cc in omega arith
-
 pub first-none : {A : Type 0} (a b : Option A) → firstOf a b ≡ none → (a ≡ none) × (b ≡ none)
 unfolding firstOf
 first-none none b e = (refl, e)
-first-none (some x) b e = absurd (some-none x e)
+first-none (some x) b e = absurd (Option·some-ne-none x e)
 
 pub refusal-none : {A : Type 0} (f : A → Refusal) (a : Option A) → asRefusal f a ≡ none → a ≡ none
 unfolding asRefusal
 refusal-none f none e = refl
-refusal-none f (some x) e = absurd (some-none (f x) e)
+refusal-none f (some x) e = absurd (Option·some-ne-none (f x) e)
 
 -- the top, a region with a known initial state
 top-peopled : (m : Name) (ss : States) → emptyTop m ss ≡ none → Peopled ss
 unfolding emptyTop Peopled
-top-peopled m sNil e = absurd (some-none _ e)
+top-peopled m sNil e = absurd (Option·some-ne-none _ e)
 top-peopled m (sCons s es ts rs rest) e = tt
 
 initial-peopled : (m i : Name) (ss : States) → badInitial m i (namesOf ss) ≡ none → Peopled ss
 unfolding badInitial namesOf member Peopled
-initial-peopled m i sNil e = absurd (some-none _ e)
+initial-peopled m i sNil e = absurd (Option·some-ne-none _ e)
 initial-peopled m i (sCons s es ts rs rest) e = tt
 
 mutual

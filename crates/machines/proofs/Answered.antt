@@ -1,7 +1,6 @@
 -- The answer to a pack that was opened: what the code reports or writes by its tables is the definition's outcome.
 use Prim.Native.Nat.{ℕ, _-_, _≤_}
-use native.Mathlib.Omega.{arith}
-use mathlib.Core.List.{List, [], _∷_, _++_}
+use mathlib.Core.List.{List, [], _++_}
 use mathlib.Core.Bool.{Bool, true, false, cond}
 use mathlib.Core.Path.{_≡_, refl, sym, ap, subst, _∙_}
 use lib.ListN.{length}
@@ -35,6 +34,8 @@ use Rattle.machines.proofs.Walked.{Ready}
 use Rattle.machines.proofs.PackSettled.{pack-refused}
 use Rattle.machines.proofs.TablesKnown.{machines-here, tables-ready, tables-settled}
 use Rattle.machines.proofs.Opened.{entries-known, reported-known, written-known}
+use Rattle.machines.proofs.CallLaws.{counted-machines}
+use Rattle.machines.proofs.ListsShown.{none-long}
 
 -- an answer by another name
 pub answers-as : (x y : Outcome) (number value : ℕ) (output output′ report report′ : List ℕ) → x ≡ y → Answers x number value output output′ report report′ → Answers y number value output output′ report report′
@@ -62,12 +63,8 @@ module _ (s : List ℕ) (k : Pack) (p : Package) (h : Stands s k p) (bytes : Byt
     (spots₀ to₀ nodes₀ mats₀ ats₀ regs₀ spots to nodes mats ats regs : List ℕ) (e : Empty spots₀ to₀ nodes₀ mats₀ ats₀ regs₀)
     (f : (ns : List Name) → length ns ≡ k .names → Filled ns s k spots₀ to₀ nodes₀ mats₀ ats₀ regs₀ spots to nodes mats ats regs)
     (t reg lets : List ℕ) (long : Long t reg lets) (m : Num) (n : ℕ) (em : m ≡ numberIn s (k .machines)) (en : n ≡ smallOf (m .value)) where
-  all-machines : n ≡ machineCount s k
-  unfolding machineCount
-  all-machines = en ∙ ap (λ (y : Num). smallOf (y .value)) em
-
   counted : n ≡ length (p .machines)
-  counted = all-machines ∙ machines-here s k p h bytes short
+  counted = counted-machines s k m n em en ∙ machines-here s k p h bytes short
 
   its-tables : Ready s (p .names) (p .machines) spots to
   its-tables = tables-ready s k p h bytes short spots₀ to₀ nodes₀ mats₀ ats₀ regs₀ spots to nodes mats ats regs e (f (p .names) (h .count))
@@ -102,16 +99,12 @@ module _ (s : List ℕ) (k : Pack) (p : Package) (h : Stands s k p) (bytes : Byt
         → Answers (machinesOf (length output) (length report) p) number value output output′ report report
     unfolding machinesOf finished
     answers-written none number value output output′ report g =
-        let nothing = no-refusal (madeMachines p .refusals) (sym all-refused ∙ none) in
+        let nothing = none-long (madeMachines p .refusals) (sym all-refused ∙ none) in
         let w = written-known s k p h bytes spots to its-tables mats ats regs its-fate nothing n counted (length output) (length report) in
         record {
           gives = carried _ _ number value output output′ (w .1) (g (p .names) (h .count) (tabled (table (sliceOf s 2 (k .enums - 2)))) refl (w .0 .eqs) (w .0 .ens) (w .0 .equations) (w .0 .enums));
           report-is = written-quiet (length output) (withoutMachines p (madeMachines p)) report ∙ ap (λ (x : Outcome). reportOf x report) (sym (quiet nothing));
         }
       where
-        no-refusal : (rs : List Refusal) → length rs ≡ 0 → rs ≡ []
-        no-refusal [] l = refl
-        no-refusal (x ∷ xs) l = absurd (omega arith)
-
         quiet : madeMachines p .refusals ≡ [] → machinesOf (length output) (length report) p ≡ written (length output) (withoutMachines p (madeMachines p))
         quiet l = ap (λ (rs : List Refusal). finished (length output) (length report) rs (withoutMachines p (madeMachines p))) l

@@ -25,15 +25,16 @@ use Rattle.machines.specs.Reporting.{EntersAll, RoomForAll, bytesT, ofRe
 use Rattle.machines.specs.Filled.{Answers, Filled, Reports, machineCount, nodeCount}
 use Rattle.machines.proofs.Overwriting.{over-start}
 
+-- the machines that are counted
+pub counted-machines : (s : List ℕ) (k : Pack) (m : Num) (n : ℕ) → m ≡ numberIn s (k .machines) → n ≡ smallOf (m .value) → n ≡ machineCount s k
+unfolding machineCount
+counted-machines s k m n e f = f ∙ ap (λ (y : Num). smallOf (y .value)) e
+
 -- the tables that were filled
 module _ (ns : List Name) (s : List ℕ) (k : Pack) (c m : Num) (old n : ℕ) (ec : c ≡ numberIn s (k .nodes)) (em : m ≡ numberIn s (k .machines)) (eo : old ≡ smallOf (c .value)) (en : n ≡ smallOf (m .value)) where
   counted-nodes : old ≡ nodeCount s k
   unfolding nodeCount
   counted-nodes = eo ∙ ap (λ (y : Num). smallOf (y .value)) ec
-
-  counted-machines : n ≡ machineCount s k
-  unfolding machineCount
-  counted-machines = en ∙ ap (λ (y : Num). smallOf (y .value)) em
 
   pub filled : (spots₀ to₀ nodes₀ mats₀ ats₀ regs₀ spots to nodes₁ nodes mats ats regs : List ℕ) (r : ℕ) → spots ≡ namesPlaced s (k .names) 2 0 spots₀ → to ≡ machinesPlaced ns s (k .machines) to₀
       → nodes₁ ≡ fillT (nodeNameT ns s (c .next)) old 0 nodes₀ → mats ≡ fillT (nth (machineEnd ns s) (m .next)) n 0 mats₀
@@ -47,13 +48,13 @@ module _ (ns : List Name) (s : List ℕ) (k : Pack) (c m : Num) (old n : ℕ) (e
         count = r;
         names = a;
         machines = b;
-        drawn = f ∙ λ j. fillT (nth (machineEnd ns s) (from j)) (counted-machines j) 0 mats₀;
-        regions = λ gs w. g gs (λ i l. subst (λ (y : ℕ). HasRegions ns s spots to (nth (machineEnd ns s) y i) (gs i)) (sym from) (w i (subst (λ (y : ℕ). i < y) counted-machines l))) ∙ ap (λ y. fillT gs y 0 regs₀) counted-machines;
-        settled = h ∙ λ j. settleT s mats regs (counted-machines j) 0 (nodesOf ats₀ ((d ∙ λ i. fillT (nodeNameT ns s (from′ i)) (counted-nodes i) 0 nodes₀) j) (counted-nodes j));
+        drawn = f ∙ λ j. fillT (nth (machineEnd ns s) (from j)) (counted-machines s k m n em en j) 0 mats₀;
+        regions = λ gs w. g gs (λ i l. subst (λ (y : ℕ). HasRegions ns s spots to (nth (machineEnd ns s) y i) (gs i)) (sym from) (w i (subst (λ (y : ℕ). i < y) (counted-machines s k m n em en) l))) ∙ ap (λ y. fillT gs y 0 regs₀) (counted-machines s k m n em en);
+        settled = h ∙ λ j. settleT s mats regs (counted-machines s k m n em en j) 0 (nodesOf ats₀ ((d ∙ λ i. fillT (nodeNameT ns s (from′ i)) (counted-nodes i) 0 nodes₀) j) (counted-nodes j));
       }
 
   pub refused-all : (ats : List ℕ) (r : ℕ) → r ≡ totalT (refusedT ats) n 0 → r ≡ totalT (refusedT ats) (machineCount s k) 0
-  refused-all ats r e = e ∙ ap (λ y. totalT (refusedT ats) y 0) counted-machines
+  refused-all ats r e = e ∙ ap (λ y. totalT (refusedT ats) y 0) (counted-machines s k m n em en)
 
 -- a report that is too long for its buffer, and one that fits
 module _ (k b : ℕ) (xs : List ℕ) (e : b ≡ 2 + length xs) (output report : List ℕ) where

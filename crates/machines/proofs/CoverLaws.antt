@@ -12,8 +12,8 @@ use Rattle.pack.specs.Read.{equationIn}
 use Rattle.machines.specs.declared.cover.Told.{Told}
 use Rattle.machines.specs.declared.sure.Num.{Num}
 use Rattle.machines.specs.Stands.{endOf}
-use Rattle.machines.specs.Sure.{numberIn, with}
-use Rattle.machines.specs.Covers.{allMiss, asked, firstMiss, givesT, missT, orNext, ownT, tells, told, uncoveredT}
+use Rattle.machines.specs.Sure.{firstSome, numberIn, with}
+use Rattle.machines.specs.Covers.{allMiss, asked, firstMiss, givesT, missT, ownT, tells, told, uncoveredT}
 use Rattle.machines.proofs.SureLaws.{on}
 
 -- the loop over a state's equations: one that does not give the output, one that does, and the end
@@ -71,7 +71,7 @@ module _ (ns : List Name) (s : List ℕ) where
 -- the loop over states: one that gives the output, one that does not, and the end
 module _ (t : List ℕ) (f : ℕ → ℕ) where
   pub first-went : (n p m r z : ℕ) → 0 < n → m ≡ f p → m ≡ 0 → r ≡ getD t (p + 4) 0 → firstMiss t f n p ≡ z → firstMiss t f (n - 1) r ≡ z
-  unfolding firstMiss orNext
+  unfolding firstMiss firstSome
   first-went zero p m r z l e h g d = absurd (omega arith)
   first-went (suc n) p m r z l e h g d =
       let i : suc n - 1 ≡ n = omega arith in
@@ -79,7 +79,7 @@ module _ (t : List ℕ) (f : ℕ → ℕ) where
       ∙ sym (ap (λ (b : Bool). cond b (firstMiss t f n (getD t (p + 4) 0)) (f p)) (eq-eqb (f p) 0 (sym e ∙ h))) ∙ d
 
   pub first-found : (n p m z : ℕ) → 0 < n → m ≡ f p → (m ≡ 0 → ⊥) → firstMiss t f n p ≡ z → m ≡ z
-  unfolding firstMiss orNext
+  unfolding firstMiss firstSome
   first-found zero p m z l e h d = absurd (omega arith)
   first-found (suc n) p m z l e h d =
       e ∙ sym (ap (λ (b : Bool). cond b (firstMiss t f n (getD t (p + 4) 0)) (f p)) (ne-eqb (f p) 0 (λ g. h (e ∙ g)))) ∙ d
@@ -99,33 +99,25 @@ module _ (t : List ℕ) (f : ℕ → ℕ) where
   first-from k n p r e h = ap (λ (y : ℕ). firstMiss t f y p) e ∙ first-start n p r h
 
   -- the loop over regions: one that does not give the output, one that does, and the end
-  pub all-went : (n g m v k r z : ℕ) → 0 < n → m ≡ f g → (m ≡ 0 → ⊥) → k ≡ orNext v m → r ≡ getD t (g + 4) 0 → allMiss t f n g v ≡ z → allMiss t f (n - 1) r k ≡ z
+  pub all-went : (n g m v k r z : ℕ) → 0 < n → m ≡ f g → (m ≡ 0 → ⊥) → k ≡ firstSome v m → r ≡ getD t (g + 4) 0 → allMiss t f n g v ≡ z → allMiss t f (n - 1) r k ≡ z
   unfolding allMiss
   all-went zero g m v k r z l e h a b d = absurd (omega arith)
   all-went (suc n) g m v k r z l e h a b d =
       let i : suc n - 1 ≡ n = omega arith in
       ap (λ (y : ℕ). allMiss t f y r k) i
-      ∙ (λ j. allMiss t f n (b j) ((a ∙ ap (orNext v) e) j))
-      ∙ sym (ap (λ (x : Bool). cond x 0 (allMiss t f n (getD t (g + 4) 0) (orNext v (f g)))) (ne-eqb (f g) 0 (λ y. h (e ∙ y)))) ∙ d
+      ∙ (λ j. allMiss t f n (b j) ((a ∙ ap (firstSome v) e) j))
+      ∙ sym (ap (λ (x : Bool). cond x 0 (allMiss t f n (getD t (g + 4) 0) (firstSome v (f g)))) (ne-eqb (f g) 0 (λ y. h (e ∙ y)))) ∙ d
 
   pub all-given : (n g m v z : ℕ) → 0 < n → m ≡ f g → m ≡ 0 → allMiss t f n g v ≡ z → 0 ≡ z
   unfolding allMiss
   all-given zero g m v z l e h d = absurd (omega arith)
   all-given (suc n) g m v z l e h d =
-      sym (ap (λ (x : Bool). cond x 0 (allMiss t f n (getD t (g + 4) 0) (orNext v (f g)))) (eq-eqb (f g) 0 (sym e ∙ h))) ∙ d
+      sym (ap (λ (x : Bool). cond x 0 (allMiss t f n (getD t (g + 4) 0) (firstSome v (f g)))) (eq-eqb (f g) 0 (sym e ∙ h))) ∙ d
 
   pub all-done : (n g v z : ℕ) → n ≤ 0 → allMiss t f n g v ≡ z → v ≡ z
   unfolding allMiss
   all-done zero g v z l d = d
   all-done (suc n) g v z l d = absurd (omega arith)
-
-pub next-second : (a b : ℕ) → a ≡ 0 → b ≡ orNext a b
-unfolding orNext
-next-second a b e = sym (ap (λ (x : Bool). cond x b a) (eq-eqb a 0 e))
-
-pub next-first : (a b : ℕ) → (a ≡ 0 → ⊥) → a ≡ orNext a b
-unfolding orNext
-next-first a b e = sym (ap (λ (x : Bool). cond x b a) (ne-eqb a 0 e))
 
 -- a state that gives the output itself, one without regions, one with regions; a region
 module _ (ns : List Name) (s t : List ℕ) (out : ℕ) where

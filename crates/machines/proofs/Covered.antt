@@ -21,10 +21,10 @@ use Rattle.machines.specs.declared.cover.Told.{Told}
 use Rattle.machine_rules.specs.Lower.{coversR, coversS, isOnly, isSome, ownValue}
 use Rattle.machine_rules.specs.Checks.{uncoveredR, uncoveredS, unlessCovered, unlessOther}
 use Rattle.machines.specs.Stands.{StateAt, endOf}
-use Rattle.machines.specs.Sure.{numberIn, with}
+use Rattle.machines.specs.Sure.{firstSome, numberIn, with}
 use Rattle.machines.specs.Laid.{HeldR, HeldS, RegionRow, StateRow, gEnd, gMore, hEnd, hMore}
 use Rattle.machines.specs.Emits.{lettersAt}
-use Rattle.machines.specs.Covers.{allMiss, asked, firstMiss, givesT, missT, missed, orNext, ownT, tells, told, uncoveredT}
+use Rattle.machines.specs.Covers.{allMiss, asked, firstMiss, givesT, missT, missed, ownT, tells, told, uncoveredT}
 use Rattle.machines.proofs.Reading.{many-cut, many-end, many-more, many-over, name-number}
 use Rattle.machines.proofs.SureLaws.{end-to, number-num, number-to}
 use Rattle.machines.proofs.NamesPlaced.{alone}
@@ -150,8 +150,8 @@ module _ (t lets : List ℕ) where
       go true = refl
       go false = refl
 
-  missed-next : (a b : ℕ) → missed t lets (orNext a b) ≡ firstOf (missed t lets a) (missed t lets b)
-  unfolding orNext firstOf
+  missed-next : (a b : ℕ) → missed t lets (firstSome a b) ≡ firstOf (missed t lets a) (missed t lets b)
+  unfolding firstSome firstOf
   missed-next a b = go (eqb a 0) refl
     where
       go : (x : Bool) → eqb a 0 ≡ x → missed t lets (cond (eqb a 0) b a) ≡ firstOf (missed t lets a) (missed t lets b)
@@ -209,7 +209,7 @@ module _ (ns : List Name) (s t reg lets : List ℕ) (fresh : Fresh [] ns) (out :
 
   regions-first : (f : ℕ → ℕ) (p k g e : ℕ) (nn full : Name) (h : Bool) (ss : States) (rest : Regions) → getD t (g + 4) 0 ≡ e → missed t lets (f g) ≡ uncoveredS o ss → ((m : ℕ) → (m ≡ 0 → ⊥) → allMiss t f k e m ≡ cond (coversR o rest) 0 m)
       → missed t lets (cond (eqb (suc k) 0) p (allMiss t f (suc k) g 0)) ≡ uncoveredR o nn (rCons full h ss rest)
-  unfolding allMiss uncoveredR orNext
+  unfolding allMiss uncoveredR firstSome
   regions-first f p k g e nn full h ss rest a b c =
       ap (λ (x : Bool). missed t lets (cond x p (allMiss t f (suc k) g 0))) (ne-eqb (suc k) 0 (λ z. omega arith))
       ∙ missed-other t lets (f g) (allMiss t f k (getD t (g + 4) 0) (f g)) (coversR o rest) (λ z. ap (λ (y : ℕ). allMiss t f k y (f g)) a ∙ c (f g) z)
@@ -221,7 +221,7 @@ module _ (ns : List Name) (s t reg lets : List ℕ) (fresh : Fresh [] ns) (out :
 
   after-more : (f : ℕ → ℕ) (k g e m : ℕ) (full : Name) (h : Bool) (ss : States) (rest : Regions) → (m ≡ 0 → ⊥) → getD t (g + 4) 0 ≡ e → missed t lets (f g) ≡ uncoveredS o ss → allMiss t f k e m ≡ cond (coversR o rest) 0 m
       → allMiss t f (suc k) g m ≡ cond (coversR o (rCons full h ss rest)) 0 m
-  unfolding allMiss coversR orNext
+  unfolding allMiss coversR firstSome
   after-more f k g e m full h ss rest z a b c =
       (λ i. cond (gives-all (f g) ss b i) 0 (allMiss t f k (a i) (cond (ne-eqb m 0 z i) (f g) m)))
       ∙ ap (cond (coversS o ss) 0) c ∙ go (coversS o ss)

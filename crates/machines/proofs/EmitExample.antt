@@ -23,7 +23,7 @@ use Rattle.pack.proofs.WrittenBack.{allSmall, small-bytes}
 use Rattle.machine_rules.specs.MadeNames.{activeVar, nextVar, smPrefix, stateVar}
 use Rattle.machine_rules.specs.Resolve.{prefixTransitions}
 use Rattle.machines.specs.Stands.{StateAt, endOf}
-use Rattle.machines.specs.Sure.{numberIn, sureOf, with}
+use Rattle.machines.specs.Sure.{firstSome, numberIn, sureOf, with}
 use Rattle.machines.specs.Laid.{HeldR, HeldS, RegionRow, StateRow, gEnd, gMore, hEnd, hMore, prefixOf, sliceOf}
 use Rattle.machines.specs.Equations.{activeEquation, stateEquation}
 use Rattle.machine_rules.specs.Lower.{activeIn, enumsOf, equationsR, equationsS, held, isName, justEntered, nextChain, orElse, regionEquations, sizeR, sizeS, stateRhs, topEquations, transitionsOf, coversR, coversS, equationsOf, fromOption, isOnly, isSome, namesOf, outputEquations, ownValue, valueR, valueS}
@@ -35,7 +35,7 @@ use Rattle.wire.specs.Lists.{All, Bytes}
 use Rattle.pack.specs.Legal.{Fresh, LegalName}
 use Rattle.pack.specs.Report.{asRefusal, firstOf}
 use Rattle.machine_rules.specs.Checks.{allNamesS, badInitial, badS, badTarget, emptyTop, refusalOf, repeated, uncovered, uncoveredR, uncoveredS, unlessCovered, unlessOther}
-use Rattle.machines.specs.Covers.{allMiss, asked, firstMiss, givesT, missT, missed, orNext, ownT, tells, uncoveredT}
+use Rattle.machines.specs.Covers.{allMiss, asked, firstMiss, givesT, missT, missed, ownT, tells, uncoveredT}
 use Rattle.machines.specs.Values.{enteredT, givingFrom, inStateT, outputT, outputsT, portOutputsT, sideBytes, sideFrom, sideT, valueT, valuesT}
 use Rattle.machines.proofs.NamesPlaced.{SpotAt}
 use Rattle.machines.proofs.ChainsEmitted.{Alike}
@@ -188,12 +188,12 @@ unfolding nameAt uncoveredS uncoveredR unlessCovered unlessOther coversR firstOf
 small-o = uncovered-machine ns s t reg lets small-names 5 (omega arith) small 36 2 held-top
 
 small-g : (uncoveredT ns s t 2 8 0 ≡ 24) × (uncoveredS (103 ∷ []) (small .states) ≡ some (65 ∷ 95 ∷ 88 ∷ []))
-unfolding uncoveredT firstMiss missT allMiss orNext ownT givesT tells asked endOf numberIn sureOf readOf with equationIn namesIn nameIn exprIn exprAt exprHead exprFields exprRows exprArity exprOf exprsOf exprOver literal literalOf flagOf nameAt nth trees counted many index below guard bind mapA byte u16 uncoveredS uncoveredR unlessCovered unlessOther coversR firstOf isSome ownValue isOnly eqName
+unfolding uncoveredT firstMiss missT allMiss firstSome ownT givesT tells asked endOf numberIn sureOf readOf with equationIn namesIn nameIn exprIn exprAt exprHead exprFields exprRows exprArity exprOf exprsOf exprOver literal literalOf flagOf nameAt nth trees counted many index below guard bind mapA byte u16 uncoveredS uncoveredR unlessCovered unlessOther coversR firstOf isSome ownValue isOnly eqName
 small-g = (refl, refl)
 
 -- the equations: what is copied comes to the same as what is spelt
 small-equations : spell ns (regionsT s spots t lets ns reg 0 2 ++ portOutputsT s t lets ns 14) [] ≡ spell ns (each equationItems (equationsOf small)) []
-unfolding portOutputsT outputsT outputT valueT valuesT inStateT enteredT givingFrom sideBytes sideT sideFrom uncoveredT firstMiss missT allMiss orNext ownT givesT tells asked maxLevel equationsOf outputEquations valueS valueR coversS coversR fromOption isSome ownValue isOnly portIn equationIn namesIn typeIn firstType typeOf typeOver plainTypes typeAt typeHead typeFields typeArity nameIn nth counted regionsT regionT activeT stateT nextT nextRhsT chainT lastOr testT transitionsT movesT moveT inRegion lettersAt packName rawName sliceOf prefixOf activeEquation stateEquation endOf numberIn sureOf readOf with exprIn exprAt exprHead exprFields exprRows exprArity exprOf exprsOf exprOver literal literalOf flagOf nameAt trees many index below guard bind mapA byte u16 topEquations equationsS equationsR regionEquations activeIn stateRhs held justEntered nextChain orElse transitionsOf isName sizeS sizeR each list nameItems equationItems exprItems litBytes flagByte unByte binByte bytes two spell spellOne andThen before oldIn newIn lookup eqName activeVar stateVar nextVar smPrefix decimal digits
+unfolding portOutputsT outputsT outputT valueT valuesT inStateT enteredT givingFrom sideBytes sideT sideFrom uncoveredT firstMiss missT allMiss firstSome ownT givesT tells asked maxLevel equationsOf outputEquations valueS valueR coversS coversR fromOption isSome ownValue isOnly portIn equationIn namesIn typeIn firstType typeOf typeOver plainTypes typeAt typeHead typeFields typeArity nameIn nth counted regionsT regionT activeT stateT nextT nextRhsT chainT lastOr testT transitionsT movesT moveT inRegion lettersAt packName rawName sliceOf prefixOf activeEquation stateEquation endOf numberIn sureOf readOf with exprIn exprAt exprHead exprFields exprRows exprArity exprOf exprsOf exprOver literal literalOf flagOf nameAt trees many index below guard bind mapA byte u16 topEquations equationsS equationsR regionEquations activeIn stateRhs held justEntered nextChain orElse transitionsOf isName sizeS sizeR each list nameItems equationItems exprItems litBytes flagByte unByte binByte bytes two spell spellOne andThen before oldIn newIn lookup eqName activeVar stateVar nextVar smPrefix decimal digits
 small-equations = refl
 
 -- and so it is by the law, for every writer

@@ -2,7 +2,7 @@
 use Prim.Native.Nat.{ℕ, zero, suc, _+_, _*_, _-_, _/_, _<_, _≤_}
 use native.Mathlib.Omega.{arith}
 use mathlib.Core.List.{List, [], _∷_}
-use mathlib.Core.Bool.{Bool, true, false, _&&_}
+use mathlib.Core.Bool.{Bool, true, false, _&&_, and-eq-true-iff}
 use mathlib.Core.Logic.{⊎-elim}
 use mathlib.Core.Path.{_≡_, refl, sym, ap, subst, _∙_}
 use lib.ListN.{length}
@@ -25,7 +25,7 @@ use Rattle.machines.specs.Lays.{Board, board, fed, inner, layRegion, mov
 use Rattle.machines.specs.Kept.{besideIn, keptIn, markIn, ofEmpty}
 use Rattle.machines.specs.Empties.{AtOnce, EmptyRun, emptyAt, emptyD, longestD, openedOf, taken, takenOf}
 use Rattle.machines.specs.Ends.{EndsRight, KeptRight}
-use Rattle.machines.proofs.SureLaws.{both-true, on}
+use Rattle.machines.proofs.SureLaws.{on}
 use Rattle.machines.proofs.EndLaws.{row-kept}
 use Rattle.machines.proofs.LayLaws.{inner-went, region-left, region-on as laid-on}
 use Rattle.machines.proofs.WalkLaws.{most-less, most-not, region-on, rounds-stopped, rounds-went, stopped, went-on}
@@ -88,7 +88,7 @@ empty-not at g l = sym (ap (_&&_ (eqb (g .value) 0)) (ne-eqb (g .next) (at + 5) 
 
 empty-parts : (at : ℕ) (g : Num) → emptyAt at g ≡ true → (g .value ≡ 0) × (g .next ≡ at + 5)
 unfolding emptyAt
-empty-parts at g e = let h = both-true (eqb (g .value) 0) (eqb (g .next) (at + 5)) e in (eqb-true (g .value) 0 (h .0), eqb-true (g .next) (at + 5) (h .1))
+empty-parts at g e = let h = and-eq-true-iff (eqb (g .value) 0) (eqb (g .next) (at + 5)) .0 e in (eqb-true (g .value) 0 (h .0), eqb-true (g .next) (at + 5) (h .1))
 
 -- the loop that counts them: those seen are without states, and so are all with those that follow
 unfoldable pub SeenBefore : List ℕ → List ℕ → ℕ → ℕ → ℕ → ℕ → Type 0
@@ -192,7 +192,7 @@ module _ (ns : List Name) (s spots to : List ℕ) (l : ℕ) (p : Path) where
   run-rounds zero n o c a f e = let u : n ≡ n - 0 = omega arith in let v : o ≡ o + 5 * 0 = omega arith in λ i. rounds (regionW ns s spots to (walk ns s spots to (suc l)) p) (u i) (v i) c a
   run-rounds (suc k) zero o c a f e = absurd (omega (arith, f))
   run-rounds (suc k) (suc n) o c a f e =
-      let w = both-true (emptyAt o (regionIn s o)) (emptyD s k (o + 5)) e in
+      let w = and-eq-true-iff (emptyAt o (regionIn s o)) (emptyD s k (o + 5)) .0 e in
       let u : n - k ≡ suc n - suc k = omega arith in
       let v : o + 5 + 5 * k ≡ o + 5 * suc k = omega arith in
       ap (λ (x : Walked). goOn x (λ q d y. rounds (regionW ns s spots to (walk ns s spots to (suc l)) p) n q d (maxOf a y))) (one-passed o c (w .0))
@@ -266,7 +266,7 @@ module _ (ns : List Name) (s spots to : List ℕ) (l st up a m : ℕ) where
   run-inner zero n j b f g h e = let u : n ≡ n - 0 = omega arith in let v : b .c .next ≡ b .c .next + 5 * 0 = omega arith in λ i. inner (regionB ns s spots to (layRegion ns s spots to (suc l)) st up a m) (u i) j (passed (v i) b) f
   run-inner (suc k) zero j b f g h e = absurd (omega (arith, g))
   run-inner (suc k) (suc n) j b f g h e =
-      let w = both-true (emptyAt (b .c .next) (regionIn s (b .c .next))) (emptyD s k (b .c .next + 5)) e in
+      let w = and-eq-true-iff (emptyAt (b .c .next) (regionIn s (b .c .next))) (emptyD s k (b .c .next + 5)) .0 e in
       let u : n - k ≡ suc n - suc k = omega arith in
       let v : b .c .next + 5 + 5 * k ≡ b .c .next + 5 * suc k = omega arith in
       ap (λ (x : Board). inner (regionB ns s spots to (layRegion ns s spots to (suc l)) st up a m) n (tally j (b .c .words) (x .c .words)) x f) (one-left b h (w .0))

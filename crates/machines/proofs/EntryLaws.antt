@@ -1,5 +1,5 @@
 -- Laws of the entry of a refused machine.
-use Prim.Native.Nat.{ℕ, _+_, _<_, _≤_, _%_}
+use Prim.Native.Nat.{ℕ, _+_, _*_, _<_, _≤_, _%_}
 use native.Mathlib.Nat.{mod-eq-of-lt}
 use native.Mathlib.Omega.{arith}
 use mathlib.Core.List.{List, [], _∷_, _++_, append-assoc, append-nil}
@@ -163,6 +163,15 @@ module _ (s spots lets : List ℕ) where
       let b = namesBytes (calledOf s spots lets (j .second)) in
       let c = namesBytes (calledOf s spots lets (j .third)) in
       ap length (entry-parts m j n e) ∙ omega (arith, parts-length (j .kind % 256 ∷ []) (nameBytes n) b c, name-length n)
+
+  -- it has the own name and two more
+  pub entry-most : (m : ℕ) (j : Judged) (k : ℕ) → k ≡ length (entryBytes s spots lets m j) → k ≤ 6 + 2 * length lets + 3 * length s
+  entry-most m j k e =
+      let x = entry-length m j _ refl in
+      let y = own-most s spots _ m refl in
+      let u = called-fits (j .second) _ refl in
+      let v = called-fits (j .third) _ refl in
+      omega arith
 
   pub entry-counted : (m : ℕ) (j : Judged) (n : Name) (a b : ℕ) → n ≡ packName s spots m
       → a ≡ length (namesBytes (calledOf s spots lets (j .second))) → b ≡ length (namesBytes (calledOf s spots lets (j .third)))

@@ -25,6 +25,10 @@ pub state-letters : {at tr a m e k : ℕ} (t lets : List ℕ) (p : ℕ) (full : 
 unfolding lettersAt
 state-letters t lets p full row f = (λ i. sliceOf lets (row .letter i) (row .letters i)) ∙ f
 
+pub region-letters : {x y a m e i n st up : ℕ} (t lets : List ℕ) (p : ℕ) → RegionRow t p x y a m e i n st up → lettersAt t lets p ≡ sliceOf lets a m
+unfolding lettersAt
+region-letters t lets p row = λ i. sliceOf lets (row .letter i) (row .letters i)
+
 module _ (ns : List Name) (s t reg lets : List ℕ) where
   -- ids go up by the number of regions
   mutual

@@ -23,17 +23,12 @@ use Rattle.machine_rules.specs.Lower.{activeIn, equationsR, equationsS, nextCha
 use Rattle.machines.specs.Equations.{activeEquation, stateEquation}
 use Rattle.machines.specs.Emits.{activeT, chainT, inRegion, lettersAt, nextRhsT, nextT, packName, regionT, regionsT, stateT}
 use Rattle.machines.proofs.LocalLaws.{each-append}
-use Rattle.machines.proofs.EnumsEmitted.{idR, idS, state-letters}
+use Rattle.machines.proofs.EnumsEmitted.{idR, idS, region-letters, state-letters}
 use Rattle.machines.proofs.ChainsEmitted.{Alike, alike-append, alike-by, chain-alike, in-region}
 
 -- the third equation of an inner region, the second of the top one
 unfoldable nextEquation : ℕ → Expr → Equation
 nextEquation i e = record { lhs = nextVar i ∷ []; rhs = e }
-
--- the letters of a region's row
-region-letters : {x y a m e i n st up : ℕ} (t lets : List ℕ) (p : ℕ) → RegionRow t p x y a m e i n st up → lettersAt t lets p ≡ sliceOf lets a m
-unfolding lettersAt
-region-letters t lets p row = λ i. sliceOf lets (row .letter i) (row .letters i)
 
 -- whether an inner region is active; the top one is
 active-held : {x y a m e i n st up : ℕ} (t lets : List ℕ) (p : ℕ) (nn : Name) → RegionRow t p x y a m e i n st up → (i ≡ 0 → ⊥) → lettersAt t lets st ≡ nn → activeT t lets p ≡ equationItems (activeEquation i (eqb up 0) up nn)

@@ -15,7 +15,7 @@ use Rattle.machine_rules.specs.Lower.{enumsOf, equationsOf, localsOf}
 use Rattle.machine_rules.specs.Machines.{Judged, Made, accept, extend, extendIn, judge, lowerEach, madeMachines, merged, nodeFrom, nodeNamed, placed, refuse, refusing, standalone, start}
 use Rattle.machines.specs.Sections.{Accepted, Fate, Owned, OwnedAll, alone, enumsMade, fateMachine, fateOf, fateThen, fates, fatesOf, into, namesWith, nodeNames, nodesAfter, nodesWith, originFound, originWith, originsAfter}
 
-not-snoc : {A : Type 0} (xs : List A) (x : A) → xs ++ (x ∷ []) ≡ [] → ⊥
+pub not-snoc : {A : Type 0} (xs : List A) (x : A) → xs ++ (x ∷ []) ≡ [] → ⊥
 not-snoc xs x e = omega (arith, length-append xs (x ∷ []), ap length e)
 
 -- a node that is found is known

@@ -2,7 +2,7 @@
 use Prim.Native.Nat.{ℕ, zero, suc, _+_, _-_, _<_, _≤_}
 use native.Mathlib.Omega.{arith}
 use mathlib.Core.List.{List}
-use mathlib.Core.Bool.{Bool, true, false, cond, _&&_, _||_, and-eq-true-iff}
+use mathlib.Core.Bool.{Bool, true, false, cond, _&&_, _||_, and-eq-true-iff, false≢true}
 use mathlib.Core.Path.{_≡_, refl, sym, ap, subst, _∙_}
 use lib.ListN.{getD}
 use lib.Dec.{eqb}
@@ -20,7 +20,7 @@ use Rattle.machines.specs.Sure.{numberIn, with}
 use Rattle.machines.specs.Lays.{movesAt}
 use Rattle.machines.specs.Drawn.{aimedD, amongD, strayed, strays, straysD, straysFrom}
 use Rattle.machines.specs.Valid.{AsForeseen, amongT, foreseen, foretold, hasT, movesChecked, onward, rowDrawn, rowsDrawn, targetsT, unknown}
-use Rattle.machines.proofs.SureLaws.{never, no, yes}
+use Rattle.machines.proofs.SureLaws.{no, yes}
 
 -- what is foreseen of one state, and of those after it
 pub foretold-stray : (v : Foreseen) (q p : ℕ) → v .fine ≡ 0 → ck.Target p q (v .name) ≡ foretold v q p
@@ -120,7 +120,7 @@ module _ (ns : List Name) (s t : List ℕ) where
   none-foreseen : (v : Foreseen) → v .known ≡ false → (q n p : ℕ) → AsForeseen ns s t v q n p
   unfolding AsForeseen
   none-foreseen v e q zero p = tt
-  none-foreseen v e q (suc n) p = (λ x. absurd (never (sym e ∙ x)), none-foreseen (onward v) (onward-unknown v e) q n (getD t (p + 4) 0))
+  none-foreseen v e q (suc n) p = (λ x. absurd (false≢true (sym e ∙ x)), none-foreseen (onward v) (onward-unknown v e) q n (getD t (p + 4) 0))
 
   pub unknown-foreseen : (v : Foreseen) (q n p : ℕ) → v ≡ unknown → AsForeseen ns s t v q n p
   unknown-foreseen v q n p e = none-foreseen v (ap (λ (x : Foreseen). x .known) e) q n p

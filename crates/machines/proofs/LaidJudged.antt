@@ -45,7 +45,7 @@ use Rattle.machines.proofs.RepeatLaws.{Again, Said, repeated-said}
 use Rattle.machines.proofs.Validated.{Says, TellsAll, calledIn, machine-valid}
 use Rattle.machines.proofs.Covered.{uncovered-machine}
 use Rattle.machines.proofs.LaidMachine.{LaidMachine}
-use Rattle.machines.proofs.RefusalNames.{Fair, Lettered, Short, fair-target, laid-lettered, machine-fair, of-some, repeated-told, uncovered-told}
+use Rattle.machines.proofs.RefusalNames.{Fair, Lettered, Short, fair-target, laid-lettered, machine-fair, maybe-some, repeated-told, uncovered-told}
 use Rattle.machines.proofs.CalledNames.{called-again, called-inside, called-name, called-no, called-state, refused-as}
 
 first-assoc : {A : Type 0} (a b c : Option A) → firstOf a (firstOf b c) ≡ firstOf (firstOf a b) c
@@ -129,7 +129,7 @@ module _ (s : List ℕ) (ns : List Name) (spots lets : List ℕ) (fresh : Fresh 
         go false g =
             stood-some s spots lets m k _ rest (unassigned own (p .name) (lettersAt t lets u)) _ (ap (asRefusal (λ n. unassigned own (p .name) n)) (sym g))
             (subst (λ (y : Name). Refuses (unassigned own y (lettersAt t lets u)) (refusedBy 4 (named i) (stateCalled t u))) e
-            (unassigned-as t i u h (of-some Lettered (uncoveredS (p .name) (x .states)) (lettersAt t lets u) (sym g) (uncovered-told Lettered (p .name) (x .states) fine))))
+            (unassigned-as t i u h (maybe-some Lettered (uncoveredS (p .name) (x .states)) (lettersAt t lets u) (sym g) (uncovered-told Lettered (p .name) (x .states) fine))))
 
     outputs-as : (n p : ℕ) (ps : List Port) (q : ℕ) → many (portIn ns s) n p ≡ value ps q → Stood s spots lets m k (uncovered own (x .states) ps) (outputsJ ns s t k n p)
     unfolding outputsJ uncovered Stood portIn
@@ -204,7 +204,7 @@ module _ (s : List ℕ) (ns : List Name) (spots : List ℕ) (fresh : Fresh [] ns
       go (inr (r, e, w)) =
           stood-some s spots (b .lets) m (suc (sizeS (x .states))) invalid missing r rest e
           (wrong-as s ns spots (b .lets) fresh spot few short m small (x .name) is (b .t) o (b .c .regions) (checkedRegion ns s (b .t) 8 0) r w
-          (of-some Fair invalid r e (machine-fair (x .name) (subst Short is (short m small .1)) (x .initial) (x .states) starts ok lettered)))
+          (maybe-some Fair invalid r e (machine-fair (x .name) (subst Short is (short m small .1)) (x .initial) (x .states) starts ok lettered)))
 
   -- names that stand twice
   before-end : (d : ℕ) (n : Name) → Again all d n → d < length (enc all)
@@ -226,7 +226,7 @@ module _ (s : List ℕ) (ns : List Name) (spots : List ℕ) (fresh : Fresh [] ns
       subst (λ y. Stands (firstOf twice (firstOf invalid missing)) (cond y (refusedBy 5 (againCalled (b .lets) d) noName) rest)) (sym g)
       (stood-some s spots (b .lets) m (suc (sizeS (x .states))) twice (firstOf invalid missing) (duplicateState (x .name) n) _ (ap (asRefusal (λ n. duplicateState (x .name) n)) e)
       (again-as s ns spots (b .lets) fresh spot few short m small (x .name) is all (b .c .letters) d n (laid .letters) (omega (arith, laid .letters-end, laid .letters-few)) a
-      (of-some Lettered (repeated [] all) n e (repeated-told Lettered [] all lettered))))
+      (maybe-some Lettered (repeated [] all) n e (repeated-told Lettered [] all lettered))))
 
   -- THE THEOREM: the judgement of the layout is the refusal of the tree, or none
   pub laid-judged : Stands (refusalOf x) (laidJ ns s (b .t) (b .lets) (b .c .letters) (b .c .regions) o)

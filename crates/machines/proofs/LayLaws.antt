@@ -17,8 +17,7 @@ use Rattle.machines.specs.declared.sure.Num.{Num}
 use Rattle.machines.specs.Laid.{holed}
 use Rattle.machines.specs.Sure.{byteIn, numberIn}
 use Rattle.machines.specs.Lays.{Board, board, closeRegion, closeState, entered, enteredOf, fed, inner, lay, layMachine, layRegion, layState, lettersOf, machineAs, movedTo, movesAt, nameNumber, openRegion, openState, opening, passed, refineB, regionB, regionFrom, regionWords, regionsAt, spellLen, spelt, stateEnds, stateWords, sum, tally, times}
-use Rattle.machines.proofs.SureLaws.{no, on, yes}
-use Rattle.machines.proofs.SpellLaws.{chosen, left-out}
+use Rattle.machines.proofs.SureLaws.{chosen, left-out, no, on, yes}
 
 -- counts
 pub sum-full : (a b : ℕ) → 4294967296 ≤ a + b → 4294967296 ≡ sum a b

@@ -34,6 +34,11 @@ use Rattle.machines.proofs.Relaying.{itemsAt, madeEquationItems}
 pub counted-parts : {A : Type 0} (r : ℕ → Answer A) (s : List ℕ) (at : ℕ) (xs : List A) (q : ℕ) → counted r s at ≡ value xs q → (numberIn s at ≡ num (length xs) (at + 2)) × (many r (length xs) (at + 2) ≡ value xs q)
 counted-parts r s at xs q e = let c = counted-many r s at xs q e in (number-num s at _ _ (c .0), c .1)
 
+-- a list that counts 0 has nothing
+pub none-long : {A : Type 0} (xs : List A) → length xs ≡ 0 → xs ≡ []
+none-long [] e = refl
+none-long (x ∷ xs) e = absurd (omega arith)
+
 -- no items stand at the start, up to it
 lies-none : (ns : List Name) (s : List ℕ) → Lies ns s 0 [] 0
 unfolding code Each

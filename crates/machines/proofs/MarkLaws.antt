@@ -18,8 +18,8 @@ use Rattle.pack.specs.Intern.{table, tableF}
 use Rattle.machines.specs.Marks.{Halves, among, halvesOf, highOf, lowOf, maybe}
 use Rattle.machines.specs.declared.marks.Mark.{Mark}
 use Rattle.pack.proofs.Tables.{eqName-true}
-use Rattle.pack.proofs.TableIndex.{table-enc}
-use Rattle.machines.proofs.RepeatLaws.{enc-snoc}
+use Rattle.pack.proofs.TableIndex.{enc-more, table-enc}
+use Rattle.machines.proofs.SureLaws.{or-none}
 
 -- the search among marks, with whether it was met so far: one more, none left
 module _ (ms : List ℕ) (m i : ℕ) (hit z : Bool) where
@@ -58,10 +58,6 @@ unfolding maybe
 maybe-within ms k m r l e = e ∙ sym (ap (λ b. cond b true (among m (take k ms))) (le-ltb (length ms) k l))
 
 -- a name whose mark is not among the marks is not among the names
-or-none : (a b : Bool) → (a || b) ≡ false → (a ≡ false) × (b ≡ false)
-or-none true b e = absurd (let y : _≡_ {A = ℕ} 1 0 = ap (λ c. cond c 1 0) e in omega arith)
-or-none false b e = (refl, e)
-
 other-name : (f : Name → ℕ) (n m : Name) → eqb (f m) (f n) ≡ false → eqName n m ≡ false
 other-name f n m e = go (eqName n m) refl
   where
@@ -138,7 +134,7 @@ module _ (f : Name → ℕ) (t ms ns : List ℕ) (at e k m : ℕ) (h : at < leng
       ap (λ j. take j t) (sym n)
       ∙ cut (e - (at + 1)) at t h (omega arith)
       ∙ (λ j. g j ++ (b j ∷ word))
-      ∙ sym (enc-snoc (table (take at t)) word)
+      ∙ sym (enc-more (table (take at t)) word)
 
   names : e < length t → take at t ≡ enc (table (take at t)) → table (take e t) ≡ table (take at t) ++ (word ∷ [])
   names l g = ap table (more l g) ∙ table-enc (table (take at t) ++ (word ∷ []))

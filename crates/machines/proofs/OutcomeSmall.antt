@@ -43,7 +43,7 @@ use Rattle.machines.proofs.Reading.{many-cut, many-more, machine-value,
 use Rattle.machines.proofs.NamesPlaced.{names-few, section-read}
 use Rattle.machines.proofs.Walked.{Ready, ready}
 use Rattle.machines.proofs.RefusalNames.{Short}
-use Rattle.machines.proofs.EntryLaws.{called-fits, entry-length, own-most}
+use Rattle.machines.proofs.EntryLaws.{entry-most}
 use Rattle.machines.proofs.Refused.{made-refusals}
 use Rattle.machines.proofs.MachineJudged.{judged, names-lettered}
 use Rattle.machines.proofs.PackCounts.{counted-many, pack-counts}
@@ -51,14 +51,8 @@ use Rattle.machines.proofs.CallScratch.{scratch-empty, scratch-long}
 use Rattle.machines.proofs.LettersKept.{letters-kept}
 
 -- an entry has the machine's own name and two more, each with letters of the scratch and of the pack
-entry-most : (s spots lets : List ℕ) (m : ℕ) (j : Judged) (xs : List ℕ) → length s ≤ 65536 → length lets ≤ 131072 → entryBytes s spots lets m j ≡ xs → length xs ≤ 458758
-entry-most s spots lets m j xs a b e =
-    let x = entry-length s spots lets m j _ refl in
-    let y = own-most s spots _ m refl in
-    let u = called-fits s spots lets (j .second) _ refl in
-    let v = called-fits s spots lets (j .third) _ refl in
-    let w = ap length e in
-    omega arith
+entry-small : (s spots lets : List ℕ) (m : ℕ) (j : Judged) (xs : List ℕ) → length s ≤ 65536 → length lets ≤ 131072 → entryBytes s spots lets m j ≡ xs → length xs ≤ 458758
+entry-small s spots lets m j xs a b e = let x = entry-most s spots lets m j (length xs) (sym (ap length e)) in omega arith
 
 entries-length : (xs ys : List Refusal) → length (entries (xs ++ ys)) ≡ length (entries xs) + length (entries ys)
 unfolding entries
@@ -80,7 +74,7 @@ module _ (s : List ℕ) (ns : List Name) (ms : List Drawing) (spots to : List �
 
     judged-most : (x : Refusal) → As (refuse x) → length (entries (x ∷ [])) ≤ 458758
     unfolding JudgedAs
-    judged-most x h = entry-most s spots _ _ _ _ short (omega (arith, letters-kept ns s spots to at t reg lets)) (h .entry)
+    judged-most x h = entry-small s spots _ _ _ _ short (omega (arith, letters-kept ns s spots to at t reg lets)) (h .entry)
 
     own-name : (m : Machine) → As (accept m) → m .name ≡ d .name
     unfolding JudgedAs asMachine

@@ -31,20 +31,20 @@ abbrev pub Lettered : Name → Type 0
 Lettered n = (0 < length n) × (length n < 256)
 
 -- of what there is
-unfoldable pub Of : {A : Type 0} → (A → Type 0) → Option A → Type 0
-Of P none = Unit {0}
-Of P (some x) = P x
+unfoldable pub Maybe : {A : Type 0} → (A → Type 0) → Option A → Type 0
+Maybe P none = Unit {0}
+Maybe P (some x) = P x
 
-pub of-some : {A : Type 0} (P : A → Type 0) (o : Option A) (x : A) → o ≡ some x → Of P o → P x
-unfolding Of
-of-some P o x e h = subst (Of P) e h
+pub maybe-some : {A : Type 0} (P : A → Type 0) (o : Option A) (x : A) → o ≡ some x → Maybe P o → P x
+unfolding Maybe
+maybe-some P o x e h = subst (Maybe P) e h
 
-of-first : {A : Type 0} (P : A → Type 0) (a b : Option A) → Of P a → Of P b → Of P (firstOf a b)
-unfolding Of firstOf
-of-first P none b x y = y
-of-first P (some a) b x y = x
+pub maybe-first : {A : Type 0} (P : A → Type 0) (a b : Option A) → Maybe P a → Maybe P b → Maybe P (firstOf a b)
+unfolding Maybe firstOf
+maybe-first P none b x y = y
+maybe-first P (some a) b x y = x
 
-all-left : {A : Type 0} (P : A → Type 0) (xs ys : List A) → All P (xs ++ ys) → All P xs
+pub all-left : {A : Type 0} (P : A → Type 0) (xs ys : List A) → All P (xs ++ ys) → All P xs
 unfolding All
 all-left P [] ys h = tt
 all-left P (x ∷ xs) ys h = (h .0, all-left P xs ys (h .1))
@@ -55,40 +55,40 @@ all-right P [] ys h = h
 all-right P (x ∷ xs) ys h = all-right P xs ys (h .1)
 
 -- a name that stands again is one of those
-pub repeated-told : (P : Name → Type 0) (seen ns : List Name) → All P ns → Of P (repeated seen ns)
-unfolding Of repeated All
+pub repeated-told : (P : Name → Type 0) (seen ns : List Name) → All P ns → Maybe P (repeated seen ns)
+unfolding Maybe repeated All
 repeated-told P seen [] h = tt
 repeated-told P seen (n ∷ ns) h = go (member n seen) (h .0) (repeated-told P (n ∷ seen) ns (h .1))
   where
-    go : (b : Bool) → P n → Of P (repeated (n ∷ seen) ns) → Of P (elim b [ true ↦ some n | false ↦ repeated (n ∷ seen) ns ])
+    go : (b : Bool) → P n → Maybe P (repeated (n ∷ seen) ns) → Maybe P (elim b [ true ↦ some n | false ↦ repeated (n ∷ seen) ns ])
     go true x y = x
     go false x y = y
 
 -- a state that does not give an output is one of the tree's
-of-covered : (P : Name → Type 0) (b : Bool) (o : Option Name) → Of P o → Of P (unlessCovered b o)
-unfolding Of unlessCovered
-of-covered P true o h = tt
-of-covered P false o h = h
+maybe-covered : (P : Name → Type 0) (b : Bool) (o : Option Name) → Maybe P o → Maybe P (unlessCovered b o)
+unfolding Maybe unlessCovered
+maybe-covered P true o h = tt
+maybe-covered P false o h = h
 
-of-other : (P : Name → Type 0) (o : Option Name) (b : Bool) → Of P o → Of P (unlessOther o b)
-unfolding Of unlessOther
-of-other P none b h = tt
-of-other P (some n) true h = tt
-of-other P (some n) false h = h
+maybe-other : (P : Name → Type 0) (o : Option Name) (b : Bool) → Maybe P o → Maybe P (unlessOther o b)
+unfolding Maybe unlessOther
+maybe-other P none b h = tt
+maybe-other P (some n) true h = tt
+maybe-other P (some n) false h = h
 
 mutual
-  unfolding uncoveredS uncoveredR allNamesS allNamesR All Of
+  unfolding uncoveredS uncoveredR allNamesS allNamesR All Maybe
 
-  pub uncovered-told : (P : Name → Type 0) (o : Name) (ss : States) → All P (allNamesS ss) → Of P (uncoveredS o ss)
+  pub uncovered-told : (P : Name → Type 0) (o : Name) (ss : States) → All P (allNamesS ss) → Maybe P (uncoveredS o ss)
   uncovered-told P o sNil h = tt
   uncovered-told P o (sCons s es ts rs rest) h =
-      of-first P _ (uncoveredS o rest)
-      (of-covered P (isSome (ownValue o es)) (uncoveredR o s rs) (uncovered-regions P o s rs (h .0) (all-left P (allNamesR rs) (allNamesS rest) (h .1))))
+      maybe-first P _ (uncoveredS o rest)
+      (maybe-covered P (isSome (ownValue o es)) (uncoveredR o s rs) (uncovered-regions P o s rs (h .0) (all-left P (allNamesR rs) (allNamesS rest) (h .1))))
       (uncovered-told P o rest (all-right P (allNamesR rs) (allNamesS rest) (h .1)))
 
-  uncovered-regions : (P : Name → Type 0) (o s : Name) (rs : Regions) → P s → All P (allNamesR rs) → Of P (uncoveredR o s rs)
+  uncovered-regions : (P : Name → Type 0) (o s : Name) (rs : Regions) → P s → All P (allNamesR rs) → Maybe P (uncoveredR o s rs)
   uncovered-regions P o s rNil x h = x
-  uncovered-regions P o s (rCons i y ss rest) x h = of-other P (uncoveredS o ss) (coversR o rest) (uncovered-told P o ss (all-left P (allNamesS ss) (allNamesR rest) h))
+  uncovered-regions P o s (rCons i y ss rest) x h = maybe-other P (uncoveredS o ss) (coversR o rest) (uncovered-told P o ss (all-left P (allNamesS ss) (allNamesR rest) h))
 
 -- a refusal of an initial state or a target: its names are short, and the state of a target has letters
 unfoldable pub secondOf : List Name → Name
@@ -109,22 +109,22 @@ unfolding shortName maxName
 short-name n e = let l = leb-true (0 + length n) 255 e in omega arith
 
 module _ (m : Name) (own : Short m) where
-  initial-fair : (i : Name) (ns : List Name) → Short i → Of Fair (badInitial m i ns)
-  unfolding Of badInitial unknownInitial All
+  initial-fair : (i : Name) (ns : List Name) → Short i → Maybe Fair (badInitial m i ns)
+  unfolding Maybe badInitial unknownInitial All
   initial-fair i ns h = go (member i ns)
     where
-      go : (b : Bool) → Of Fair (cond b none (some (unknownInitial m i)))
+      go : (b : Bool) → Maybe Fair (cond b none (some (unknownInitial m i)))
       go true = tt
       go false = record { short = (own, (h, tt)); state = λ e. absurd (omega arith) }
 
-  target-fair : (s : Name) (ns : List Name) (ts : List Transition) → Lettered s → shortTargets 0 ts ≡ true → Of Fair (badTarget m s ns ts)
-  unfolding Of badTarget shortTargets unknownTarget All secondOf
+  target-fair : (s : Name) (ns : List Name) (ts : List Transition) → Lettered s → shortTargets 0 ts ≡ true → Maybe Fair (badTarget m s ns ts)
+  unfolding Maybe badTarget shortTargets unknownTarget All secondOf
   target-fair s ns [] l h = tt
   target-fair s ns (t ∷ ts) l h =
       let a = and-eq-true-iff (shortName 0 (t .target)) (shortTargets 0 ts) .0 h in
       go (member (t .target) ns) (short-name (t .target) (a .0)) (target-fair s ns ts l (a .1))
     where
-      go : (b : Bool) → Short (t .target) → Of Fair (badTarget m s ns ts) → Of Fair (elim b [ true ↦ badTarget m s ns ts | false ↦ some (unknownTarget m s (t .target)) ])
+      go : (b : Bool) → Short (t .target) → Maybe Fair (badTarget m s ns ts) → Maybe Fair (elim b [ true ↦ badTarget m s ns ts | false ↦ some (unknownTarget m s (t .target)) ])
       go true x y = y
       go false x y = record { short = (own, (l .1, (x, tt))); state = λ e. l .0 }
 
@@ -137,29 +137,29 @@ module _ (m : Name) (own : Short m) where
   short-initial i h ss rest e = and-eq-true-iff (shortName 0 i) (shortS 0 ss && shortR 0 rest) .0 e .0
 
   mutual
-    unfolding badS badR allNamesS allNamesR All Of
+    unfolding badS badR allNamesS allNamesR All Maybe
 
-    states-fair : (ns : List Name) (ss : States) → shortS 0 ss ≡ true → All Lettered (allNamesS ss) → Of Fair (badS m ns ss)
+    states-fair : (ns : List Name) (ss : States) → shortS 0 ss ≡ true → All Lettered (allNamesS ss) → Maybe Fair (badS m ns ss)
     states-fair ns sNil e l = tt
     states-fair ns (sCons s es ts rs rest) e l =
         let h = short-states s es ts rs rest e in
-        of-first Fair (badTarget m s ns ts) _ (target-fair s ns ts (l .0) (short-targets s es ts rs rest e))
-        (of-first Fair (badR m rs) (badS m ns rest)
+        maybe-first Fair (badTarget m s ns ts) _ (target-fair s ns ts (l .0) (short-targets s es ts rs rest e))
+        (maybe-first Fair (badR m rs) (badS m ns rest)
         (regions-fair rs (h .regions) (all-left Lettered (allNamesR rs) (allNamesS rest) (l .1)))
         (states-fair ns rest (h .states) (all-right Lettered (allNamesR rs) (allNamesS rest) (l .1))))
 
-    regions-fair : (rs : Regions) → shortR 0 rs ≡ true → All Lettered (allNamesR rs) → Of Fair (badR m rs)
+    regions-fair : (rs : Regions) → shortR 0 rs ≡ true → All Lettered (allNamesR rs) → Maybe Fair (badR m rs)
     regions-fair rNil e l = tt
     regions-fair (rCons i y ss rest) e l =
         let h = short-regions i y ss rest e in
-        of-first Fair (badInitial m i (namesOf ss)) _ (initial-fair i (namesOf ss) (short-name i (short-initial i y ss rest e)))
-        (of-first Fair (badS m (namesOf ss) ss) (badR m rest)
+        maybe-first Fair (badInitial m i (namesOf ss)) _ (initial-fair i (namesOf ss) (short-name i (short-initial i y ss rest e)))
+        (maybe-first Fair (badS m (namesOf ss) ss) (badR m rest)
         (states-fair (namesOf ss) ss (h .0) (all-left Lettered (allNamesS ss) (allNamesR rest) l))
         (regions-fair rest (h .1) (all-right Lettered (allNamesS ss) (allNamesR rest) l)))
 
   -- of a machine: its initial state, then its states
-  pub machine-fair : (i : Name) (ss : States) → Short i → shortS 0 ss ≡ true → All Lettered (allNamesS ss) → Of Fair (firstOf (badInitial m i (namesOf ss)) (badS m (namesOf ss) ss))
-  machine-fair i ss h e l = of-first Fair (badInitial m i (namesOf ss)) (badS m (namesOf ss) ss) (initial-fair i (namesOf ss) h) (states-fair (namesOf ss) ss e l)
+  pub machine-fair : (i : Name) (ss : States) → Short i → shortS 0 ss ≡ true → All Lettered (allNamesS ss) → Maybe Fair (firstOf (badInitial m i (namesOf ss)) (badS m (namesOf ss) ss))
+  machine-fair i ss h e l = maybe-first Fair (badInitial m i (namesOf ss)) (badS m (namesOf ss) ss) (initial-fair i (namesOf ss) h) (states-fair (namesOf ss) ss e l)
 
 -- the names of states that are laid out have letters, where the pack's have
 module _ (ns : List Name) (s t reg lets : List ℕ) (filled : (i : ℕ) → i < length ns → 0 < length (nameAt ns i)) where

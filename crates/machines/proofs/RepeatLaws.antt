@@ -18,8 +18,7 @@ use Rattle.pack.specs.declared.intern.Found as code
 use Rattle.pack.specs.declared.intern.Found.the-variants as codes
 use Rattle.machines.specs.Repeats.{againAt, againF, againIn, endAt, wordAt}
 use Rattle.machine_rules.specs.Checks.{repeated}
-use Rattle.pack.proofs.TableIndex.{table-enc}
-use Rattle.pack.proofs.Tables.{enc-append}
+use Rattle.pack.proofs.TableIndex.{enc-more, table-enc}
 use Rattle.machines.proofs.Refused.{eqName-turn}
 
 -- a name that is found is a member
@@ -101,13 +100,9 @@ again-cut l n e r p q = q ∙ ap againAt (⊎-elim (λ (h : length l < n). over 
     over h = let g : e ≡ length l = omega arith in ap (λ y. take y l) g ∙ take-length l ∙ sym (take-all n l (omega arith))
 
 -- one name more in a table
-pub enc-snoc : (pre : List Name) (m : Name) → enc (pre ++ (m ∷ [])) ≡ enc pre ++ (length m ∷ m)
-unfolding enc
-enc-snoc pre m = enc-append pre (m ∷ []) ∙ ap (λ (l : List ℕ). enc pre ++ (length m ∷ l)) (append-nil m)
-
 enc-move : (pre : List Name) (m : Name) (ms : List Name) → enc pre ++ enc (m ∷ ms) ≡ enc (pre ++ (m ∷ [])) ++ enc ms
 unfolding enc
-enc-move pre m ms = sym (ap (λ (l : List ℕ). l ++ enc ms) (enc-snoc pre m) ∙ append-assoc (enc pre) (length m ∷ m) (enc ms))
+enc-move pre m ms = sym (ap (λ (l : List ℕ). l ++ enc ms) (enc-more pre m) ∙ append-assoc (enc pre) (length m ∷ m) (enc ms))
 
 -- in a table of names, after those that were looked at
 end-here : (xs m ys : List ℕ) → endAt (xs ++ (length m ∷ (m ++ ys))) (length xs) ≡ length xs + 1 + length m
@@ -130,7 +125,7 @@ again-in pre (m ∷ ms) t e =
     let l : at < length t = omega (arith, ap length e, length-append (enc pre) (length m ∷ (m ++ enc ms))) in
     let w : wordAt t at ≡ m = ap (λ y. wordAt y at) e ∙ word-here (enc pre) m (enc ms) in
     let s : table (take at t) ≡ pre = ap table (ap (take at) e ∙ take-append-seam (enc pre) _) ∙ table-enc pre in
-    let n : at + 1 + length m ≡ length (enc more) = omega (arith, ap length (enc-snoc pre m), length-append (enc pre) (length m ∷ m)) in
+    let n : at + 1 + length m ≡ length (enc more) = omega (arith, ap length (enc-more pre m), length-append (enc pre) (length m ∷ m)) in
     let z : endAt t at ≡ at + 1 + length m = ap (λ y. endAt y at) e ∙ end-here (enc pre) m (enc ms) in
     again-step t at l
     ∙ (λ j. cond (member (w j) (s j)) at (againF (length t - (z ∙ n) j) t ((z ∙ n) j)))
@@ -168,7 +163,7 @@ again-said : (pre seen rest : List Name) (at : ℕ) → ((x : Name) → member x
 unfolding repeated againIn member
 again-said pre seen [] at same e = inl (refl, e ∙ ap (λ (l : List Name). length (enc l)) (sym (append-nil pre)))
 again-said pre seen (n ∷ ns) at same e = subst (λ b. Said (pre ++ (n ∷ ns)) (elim (member n seen) [ true ↦ some n | false ↦ repeated (n ∷ seen) ns ]) (cond b at (againIn (pre ++ (n ∷ [])) ns (at + 1 + length n)))) (sym (same n)) (go (member n seen) refl
-    (again-said (pre ++ (n ∷ [])) (n ∷ seen) ns (at + 1 + length n) (λ x. member-snoc x n pre ∙ ap (λ b. eqName x n || b) (same x)) (omega (arith, ap length (enc-snoc pre n), length-append (enc pre) (length n ∷ n)))))
+    (again-said (pre ++ (n ∷ [])) (n ∷ seen) ns (at + 1 + length n) (λ x. member-snoc x n pre ∙ ap (λ b. eqName x n || b) (same x)) (omega (arith, ap length (enc-more pre n), length-append (enc pre) (length n ∷ n)))))
   where
     go : (b : Bool) → member n seen ≡ b → Said ((pre ++ (n ∷ [])) ++ ns) (repeated (n ∷ seen) ns) (againIn (pre ++ (n ∷ [])) ns (at + 1 + length n))
         → Said (pre ++ (n ∷ ns)) (elim b [ true ↦ some n | false ↦ repeated (n ∷ seen) ns ]) (cond b at (againIn (pre ++ (n ∷ [])) ns (at + 1 + length n)))

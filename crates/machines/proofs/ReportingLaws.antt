@@ -20,17 +20,12 @@ use Rattle.machines.specs.Entries.{entryBytes}
 use Rattle.machines.specs.Judging.{boardAt, judgeAt, named, noName, refusedBy}
 use Rattle.machines.specs.Relaid.{Long}
 use Rattle.machines.specs.Reporting.{Enters, EntersAll, RoomAt, RoomForAll, bytesT, entryT, lettersT, ofRefused, refusalT, refusedEntryT}
-use Rattle.machines.proofs.EntryLaws.{called-fits, entry-length, own-most}
+use Rattle.machines.proofs.EntryLaws.{entry-most}
 use Rattle.machines.proofs.Overwriting.{over-more, over-none, over-then}
 
 -- an entry is not longer than two names of the letters and three of the pack may be
 pub entry-fits : (s spots lets : List ℕ) (m k : ℕ) (j : Judged) → length s ≤ 65536 → length lets ≤ 4294967296 → k ≡ length (entryBytes s spots lets m j) → k ≤ 34359738368
-entry-fits s spots lets m k j a b e =
-    let x = entry-length s spots lets m j _ refl in
-    let y = own-most s spots _ m refl in
-    let u = called-fits s spots lets (j .second) _ refl in
-    let v = called-fits s spots lets (j .third) _ refl in
-    omega arith
+entry-fits s spots lets m k j a b e = let x = entry-most s spots lets m j k e in omega arith
 
 module _ (ns : List Name) (s spots to mats regs : List ℕ) (i : ℕ) (t reg lets : List ℕ) where
   module _ (at g : ℕ) (a : at ≡ getD mats i 0) (b : g ≡ getD regs i 0) where

@@ -34,7 +34,7 @@ use Rattle.machines.proofs.Relaying.{enums-again, equations-again, item
 use Rattle.machines.proofs.ListsShown.{copied, counted-parts, each-at, goes-on}
 use Rattle.machines.proofs.NodesShown.{nodes-written}
 
-raw-only : (old xs : List ℕ) (z : State) → render old (raw xs ∷ []) z ≡ puts xs z
+pub raw-only : (old xs : List ℕ) (z : State) → render old (raw xs ∷ []) z ≡ puts xs z
 unfolding render putItem
 raw-only old xs z = refl
 

@@ -54,7 +54,7 @@ brought-none f t [] h = refl
 brought-none f t (s ∷ ss) h = ap (λ l. l ++ flatMap (brings f t) ss) (brings-none f t s (λ e. omega (arith, h .0))) ∙ brought-none f t ss (h .1)
 
 -- a node extended twice
-extend-extend : (a c : List Port) (b d : List Equation) (n : Node) → extend c d (extend a b n) ≡ extend (a ++ c) (b ++ d) n
+pub extend-extend : (a c : List Port) (b d : List Equation) (n : Node) → extend c d (extend a b n) ≡ extend (a ++ c) (b ++ d) n
 unfolding extend
 extend-extend a c b d n =
     λ i. record {

@@ -2,7 +2,7 @@
 use Prim.Native.Nat.{ℕ, zero, suc, _+_, _-_, _%_, _<_, _≤_}
 use native.Mathlib.Omega.{arith}
 use mathlib.Core.List.{List, [], _∷_, _++_}
-use mathlib.Core.Bool.{Bool, true, false, cond, _&&_}
+use mathlib.Core.Bool.{Bool, true, false, _&&_}
 use mathlib.Core.Path.{_≡_, refl, sym, ap, _∙_}
 use lib.ListN.{length, getD, set, length-append}
 use lib.Seq.{sets, getD-set-other}
@@ -10,6 +10,7 @@ use lib.Dec.{leb, ltb}
 use borrow.Author.Tests.{le-leb, lt-leb, le-ltb, lt-ltb, leb-true, ltb-false, ltb-true}
 use Rattle.machines.specs.Tables.{lenOf}
 use Rattle.machines.proofs.TableLaws.{past-end}
+use Rattle.machines.proofs.SureLaws.{chosen, left-out}
 use Rattle.machines.specs.Lays.{fitsAt, leadOf, spellLen, spelling, spelt, under, values}
 
 -- a run of stores: it leaves what is before it, and one more store at its end
@@ -122,12 +123,6 @@ length-spelling s spots i l a m =
     length-append (under l a m) (values s (suc (getD spots i 0)) (lenOf s spots i))
     ∙ ap (λ (j : ℕ). j + length (values s (suc (getD spots i 0)) (lenOf s spots i))) (length-under l a m)
     ∙ ap (λ (j : ℕ). leadOf m + j) (length-values s (suc (getD spots i 0)) (lenOf s spots i))
-
-pub chosen : {A : Type 0} (b : Bool) (x y : A) → b ≡ true → cond b x y ≡ x
-chosen b x y e = rw e
-
-pub left-out : {A : Type 0} (b : Bool) (x y : A) → b ≡ false → cond b x y ≡ y
-left-out b x y e = rw e
 
 module _ (s spots lets : List ℕ) (i a m at n : ℕ) (r : Bool) (told : r ≡ fitsAt (length lets) a m at (leadOf m + n)) (len : n ≡ lenOf s spots i) where
   same-fits : fitsAt (length lets) a m at (length (spelling s spots i lets a m)) ≡ r

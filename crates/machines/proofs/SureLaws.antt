@@ -3,7 +3,7 @@ use Prim.Native.Nat.{ℕ, zero, suc, _+_, _*_, _/_, _%_, _-_, _<_, _≤_}
 use native.Mathlib.Nat.{div-eq-of-lt, mod-eq-of-lt, mul-add-div-right, mul-add-mod-self-right}
 use native.Mathlib.Omega.{arith}
 use mathlib.Core.List.{List, [], _∷_}
-use mathlib.Core.Bool.{Bool, true, false, cond, _&&_}
+use mathlib.Core.Bool.{Bool, true, false, cond, _&&_, _||_, and-eq-true-iff, false≢true, true≢false}
 use mathlib.Core.Logic.{⊎-elim}
 use mathlib.Core.Path.{_≡_, refl, sym, ap, subst, _∙_}
 use lib.ListN.{getD, set}
@@ -26,7 +26,7 @@ use Rattle.machines.specs.declared.sure.Num.{Num}
 use Rattle.machines.specs.Known.{Known}
 use Rattle.machines.specs.Stands.{MachineAt, RegionAt, endOf}
 use Rattle.machines.proofs.Reading.{name-number}
-use Rattle.machines.specs.Sure.{byteIn, machineFrom, num, numberIn, regionIn, sureOf, turns, with}
+use Rattle.machines.specs.Sure.{byteIn, firstSome, machineFrom, num, numberIn, regionIn, sureOf, turns, with}
 
 pub sure-stops : (r : Read) → OneOf (1 ∷ 2 ∷ 3 ∷ []) (tagOf Read-enum.the-type r) → num 0 0 ≡ sureOf r
 unfolding sureOf
@@ -85,6 +85,22 @@ yes m n x y r e f = rw (eq-eqb m n e) f
 pub no : {A : Type 0} (m n : ℕ) (x y r : A) → (m ≡ n → ⊥) → r ≡ y → r ≡ cond (eqb m n) x y
 no m n x y r e f = rw (ne-eqb m n e) f
 
+-- a choice that is known
+pub chosen : {A : Type 0} (b : Bool) (x y : A) → b ≡ true → cond b x y ≡ x
+chosen b x y e = rw e
+
+pub left-out : {A : Type 0} (b : Bool) (x y : A) → b ≡ false → cond b x y ≡ y
+left-out b x y e = rw e
+
+-- the first number that is something
+pub some-first : (a b : ℕ) → (a ≡ 0 → ⊥) → a ≡ firstSome a b
+unfolding firstSome
+some-first a b e = no a 0 b a a e refl
+
+pub some-second : (a b : ℕ) → a ≡ 0 → b ≡ firstSome a b
+unfolding firstSome
+some-second a b e = yes a 0 b a b e refl
+
 -- what was read is what is found
 pub number-to : {A : Type 0} (s : List ℕ) (at v q : ℕ) (k : ℕ → ℕ → A) → u16 s at ≡ value v q → with (numberIn s at) k ≡ k v q
 unfolding with numberIn sureOf readOf
@@ -127,13 +143,10 @@ low-part m q v h = mul-add-mod-self-right q m v ∙ mod-eq-of-lt h
 pub high-part : (m q v : ℕ) → v < m → (q * m + v) / m ≡ q
 high-part m q v h = let z : v / m ≡ 0 = div-eq-of-lt h in mul-add-div-right (omega arith) q v ∙ omega arith
 
--- yes is not no, and where both are to hold each holds
-pub never : false ≡ true → ⊥
-never e = let z : _≡_ {A = ℕ} 0 1 = cc in omega arith
-
-pub both-true : (a b : Bool) → (a && b) ≡ true → (a ≡ true) × (b ≡ true)
-both-true true b e = (refl, e)
-both-true false b e = absurd (never e)
+-- where none of two holds, neither does
+pub or-none : (a b : Bool) → (a || b) ≡ false → (a ≡ false) × (b ≡ false)
+or-none true b e = absurd (true≢false e)
+or-none false b e = (refl, e)
 
 -- no count and no index is past 16 bits
 pub number-small : (s : List ℕ) (at : ℕ) (c : Num) → ((i : ℕ) → getD s i 0 < 256) → c ≡ numberIn s at → c .value < 65536
@@ -153,7 +166,7 @@ number-put s at c t u i by e h = h ∙ ap (set t i) (mod-eq-of-lt (number-small 
 -- what is known of the one before: nothing yet, of one that was looked at, of the same one again
 pub known-none : (P : ℕ → Type 0) (x : ℕ) → Known false P x
 unfolding Known
-known-none P x e = absurd (never e)
+known-none P x e = absurd (false≢true e)
 
 pub known-now : (P : ℕ → Type 0) (x : ℕ) → P x → Known true P x
 unfolding Known
@@ -161,4 +174,4 @@ known-now P x h e = h
 
 pub known-again : (P : ℕ → Type 0) (x last : ℕ) (known b : Bool) → b ≡ (known && eqb x last) → b ≡ true → Known known P last → P x
 unfolding Known
-known-again P x last known b e g h = let w = both-true known (eqb x last) (sym e ∙ g) in subst P (sym (eqb-true x last (w .1))) (h (w .0))
+known-again P x last known b e g h = let w = and-eq-true-iff known (eqb x last) .0 (sym e ∙ g) in subst P (sym (eqb-true x last (w .1))) (h (w .0))

@@ -3,7 +3,7 @@ use Prim.Native.Nat.{ℕ, zero, suc, _+_, _*_, _-_, _/_, _%_, _<_, _≤_}
 use native.Mathlib.Nat.{mod-eq-of-lt}
 use native.Mathlib.Omega.{arith}
 use mathlib.Core.List.{List, [], _∷_}
-use mathlib.Core.Bool.{Bool, false, true, cond, _&&_}
+use mathlib.Core.Bool.{Bool, false, true, cond, _&&_, false≢true}
 use mathlib.Core.Path.{_≡_, refl, sym, ap, subst, _∙_}
 use lib.ListN.{length, getD, set, length-set}
 use lib.Seq.{getD-set-other, getD-set-same}
@@ -17,7 +17,6 @@ use Rattle.machines.specs.Covers.{givesT, ownT, uncoveredT}
 use Rattle.machines.specs.Kept.{regionsIn, stateRow}
 use Rattle.machines.specs.Ends.{Blank}
 use Rattle.machines.specs.Told.{Given, GivenRight, RestOf, ToldRight, markCell, restPut, restRow, toldMark}
-use Rattle.machines.proofs.SureLaws.{never}
 use Rattle.machines.proofs.KeptLaws.{reached}
 use Rattle.machines.proofs.CoverLaws.{gives-next, own-is, tells-done, tells-found, tells-rest}
 
@@ -74,7 +73,7 @@ module _ (s : List ℕ) (names : ℕ) where
 
   pub rest-none : (at m q : ℕ) → m ≤ 0 → RestOf s names at m q
   unfolding RestOf
-  rest-none at m q l ns n x d = absurd (never (tells-done (givesT ns s x) m q true l d))
+  rest-none at m q l ns n x d = absurd (false≢true (tells-done (givesT ns s x) m q true l d))
 
   pub rest-gives : (at m q out : ℕ) (e : Told) → RestOf s names at m q → 0 < m → ((ns : List Name) → length ns ≡ names → e ≡ givesT ns s out q) → e .yes ≡ true
       → (ns : List Name) → length ns ≡ names → true ≡ ownT ns s out at

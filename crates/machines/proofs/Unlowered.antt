@@ -1,8 +1,7 @@
 -- A package without machines is what its lowering writes, and its pack is copied out as it is.
 use Prim.Native.Nat.{ℕ}
-use native.Mathlib.Omega.{arith}
-use mathlib.Core.List.{List, [], _∷_}
-use mathlib.Core.Path.{_≡_, refl, sym, ap, _∙_}
+use mathlib.Core.List.{List, []}
+use mathlib.Core.Path.{_≡_, sym, ap, _∙_}
 use lib.ListN.{length}
 use Rattle.wire.specs.Answer.{Answer, counted, value}
 use Rattle.wire.specs.Lists.{Bytes}
@@ -16,16 +15,12 @@ use Rattle.machines.specs.Sure.{numberIn}
 use Rattle.machines.specs.Filled.{Answers, OpenedAs}
 use Rattle.machine_rules.specs.Machines.{lowerEach, madeMachines, start, withoutMachines}
 use Rattle.machine_rules.specs.Call.{finished, lowerMachines, machinesOf}
-use Rattle.machines.proofs.ListsShown.{counted-parts}
+use Rattle.machines.proofs.ListsShown.{counted-parts, none-long}
 use Rattle.machines.proofs.ByVerdict.{copied-by, opened-by}
 
--- a list that counts 0 has nothing
+-- a list that was read, and counts 0, has nothing
 pub counts-none : {A : Type 0} (r : ℕ → Answer A) (s : List ℕ) (at : ℕ) (xs : List A) (q : ℕ) (m : Num) → counted r s at ≡ value xs q → m ≡ numberIn s at → m .value ≡ 0 → xs ≡ []
-counts-none r s at xs q m h e z = go xs (sym (ap (λ (n : Num). n .value) (e ∙ counted-parts r s at xs q h .0)) ∙ z)
-  where
-    go : {A : Type 0} (ys : List A) → length ys ≡ 0 → ys ≡ []
-    go [] g = refl
-    go (y ∷ ys) g = absurd (omega arith)
+counts-none r s at xs q m h e z = none-long xs (sym (ap (λ (n : Num). n .value) (e ∙ counted-parts r s at xs q h .0)) ∙ z)
 
 pub no-machines : (p : Package) → p .machines ≡ [] → (output report : ℕ) → machinesOf output report p ≡ written output p
 unfolding machinesOf finished madeMachines lowerEach start withoutMachines

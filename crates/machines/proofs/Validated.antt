@@ -23,7 +23,7 @@ use Rattle.machines.specs.declared.valid.Checked.the-variants as ck
 use Rattle.machine_rules.specs.Refusals.{unknownInitial, unknownTarget}
 use Rattle.machine_rules.specs.Resolve.{prefixTransitions}
 use Rattle.machines.specs.Sure.{numberIn, with}
-use Rattle.machines.specs.Laid.{LaidR, LaidS, RegionRow, holed, lEnd, lMore, prefixOf, rEnd, rLeft, rMore, sliceOf}
+use Rattle.machines.specs.Laid.{LaidR, LaidS, RegionRow, holed, lEnd, lMore, prefixOf, rEnd, rLeft, rMore}
 use Rattle.machines.specs.Emits.{lettersAt}
 use Rattle.machine_rules.specs.Lower.{namesOf}
 use Rattle.machine_rules.specs.Checks.{badInitial, badR, badS, badTarget}
@@ -32,7 +32,7 @@ use Rattle.machines.proofs.Reading.{many-cut, many-more, many-over, nam
 use Rattle.machines.proofs.SureLaws.{end-to, number-num, number-to}
 use Rattle.machines.proofs.NamesPlaced.{alone}
 use Rattle.machines.proofs.Refused.{eqName-turn}
-use Rattle.machines.proofs.EnumsEmitted.{state-letters}
+use Rattle.machines.proofs.EnumsEmitted.{region-letters, state-letters}
 
 -- names under one prefix
 eqName-under : (p a b : Name) → eqName (p ++ a) (p ++ b) ≡ eqName a b
@@ -159,10 +159,6 @@ module _ (ns : List Name) (s t reg lets : List ℕ) (fresh : Fresh [] ns) (m : N
   unfolding hasT
   region-has w y ss row lt st = ap (λ k. amongT s t y k (w + 9)) (row .states) ∙ among-link y ss lt st
 
-  region-called : {pre : Name} {x hi a k e id n st up : ℕ} (w : ℕ) → RegionRow t w x hi a k e id n st up → prefixOf (sliceOf lets a k) ≡ pre → prefixOf (lettersAt t lets w) ≡ pre
-  unfolding lettersAt
-  region-called w row f = (λ i. prefixOf (sliceOf lets (row .letter i) (row .letters i))) ∙ f
-
   open-link : (c : Checked) (w x : ℕ) (full : Name) (r e : Option Refusal) (d : Checked) (f h : Bool) (b : Bool) → getD t w 0 < length ns → hasT s t w (getD t w 0) ≡ b → full ≡ calledIn ns t lets w (getD t w 0)
       → (b ≡ true → TellsAll ns t lets m c r f) → (f ≡ false → TellsAll ns t lets m d e h)
       → TellsAll ns t lets m (orThen (cond (hasT s t w (getD t w 0)) c (ck.Initial w)) d) (firstOf (cond b none (some (unknownInitial m full))) (firstOf r e)) h
@@ -187,7 +183,7 @@ module _ (ns : List Name) (s t reg lets : List ℕ) (fresh : Fresh [] ns) (m : N
     pub regions-link : {up st l k p i q j : ℕ} {g h : Bool} (rs : Regions) → LaidR ns s t reg lets up st l k p i g rs q j h → g ≡ false → TellsAll ns t lets m (eachRow t (checkedRegion ns s t l) k p) (badR m rs) h
     regions-link rNil (rEnd a b c) e = inl (refl, refl, sym c ∙ e)
     regions-link (rCons full b ss rest) (rMore {pre} {l} {k} {p} {x} {n} {f = f2} {h = h2} row rg lt fl pr fu st more) e =
-        let ca = region-called p row pr in
+        let ca = ap prefixOf (region-letters t lets p row) ∙ pr in
         let hs : hasT s t p (getD t p 0) ≡ member full (namesOf ss) = ap (hasT s t p) (row .initial) ∙ region-has p x ss row lt st ∙ ap (λ y. member y (namesOf ss)) (sym fu) in
         open-link _ p 0 full _ _ _ _ _ (member full (namesOf ss)) (subst (λ y. y < length ns) (sym (row .initial)) lt) hs (fu ∙ (λ i. sym ca i ++ nameAt ns (sym (row .initial) i)))
         (λ z. subst (λ y. TellsAll ns t lets m (eachRow t (checkedState ns s t (checkedRegion ns s t l) p) y (p + 9)) (badS m (namesOf ss) ss) f2) (sym (row .states)) (states-link pre p (namesOf ss) ss ca (λ y h. region-has p y ss row h st) st (laid-some _ full ss st z ∙ e)))

@@ -2,8 +2,8 @@
 use Prim.Native.Nat.{ℕ, zero, suc, _+_, _-_, _<_, _≤_}
 use native.Mathlib.Omega.{arith}
 use mathlib.Core.List.{List, [], _∷_}
-use mathlib.Core.Bool.{Bool, true, false, cond, _&&_, _||_}
-use mathlib.Core.Option.{Option, none, some}
+use mathlib.Core.Bool.{Bool, true, false, cond, _&&_, _||_, and-eq-true-iff, false≢true}
+use mathlib.Core.Option.{Option, none, some, Option·none-ne-some, Option·some-injective}
 use mathlib.Core.Path.{_≡_, refl, sym, ap, _∙_}
 use lib.ListN.{length, getD}
 use lib.Dec.{eqb}
@@ -28,20 +28,14 @@ use Rattle.machines.specs.Covers.{uncoveredT}
 use Rattle.machines.specs.Emits.{lastOr, packName, testT}
 use Rattle.machines.specs.Values.{Peopled, WholeR, WholeS, enteredT, givingFrom, inStateT, sideBytes, sideFrom, sideT, valueT, valuesT}
 use Rattle.machines.proofs.Reading.{many-cut, many-end, many-more, many-over, name-number}
-use Rattle.machines.proofs.SureLaws.{both-true, end-to, never, number-num, number-to}
+use Rattle.machines.proofs.SureLaws.{end-to, number-num, number-to}
 use Rattle.machines.proofs.EnumsEmitted.{idR, idS}
 use Rattle.machines.proofs.ChainsEmitted.{Alike, alike-by, last-alike, test-alike}
 use Rattle.machines.proofs.Covered.{covers-held, endR, endS, lhs-link}
 
-same-some : (a b : Expr) → some a ≡ some b → a ≡ b
-same-some a b e = cc
-
-none-some : (e : Expr) → none ≡ some e → ⊥
-none-some e h = let z : _≡_ {A = ℕ} 0 1 = cc in omega arith
-
 -- what is given by neither of two is given by the third
 past-false : (a b c : Bool) → (a || (b || c)) ≡ true → b ≡ false → (a || c) ≡ true
-past-false a true c e h = absurd (never (sym h))
+past-false a true c e h = absurd (false≢true (sym h))
 past-false a false c e h = e
 
 module _ (ns : List Name) (s : List ℕ) (fresh : Fresh [] ns) (out : ℕ) (low : out < length ns) where
@@ -51,7 +45,7 @@ module _ (ns : List Name) (s : List ℕ) (fresh : Fresh [] ns) (out : ℕ) (low 
   -- an only left name is one number
   only-next : (n p : ℕ) (l : List Name) (q : ℕ) → many (nameIn ns s) n p ≡ value l q → isOnly o l ≡ true → numberIn s p .next ≡ q
   unfolding isOnly
-  only-next n p [] q m e = absurd (never e)
+  only-next n p [] q m e = absurd (false≢true e)
   only-next zero p (x ∷ []) q m e = absurd (many-cut (nameIn ns s) p x [] q m)
   only-next (suc zero) p (x ∷ []) q m e =
       let a = many-more (nameIn ns s) zero p x [] q m in
@@ -59,7 +53,7 @@ module _ (ns : List Name) (s : List ℕ) (fresh : Fresh [] ns) (out : ℕ) (low 
       ap (λ y. y .next) (number-num s p (i .i) (a .0) (i .is)) ∙ many-end (nameIn ns s) (a .0) q (a .2)
   only-next (suc (suc n)) p (x ∷ []) q m e =
       let a = many-more (nameIn ns s) (suc n) p x [] q m in absurd (many-over (nameIn ns s) n (a .0) q (a .2))
-  only-next n p (x ∷ y ∷ l) q m e = absurd (never e)
+  only-next n p (x ∷ y ∷ l) q m e = absurd (false≢true e)
 
   -- where the right side of an equation stands, if the output is its only left name
   side-step : (n at : ℕ) (x : Equation) (q : ℕ) → equationIn ns s at ≡ value x q → (p : ℕ) × (exprIn ns s p ≡ value (x .rhs) q) × (sideFrom ns s out (suc n) at ≡ cond (isOnly o (x .lhs)) p (sideFrom ns s out n q))
@@ -84,7 +78,7 @@ module _ (ns : List Name) (s : List ℕ) (fresh : Fresh [] ns) (out : ℕ) (low 
   -- the first equation that gives the output
   side-from : (n at : ℕ) (es : List Equation) (q : ℕ) (e : Expr) → many (equationIn ns s) n at ≡ value es q → ownValue o es ≡ some e → (b : ℕ) × (exprIn ns s (sideFrom ns s out n at) ≡ value e b)
   unfolding ownValue
-  side-from n at [] q e m h = absurd (none-some e h)
+  side-from n at [] q e m h = absurd (Option·none-ne-some e h)
   side-from zero at (x ∷ es) q e m h = absurd (many-cut (equationIn ns s) at x es q m)
   side-from (suc n) at (x ∷ es) q e m h =
       let a = many-more (equationIn ns s) n at x es q m in
@@ -94,7 +88,7 @@ module _ (ns : List Name) (s : List ℕ) (fresh : Fresh [] ns) (out : ℕ) (low 
     where
       go : (c : Bool) → isOnly o (x .lhs) ≡ c → (p u : ℕ) → exprIn ns s p ≡ value (x .rhs) u → (ownValue o es ≡ some e → (b : ℕ) × (exprIn ns s (sideFrom ns s out n u) ≡ value e b))
           → cond (isOnly o (x .lhs)) (some (x .rhs)) (ownValue o es) ≡ some e → (b : ℕ) × (exprIn ns s (cond (isOnly o (x .lhs)) p (sideFrom ns s out n u)) ≡ value e b)
-      go true f p u r k g = rw f (u, r ∙ ap (λ (y : Expr). value y u) (same-some (x .rhs) e (ap (λ (b : Bool). cond b (some (x .rhs)) (ownValue o es)) (sym f) ∙ g)))
+      go true f p u r k g = rw f (u, r ∙ ap (λ (y : Expr). value y u) (Option·some-injective (x .rhs) e (ap (λ (b : Bool). cond b (some (x .rhs)) (ownValue o es)) (sym f) ∙ g)))
       go false f p u r k g = rw f (k (ap (λ (b : Bool). cond b (some (x .rhs)) (ownValue o es)) (sym f) ∙ g))
 
   -- a state's own right side
@@ -131,7 +125,7 @@ module _ (ns : List Name) (s spots t reg lets old : List ℕ)
   value-own : (d : Expr) (i g : ℕ) (f : ℕ → ℕ) (own : Option Expr) (is : List Item) (v : ℕ → List Item) → (isSome own || coversR (nameAt ns out) rNil) ≡ true → ((e : Expr) → own ≡ some e → Alike old is (exprItems e))
       → Alike old (into is v (givingFrom t f 0 g)) (exprItems (valueR (nameAt ns out) d own i rNil))
   unfolding givingFrom valueR fromOption isSome coversR
-  value-own d i g f none is v h a = absurd (never h)
+  value-own d i g f none is v h a = absurd (false≢true h)
   value-own d i g f (some e) is v h a = a e refl
 
   -- the first of the regions that are left, or those after it
@@ -192,7 +186,7 @@ module _ (ns : List Name) (s spots t reg lets old : List ℕ)
         → Alike old (valuesT t lets (inStateT s t lets ns out (valueT s t lets ns out l) (uncoveredT ns s t out l)) q n p) (exprItems (valueS (nameAt ns out) d up i ss))
     linkS d q up i sNil (hEnd a b) r h k w c = absurd (omega arith)
     linkS d q up i (sCons nn es ts rs rest) (hMore row at to f sl ms rg st) r h k w c = λ z.
-        let b = both-true _ _ (sym (covers-states nn es ts rs rest) ∙ c) in
+        let b = and-eq-true-iff _ _ .0 (sym (covers-states nn es ts rs rest) ∙ c) in
         let y = whole-states nn es ts rs rest w in
         ap (λ (is : List Item). render old is z) (values-step _ q _ _ _ (row .after))
         ∙ last-alike ns s spots t reg lets old named copied rest st _ _ _ (isName (stateVar up) nn) (valueR (nameAt ns out) d (ownValue (nameAt ns out) es) i rs) (valueS (nameAt ns out) d up _ rest)

@@ -1,11 +1,9 @@
 -- The refusals of the definition are those among the verdicts, and where there are none the verdicts are the shares.
-use mathlib.Core.List.{List, [], _∷_, _++_}
+use mathlib.Core.List.{List, [], _∷_, _++_, cons-ne-nil}
 use mathlib.Core.Bool.{Bool, true, false, cond}
 use mathlib.Core.Option.{Option, none, some}
 use mathlib.Core.Path.{_≡_, refl, sym, ap, subst, _∙_}
 use Prim.Native.Nat.{ℕ}
-use native.Mathlib.Omega.{arith}
-use lib.ListN.{length}
 use Rattle.pack.specs.Names.{Name, member}
 use Rattle.pack.specs.Syntax.{Drawing, Package}
 use Rattle.machine_rules.specs.Resolved.{Machine}
@@ -48,14 +46,11 @@ verdicts-refuse all (d ∷ ds) ns =
     refused-first ns (d .owner) (judge all d) (refusals all ds ms) (verdicts all ds ms) (verdicts-refuse all ds ms)
 
 -- a machine that is not refused goes by its fate
-not-one : (r : Refusal) (rs : List Refusal) → r ∷ rs ≡ [] → ⊥
-not-one r rs e = omega (arith, ap length e)
-
 goes-first : (ns : List Name) (o : Option Name) (j : Judged) (vs : List Verdict) → refusedOnly (verdictIn ns o j ∷ vs) ≡ []
     → (m : Machine) × (j ≡ accept m) × (verdictIn ns o j ≡ goesAs (shareOf ns (fateOf o m))) × (namesThen ns o j ≡ namesWith ns (fateOf o m)) × (refusedOnly vs ≡ [])
 unfolding verdictIn refusedOnly namesThen namesWith fateOf
-goes-first ns none (refuse r) vs e = absurd (not-one r (refusedOnly vs) e)
-goes-first ns (some o) (refuse r) vs e = absurd (not-one r (refusedOnly vs) e)
+goes-first ns none (refuse r) vs e = absurd (cons-ne-nil r (refusedOnly vs) e)
+goes-first ns (some o) (refuse r) vs e = absurd (cons-ne-nil r (refusedOnly vs) e)
 goes-first ns none (accept m) vs e = (m, refl, refl, refl, e)
 goes-first ns (some o) (accept m) vs e = go (member o ns) e
   where
@@ -64,7 +59,7 @@ goes-first ns (some o) (accept m) vs e = go (member o ns) e
 
     go : (b : Bool) → refusedOnly (v b ∷ vs) ≡ [] → (n : Machine) × (accept m ≡ accept n) × (v b ≡ goesAs (shareOf ns (into o n))) × (ns ≡ ns) × (refusedOnly vs ≡ [])
     go true f = (m, refl, refl, refl, f)
-    go false f = absurd (not-one _ (refusedOnly vs) f)
+    go false f = absurd (cons-ne-nil _ (refusedOnly vs) f)
 
 -- THE LAW: where nothing is refused, all go, and as the shares of their fates
 pub verdicts-go : (all ds : List Drawing) (ns : List Name) → refusedOnly (verdicts all ds ns) ≡ [] → verdicts all ds ns ≡ allGo (shares ns (fates all ds))

@@ -10,7 +10,7 @@ use Rattle.pack.specs.Names.{Name}
 use Rattle.pack.specs.Read.{equationIn}
 use Rattle.machines.specs.declared.cover.Told.{Told}
 use Rattle.machines.specs.Stands.{endOf}
-use Rattle.machines.specs.Sure.{numberIn, with}
+use Rattle.machines.specs.Sure.{firstSome, numberIn, with}
 use Rattle.machines.specs.Emits.{lettersAt}
 
 abbrev pub told : Bool → ℕ → Told
@@ -23,10 +23,6 @@ asked x k = k (x .yes) (x .next)
 unfoldable pub tells : (ℕ → Told) → (Bool → Bool → Bool) → ℕ → ℕ → Bool → Told
 tells r f zero at a = told a at
 tells r f (suc n) at a = asked (r at) λ v p. tells r f n p (f a v)
-
--- the first number, or the second where that is 0
-unfoldable pub orNext : ℕ → ℕ → ℕ
-orNext a b = cond (eqb a 0) b a
 
 module _ (ns : List Name) (s : List ℕ) where
   -- whether `out` is an equation's only left name
@@ -41,13 +37,13 @@ module _ (t : List ℕ) where
   -- the answer of n states from the word p on: the first that is not 0
   unfoldable pub firstMiss : (ℕ → ℕ) → ℕ → ℕ → ℕ
   firstMiss f zero p = 0
-  firstMiss f (suc n) p = orNext (f p) (firstMiss f n (getD t (p + 4) 0))
+  firstMiss f (suc n) p = firstSome (f p) (firstMiss f n (getD t (p + 4) 0))
 
   -- the answer of a state by n regions from the word g on, after others with the answer `miss`: 0 where one of them is 0,
   -- else the first
   unfoldable pub allMiss : (ℕ → ℕ) → ℕ → ℕ → ℕ → ℕ
   allMiss f zero g miss = miss
-  allMiss f (suc n) g miss = cond (eqb (f g) 0) 0 (allMiss f n (getD t (g + 4) 0) (orNext miss (f g)))
+  allMiss f (suc n) g miss = cond (eqb (f g) 0) 0 (allMiss f n (getD t (g + 4) 0) (firstSome miss (f g)))
 
 -- names, the pack's bytes, words, an output by its name's index: the answer is 0, or the word of a state that does not give it
 module _ (ns : List Name) (s t : List ℕ) (out : ℕ) where

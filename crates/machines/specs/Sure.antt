@@ -1,6 +1,8 @@
 -- Reading on a checked pack: a number and the offset after it, 0 and 0 where reading would stop.
 use Prim.Native.Nat.{ℕ, zero, suc}
 use mathlib.Core.List.{List}
+use mathlib.Core.Bool.{cond}
+use lib.Dec.{eqb}
 use Rattle.wire.specs.declared.answer.Read.{Read}
 use Rattle.wire.specs.declared.answer.Read.the-variants as rd
 use Rattle.wire.specs.Answer.{byte, u16}
@@ -18,6 +20,10 @@ sureOf (rd.Deep o) = num 0 0
 
 unfoldable pub with : {A : Type 0} → Num → (ℕ → ℕ → A) → A
 with x k = k (x .value) (x .next)
+
+-- the first number, or the second where that is 0
+unfoldable pub firstSome : ℕ → ℕ → ℕ
+firstSome a b = cond (eqb a 0) b a
 
 -- a count, or a name's index
 unfoldable pub numberIn : List ℕ → ℕ → Num

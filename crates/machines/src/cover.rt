@@ -5,6 +5,7 @@ use crate::kept::kept_regions;
 use crate::rows::first;
 use crate::rows::inner;
 use crate::rows::word;
+use crate::sure::first_some;
 use crate::sure::number;
 use crate::table::entry;
 use pack::cells::cell;
@@ -17,7 +18,7 @@ ghost use lib.ListN.{length};
 ghost use Rattle.pack.specs.Names.{Name};
 ghost use Rattle.machines.specs.Ends.{EndsRight};
 ghost use Rattle.machines.specs.Kept.{regionsIn};
-ghost use Rattle.machines.specs.Covers.{givesT, orNext, ownT, missT, uncoveredT};
+ghost use Rattle.machines.specs.Covers.{givesT, ownT, missT, uncoveredT};
 ghost use Rattle.machines.specs.Told.{RestOf, ToldRight, restPut, toldMark};
 
 // The table of what drawn states give (specs/Told): rows for what is left of states, then the marks of states, one for ten bytes of
@@ -182,13 +183,6 @@ fn own_told(s: &[u8], names: usize, ends: &[u16], told: &mut [u16], out: usize, 
     own_kept(s, names, ends, told, out, at)
 }
 
-// The first number, or the second where that is 0.
-fn or_next(a: usize, b: usize) -> usize
-    ensures { λ r. ⌜ r ≡ orNext a b ⌝ }
-{
-    if a == 0 { b } else { a }
-}
-
 // 0 where the state at the word p gives `out`, by an equation or by a region; else the word of a state that does not:
 // its first region's, or its own where it has none.
 fn uncovered_state(
@@ -219,7 +213,7 @@ fn uncovered_state(
         if m == 0 {
             return 0;
         }
-        miss = or_next(miss, m);
+        miss = first_some(miss, m);
         g = word(t, g, 4);
         n = n - 1;
     }

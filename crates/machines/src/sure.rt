@@ -19,7 +19,7 @@ ghost use Rattle.wire.specs.Answer.{counted};
 ghost use Rattle.pack.specs.Names.{Name};
 ghost use Rattle.pack.specs.Read.{equationIn, equationsIn, exprIn, portIn, transitionIn};
 ghost use Rattle.machines.specs.Stands.{endOf, overIn};
-ghost use Rattle.machines.specs.Sure.{sureOf, numberIn, regionIn, machineFrom};
+ghost use Rattle.machines.specs.Sure.{sureOf, firstSome, numberIn, regionIn, machineFrom};
 
 // A number, and the offset after it.
 pub struct Num {
@@ -34,6 +34,13 @@ pub fn sure(r: Read) -> Num
         Read::Is { value, next } => Num { value, next },
         _ => Num { value: 0, next: 0 },
     }
+}
+
+// The first number, or the second where that is 0.
+pub fn first_some(a: usize, b: usize) -> usize
+    ensures { λ r. ⌜ r ≡ firstSome a b ⌝ }
+{
+    if a == 0 { b } else { a }
 }
 
 // A count, or a name's index.

@@ -1,10 +1,10 @@
 -- Demand 3 for activations: every output is what the scope of the cycle gives for it.
 use Prim.Native.Nat.{ℕ, suc, _<_}
 use native.Mathlib.Omega.{arith}
-use mathlib.Core.List.{List, [], _∷_, _++_}
+use mathlib.Core.List.{List, [], _∷_, _++_, cons-ne-nil}
 use mathlib.Core.Bool.{Bool, true, false, cond, _&&_}
 use mathlib.Core.Option.{none, some}
-use mathlib.Core.Path.{_≡_, refl, sym, subst, _∙_}
+use mathlib.Core.Path.{_≡_, refl, _∙_}
 use lib.ListN.{length}
 use Rattle.pack.specs.Names.{Name}
 use Rattle.pack.specs.Syntax.{Activation, Branch, Equation, Expr, Port}
@@ -91,14 +91,7 @@ module _ {O : Type 0} (R : Run O) (N : ℕ) (a : Name) (n : ℕ) (vars : List Na
 pub has-conditions : (a : Name) (bs : List Branch) → nonempty bs ≡ true → conditionsOf a bs ≡ [] → ⊥
 unfolding nonempty conditionsOf
 has-conditions a [] h e = ≡→T false h
-has-conditions a (b ∷ bs) h e = cons-nil (unlast a (b .condition)) (conditionsOf a bs) e
-  where
-    isNil : List Expr → Type 0
-    isNil [] = Unit {0}
-    isNil (x ∷ xs) = ⊥
-
-    cons-nil : (c : Expr) (cs : List Expr) → c ∷ cs ≡ [] → ⊥
-    cons-nil c cs p = subst isNil (sym p) tt
+has-conditions a (b ∷ bs) h e = cons-ne-nil (unlast a (b .condition)) (conditionsOf a bs) e
 
 -- an equation on the cycles of its variable, which are those of a clock
 pub on-clock : {O : Type 0} (R : Run O) (N : ℕ) (x : Name) (e : Expr) (d : Clock) → sameClock N (clockOf R x) d → agrees R N (x ∷ []) e → (t : ℕ) → t < N → d t ≡ true → R .at x t ≡ eval R e d t

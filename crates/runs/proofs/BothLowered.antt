@@ -2,7 +2,7 @@
 use Prim.Native.Nat.{ℕ, zero, suc, _-_, _≤_, _<_}
 use native.Mathlib.Omega.{arith}
 use mathlib.Core.List.{List, [], _∷_, _++_, append-assoc}
-use mathlib.Core.Option.{Option, none, some}
+use mathlib.Core.Option.{Option, none, some, Option·none-ne-some}
 use mathlib.Core.Path.{_≡_, refl, sym, ap, subst, _∙_}
 use lib.ListN.{drop, length, length-append, length-drop, take}
 use lib.Seq.{drop-append-le, take-append-le}
@@ -25,18 +25,17 @@ use Rattle.runs.proofs.ActsStand.{acts-grow}
 use Rattle.runs.proofs.Demand.{activations-lowered}
 use Rattle.runs.proofs.Growing.{Extended, grown, node-grown}
 use Rattle.runs.proofs.MachinesStand.{block-stands}
-use Rattle.runs.proofs.NotRefused.{some-none}
 use Rattle.runs.proofs.ReadsBack.{whole-same}
 
 entry-more : {A : Type 0} (n : ℕ) (l r : List A) (x : A) → entry n l ≡ some x → entry n (l ++ r) ≡ some x
 unfolding entry
-entry-more n [] r x e = absurd (some-none x (sym e))
+entry-more n [] r x e = absurd (Option·none-ne-some x e)
 entry-more zero (y ∷ l) r x e = e
 entry-more (suc n) (y ∷ l) r x e = entry-more n l r x e
 
 entry-kept : (n : ℕ) (k l : List Node) (x : Node) → grown k l → entry n k ≡ some x → (y : Node) × (entry n l ≡ some y) × Extended x y
 unfolding entry
-entry-kept n [] l x g e = absurd (some-none x (sym e))
+entry-kept n [] l x g e = absurd (Option·none-ne-some x e)
 entry-kept n (z ∷ k) [] x g e = absurd g
 entry-kept zero (z ∷ k) (y ∷ l) x g e = let s : z ≡ x = cc in (y, refl, subst (λ (w : Node). Extended w y) s (g .0))
 entry-kept (suc n) (z ∷ k) (y ∷ l) x g e = entry-kept n k l x (g .1) e

@@ -7,19 +7,17 @@ use mathlib.Core.Option.{Option, none, some}
 use mathlib.Core.Path.{refl}
 use Rattle.wire.specs.Decimal.{decimal, digits}
 use Rattle.pack.specs.Names.{Name, member}
-use Rattle.pack.specs.Syntax.{Activation, Equation, Expr, Node, Package, Port, eArrow, eCall, eConst, ePre, eVar, kOperator, lBool, tBool, xCons, xNil}
+use Rattle.pack.specs.Syntax.{Activation, Equation, Node, Package, Port, eArrow, eCall, eConst, ePre, eVar, kOperator, lBool, tBool, xCons, xNil}
 use Rattle.activation_rules.specs.LastCalls.{lastName}
 use Rattle.activation_rules.specs.MadeNames.{actPrefix, branch, clockVar, flagVar, lastInfix, lastVar, madeName, noneVar, other, sampleVar, tag, valueVar}
 use Rattle.runs.specs.Claim.{mayRead}
 use Rattle.runs.specs.Run.{Run, ifValue}
 use Rattle.runs.specs.Scopes.{OutputsGiven}
 use Rattle.runs.proofs.Computing.{actBlock, actPremises, activationsNumber, holding, ownerOf, reading, satisfying, small}
+use Rattle.runs.proofs.Owned.{F, o, sets}
 use Rattle.runs.proofs.PremisesTested.{fed}
 use Rattle.runs.proofs.RunTables.{cellAt, look, sometimes, tableRun, truths}
 use Rattle.runs.proofs.Using.{ActInstance, act-instance}
-
-abbrev F : Name
-F = 70 ∷ []
 
 abbrev a : Name
 a = 65 ∷ []
@@ -33,14 +31,8 @@ q = 113 ∷ []
 abbrev v : Name
 v = 118 ∷ []
 
-abbrev o : Name
-o = 111 ∷ []
-
 abbrev port : Name → Port
 port n = record { name = n; ty = tBool }
-
-abbrev gives : Expr → List Equation
-gives e = record { lhs = o ∷ []; rhs = e } ∷ []
 
 -- o is `last v` where p, v where q, else true
 unfoldable pub act : Activation
@@ -50,8 +42,8 @@ act =
       name = a;
       owner = F;
       outputs = port o ∷ [];
-      branches = record { name = p; condition = eVar p; equations = gives (eCall lastName (xCons (eVar v) xNil)) } ∷ record { name = q; condition = eVar q; equations = gives (eVar v) } ∷ [];
-      otherwise = gives (eConst (lBool true));
+      branches = record { name = p; condition = eVar p; equations = sets (eCall lastName (xCons (eVar v) xNil)) } ∷ record { name = q; condition = eVar q; equations = sets (eVar v) } ∷ [];
+      otherwise = sets (eConst (lBool true));
     }
 
 unfoldable pub owner : Node

@@ -20,7 +20,7 @@ use Rattle.runs.specs.Premises.{conditionsAre, present, startsWith}
 use Rattle.runs.specs.Run.{Clock, Run, Value, agrees, binary, binaryValue, bools, clockOf, eval, every, fits, ifValue, isBool, isPresent, notValue, sameClock, satisfies, sub, unary, vBool}
 use Rattle.runs.specs.Scopes.{Conditions, choice, eqScope}
 use Rattle.runs.proofs.Booleans.{&&-true, true-false}
-use Rattle.runs.proofs.ClocksAlike.{on-base}
+use Rattle.runs.proofs.ClocksAlike.{eval-var, on-base}
 use Rattle.runs.proofs.Prefixes.{starts-append}
 
 -- a later branch is another scope
@@ -102,10 +102,6 @@ module _ {O : Type 0} (R : Run O) (N : ℕ) (a : Name) (free : (x : Name) → st
   unfolding under eval sub isBool
   under-eval zero e w c t ev h = ev c
   under-eval (suc k) e w c t ev h = rw (h k (omega arith)) (under-eval k e w (clockOf R (clockVar a k)) t ev (λ j l. h j (omega arith)))
-
-  var-eval : (x : Name) (t : ℕ) → R .enums x ≡ false → (d : Clock) → eval R (eVar x) d t ≡ R .at x t
-  unfolding eval
-  var-eval x t e d = rw e
 
   -- the condition that no branch before holds
   abbrev pub PriorIs : Option Expr → (ℕ → Bool) → Type 0
@@ -220,7 +216,7 @@ module _ {O : Type 0} (R : Run O) (N : ℕ) (a : Name) (free : (x : Name) → st
         → (t : ℕ) → t < N → Q t ≡ true → R .at (clockVar a (suc k)) t ≡ R .at (flagVar a (suc k)) t
     unfolding guardEquations eqn
     guard-is k d ds Q gd s fails t lt q =
-        gd .0 .1 t lt ∙ (rw (s t lt, q) (under-eval (suc k) (eVar (flagVar a (suc k))) (R .at (flagVar a (suc k)) t) (clockOf R (clockVar a (suc k))) t (var-eval (flagVar a (suc k)) t (flag-free (suc k))) (λ j l. fails j l t lt q)))
+        gd .0 .1 t lt ∙ (rw (s t lt, q) (under-eval (suc k) (eVar (flagVar a (suc k))) (R .at (flagVar a (suc k)) t) (clockOf R (clockVar a (suc k))) t (λ d. eval-var R (flagVar a (suc k)) d t (flag-free (suc k))) (λ j l. fails j l t lt q)))
 
     fails-next : (k : ℕ) (c : Expr) (Q : ℕ → Bool)
         → ((j : ℕ) → j < k → (t : ℕ) → t < N → Q t ≡ true → R .at (clockVar a j) t ≡ some (vBool false))

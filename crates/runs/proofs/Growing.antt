@@ -1,9 +1,9 @@
 -- Lowering only adds: equations at the end of a node, nodes, origins and refusals at the end of theirs.
 use Prim.Native.Nat.{_+_, _-_}
 use native.Mathlib.Omega.{arith}
-use mathlib.Core.List.{List, [], _∷_, _++_, append-assoc, append-nil}
+use mathlib.Core.List.{List, [], _∷_, _++_, append-assoc, append-eq-nil-iff, append-nil}
 use mathlib.Core.Bool.{Bool, true, false, cond}
-use mathlib.Core.Option.{some}
+use mathlib.Core.Option.{some, Option·none-ne-some}
 use mathlib.Core.Path.{_≡_, refl, sym, ap, subst, _∙_}
 use lib.ListN.{length}
 use lib.Seq.{drop-at, take-at}
@@ -12,8 +12,8 @@ use Rattle.pack.specs.Report.{Refusal}
 use Rattle.pack.specs.Syntax.{Equation, Node, Origin, Port}
 use Rattle.pack.proofs.Tables.{eqName-true}
 use Rattle.machine_rules.specs.Machines.{Made, extend, extendIn, nodeNamed, refusing}
+use Rattle.machines.proofs.Fates.{not-snoc}
 use Rattle.runs.specs.Standing.{entry, slice}
-use Rattle.runs.proofs.NotRefused.{some-none}
 
 pub entry-end : {A : Type 0} (l : List A) (x : A) (r : List A) → entry (length l) (l ++ (x ∷ r)) ≡ some x
 unfolding entry
@@ -76,7 +76,7 @@ grown-extend n ls es (x ∷ l) = go (eqName (x .name) n) (grown-extend n ls es l
 -- the first node of a name
 pub node-name : (o : Name) (l : List Node) (x : Node) → nodeNamed o l ≡ some x → x .name ≡ o
 unfolding nodeNamed
-node-name o [] x e = absurd (some-none x (sym e))
+node-name o [] x e = absurd (Option·none-ne-some x e)
 node-name o (y ∷ l) x e = go (eqName (y .name) o) refl e (λ (q : nodeNamed o l ≡ some x). node-name o l x q)
   where
     go : (b : Bool) → eqName (y .name) o ≡ b → cond b (some y) (nodeNamed o l) ≡ some x → (nodeNamed o l ≡ some x → x .name ≡ o) → x .name ≡ o
@@ -90,7 +90,7 @@ pub record Found (o : Name) (x : Node) (l : List Node) : Type 0 where
 
 pub node-grown : (o : Name) (k l : List Node) (x : Node) → grown k l → nodeNamed o k ≡ some x → Found o x l
 unfolding nodeNamed
-node-grown o [] l x g e = absurd (some-none x (sym e))
+node-grown o [] l x g e = absurd (Option·none-ne-some x e)
 node-grown o (y ∷ k) [] x g e = absurd g
 node-grown o (y ∷ k) (z ∷ l) x g e = go (eqName (y .name) o) refl e (λ (q : nodeNamed o k ≡ some x). node-grown o k l x (g .1) q)
   where
@@ -103,7 +103,7 @@ node-grown o (y ∷ k) (z ∷ l) x g e = go (eqName (y .name) o) refl e (λ (q :
 
 pub node-extended : (o : Name) (ls : List Port) (es : List Equation) (l : List Node) (x : Node) → nodeNamed o l ≡ some x → nodeNamed o (extendIn o ls es l) ≡ some (extend ls es x)
 unfolding nodeNamed extendIn
-node-extended o ls es [] x e = absurd (some-none x (sym e))
+node-extended o ls es [] x e = absurd (Option·none-ne-some x e)
 node-extended o ls es (y ∷ l) x e = go (eqName (y .name) o) refl e (λ (q : nodeNamed o l ≡ some x). node-extended o ls es l x q)
   where
     kept : (b : Bool) → eqName (y .name) o ≡ b → eqName ((extend ls es y) .name) o ≡ b
@@ -145,22 +145,10 @@ pub grows-refusing : (r : Refusal) (k : Made) → Grows k (refusing r k)
 unfolding refusing
 grows-refusing r k = record { nodes = grown-same (k .nodes); origins = ([], sym (append-nil (k .origins))); refusals = (r ∷ [], refl) }
 
-abbrev IsNil : {A : Type 0} → List A → Type 0
-IsNil [] = Unit {0}
-IsNil (x ∷ xs) = ⊥
-
-pub end-nil : {A : Type 0} (k : List A) (x : A) → k ++ (x ∷ []) ≡ [] → ⊥
-end-nil [] x e = subst IsNil (sym e) tt
-end-nil (y ∷ k) x e = subst IsNil (sym e) tt
-
-start-nil : {A : Type 0} (k l : List A) → k ++ l ≡ [] → k ≡ []
-start-nil [] l e = refl
-start-nil (x ∷ k) l e = absurd (subst IsNil (sym e) tt)
-
 -- where nothing is refused in the end, nothing was on the way
 pub unrefused : (k l : Made) → Grows k l → l .refusals ≡ [] → k .refusals ≡ []
-unrefused k l g e = start-nil (k .refusals) (g .refusals .0) (sym (g .refusals .1) ∙ e)
+unrefused k l g e = append-eq-nil-iff {p = k .refusals} {q = g .refusals .0} .0 (sym (g .refusals .1) ∙ e) .0
 
 pub refusing-not : (r : Refusal) (k : Made) → (refusing r k) .refusals ≡ [] → ⊥
 unfolding refusing
-refusing-not r k e = end-nil (k .refusals) r e
+refusing-not r k e = not-snoc (k .refusals) r e

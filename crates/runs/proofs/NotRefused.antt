@@ -1,8 +1,8 @@
 -- A definition that is not refused passes the tests of `Accepting`.
 use mathlib.Core.List.{List, [], _∷_}
 use mathlib.Core.Bool.{Bool, true, false, cond, not, _&&_, _||_}
-use mathlib.Core.Option.{Option, none, some}
-use mathlib.Core.Path.{_≡_, refl, sym, subst, _∙_}
+use mathlib.Core.Option.{Option, none, some, Option·some-ne-none}
+use mathlib.Core.Path.{_≡_, refl, sym, _∙_}
 use Rattle.pack.specs.Names.{Name, eqName, member}
 use Rattle.pack.specs.Report.{Refusal, asRefusal, firstOf}
 use Rattle.pack.specs.Syntax.{Activation, Branch, Equation, Port, Transition}
@@ -17,13 +17,6 @@ use Rattle.runs.proofs.Accepting.{accepted, actAccepted, allAssign, all
 use Rattle.runs.proofs.Booleans.{and-both, true-false}
 use Rattle.machines.proofs.Accepted.{first-none, refusal-none}
 
-abbrev IsNone : {A : Type 0} → Option A → Type 0
-IsNone none = Unit {0}
-IsNone (some a) = ⊥
-
-pub some-none : {A : Type 0} (a : A) → some a ≡ none → ⊥
-some-none a e = subst IsNone (sym e) tt
-
 -- no name stands twice
 not-again : (seen ns : List Name) → repeated seen ns ≡ none → (x : Name) → member x seen ≡ true → member x ns ≡ false
 unfolding repeated member
@@ -36,7 +29,7 @@ not-again seen (n ∷ ns) e x m = go (member n seen) refl e (λ (q : repeated (n
 
     go : (b : Bool) → member n seen ≡ b → _≡_ {A = Option Name} (elim b [ true ↦ some n | false ↦ repeated (n ∷ seen) ns ]) none
         → (repeated (n ∷ seen) ns ≡ none → member x ns ≡ false) → eqName x n || member x ns ≡ false
-    go true p q r = absurd (some-none n q)
+    go true p q r = absurd (Option·some-ne-none n q)
     go false p q r = here (eqName x n) refl
       where
         here : (b : Bool) → eqName x n ≡ b → eqName x n || member x ns ≡ false
@@ -48,7 +41,7 @@ unfolding repeated
 repeated-rest seen n ns e = go (member n seen) e
   where
     go : (b : Bool) → _≡_ {A = Option Name} (elim b [ true ↦ some n | false ↦ repeated (n ∷ seen) ns ]) none → repeated (n ∷ seen) ns ≡ none
-    go true q = absurd (some-none n q)
+    go true q = absurd (Option·some-ne-none n q)
     go false q = q
 
 all-distinct : (seen ns : List Name) → repeated seen ns ≡ none → distinct ns ≡ true
@@ -66,7 +59,7 @@ initial-known m i ns e = go (member i ns) refl e
   where
     go : (b : Bool) → member i ns ≡ b → cond b none (some (unknownInitial m i)) ≡ none → member i ns ≡ true
     go true p q = p
-    go false p q = absurd (some-none (unknownInitial m i) q)
+    go false p q = absurd (Option·some-ne-none (unknownInitial m i) q)
 
 targets-known : (m s : Name) (ns : List Name) (ts : List Transition) → badTarget m s ns ts ≡ none → allTargets ns ts ≡ true
 unfolding badTarget allTargets
@@ -76,7 +69,7 @@ targets-known m s ns (t ∷ ts) e = go (member (t .target) ns) refl e (λ (q : b
     go : (b : Bool) → member (t .target) ns ≡ b → _≡_ {A = Option Refusal} (elim b [ true ↦ badTarget m s ns ts | false ↦ some (unknownTarget m s (t .target)) ]) none
         → (badTarget m s ns ts ≡ none → allTargets ns ts ≡ true) → member (t .target) ns && allTargets ns ts ≡ true
     go true p q r = rw p (r q)
-    go false p q r = absurd (some-none (unknownTarget m s (t .target)) q)
+    go false p q r = absurd (Option·some-ne-none (unknownTarget m s (t .target)) q)
 
 mutual
   unfolding badS validS
@@ -109,7 +102,7 @@ unfolding unlessOther
 either none b c q r = rw (r refl)
 either (some x) true true q r = refl
 either (some x) true false q r = refl
-either (some x) false c q r = absurd (some-none x q)
+either (some x) false c q r = absurd (Option·some-ne-none x q)
 
 mutual
   unfolding uncoveredS coversS
@@ -122,7 +115,7 @@ mutual
       (own (isSome (ownValue o es)) (uncoveredR o s rs) (coversR o rs) (p .0) (λ q. covered-regions o s rs q)) (covered-states o rest (p .1))
 
   covered-regions : (o s : Name) (rs : Regions) → uncoveredR o s rs ≡ none → coversR o rs ≡ true
-  covered-regions o s rNil e = absurd (some-none s e)
+  covered-regions o s rNil e = absurd (Option·some-ne-none s e)
   covered-regions o s (rCons i h ss rest) e = either (uncoveredS o ss) (coversR o rest) (coversS o ss) e (λ q. covered-states o ss q)
 
 all-covered : (m : Name) (ss : States) (ps : List Port) → uncovered m ss ps ≡ none → coversAll ss ps ≡ true
@@ -164,7 +157,7 @@ is-assigned a o b es e = sym (own-assigns o es) ∙ go (isSome (ownValue o es)) 
   where
     go : (c : Bool) → cond c none (some (outputUnassigned a o b)) ≡ none → c ≡ true
     go true q = refl
-    go false q = absurd (some-none (outputUnassigned a o b) q)
+    go false q = absurd (Option·some-ne-none (outputUnassigned a o b) q)
 
 in-branches : (a o : Name) (bs : List Branch) → inBranches a o bs ≡ none → allAssign o bs ≡ true
 unfolding inBranches allAssign
@@ -185,7 +178,7 @@ in-scopes A (p ∷ ps) e =
 
 has-branch : (a : Name) (bs : List Branch) → branchless a bs ≡ none → nonempty bs ≡ true
 unfolding branchless nonempty
-has-branch a [] e = absurd (some-none (noBranches a) e)
+has-branch a [] e = absurd (Option·some-ne-none (noBranches a) e)
 has-branch a (b ∷ bs) e = refl
 
 pub not-refused-act : (A : Activation) → checks A ≡ none → actAccepted A ≡ true

@@ -29,7 +29,7 @@ u = 117 ∷ []
 abbrev pub o : Name
 o = 111 ∷ []
 
-abbrev sets : Expr → List Equation
+abbrev pub sets : Expr → List Equation
 sets e = record { lhs = o ∷ []; rhs = e } ∷ []
 
 abbrev to : Expr → Name → List Transition

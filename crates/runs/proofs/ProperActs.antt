@@ -19,11 +19,12 @@ use Rattle.activation_rules.specs.Lower.{Lowered, lowered, make, makes, refuse,
 use Rattle.activation_rules.specs.Refusals.{emptyLeft, unknownOwner}
 use Rattle.activation_rules.specs.Sought.{bodies, conditions, expressions, found, rightSides}
 use Rattle.activation_rules.specs.Types.{readable, sampleType, valueType, variables}
+use Rattle.machines.proofs.RefusalNames.{Maybe}
 use Rattle.runs.proofs.Proper.{ProperE, ProperEnum, ProperNode, ProperPort, ProperQ}
 use Rattle.runs.proofs.ProperDrawn.{ProperActivation, ProperBranch}
 use Rattle.runs.proofs.ProperHolders.{ProperHolding, hold-proper, sample-type, value-type}
 use Rattle.runs.proofs.ProperLasts.{found-proper}
-use Rattle.runs.proofs.ProperMade.{Maybe, ProperMade, grown-proper, node-of-proper, refusing-proper}
+use Rattle.runs.proofs.ProperMade.{ProperMade, grown-proper, node-of-proper, refusing-proper}
 use Rattle.runs.proofs.ProperScopes.{act-equations, act-locals}
 
 -- all right sides

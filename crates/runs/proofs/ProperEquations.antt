@@ -12,9 +12,10 @@ use Rattle.machine_rules.specs.Resolved.{Machine, Regions, States, rCons, rNil,
 use Rattle.pack.proofs.Tables.{all-append}
 use Rattle.machine_rules.specs.Lower.{activeIn, coversS, defaultOf, enumsOf, enumsR, enumsS, equationsOf, equationsR, equationsS, fromOption, held, isName, isOnly, justEntered, localsOf, localsR, localsS, namesOf, nextChain, orElse, outputEquations, ownValue, regionEquations, regionLocals, sizeR, sizeS, stateRhs, topEquations, transitionsOf, valueR, valueS}
 use Rattle.machine_rules.specs.MadeNames.{activeVar, enumName, nextVar, stateVar}
+use Rattle.machines.proofs.RefusalNames.{Maybe}
 use Rattle.runs.proofs.Letters.{active-allowed, enum-allowed, next-allowed, state-allowed}
 use Rattle.runs.proofs.Proper.{ProperE, ProperEnum, ProperPort, ProperQ, ProperT}
-use Rattle.runs.proofs.ProperMade.{Maybe, bool-proper, maybe-cond, named-proper}
+use Rattle.runs.proofs.ProperMade.{bool-proper, maybe-cond, named-proper}
 use Rattle.runs.proofs.ProperResolved.{ProperMachine, ProperR, ProperS}
 
 -- the equations

@@ -15,10 +15,11 @@ use Rattle.activation_rules.specs.Holders.{Holding, also, held, hold, holderEqu
 use Rattle.activation_rules.specs.MadeNames.{lastVar}
 use Rattle.activation_rules.specs.Sought.{Sought}
 use Rattle.activation_rules.specs.Types.{firstTyped, lastTyped, orBool, sampleType, typed, valueType}
+use Rattle.machines.proofs.RefusalNames.{Maybe, maybe-first}
 use Rattle.runs.proofs.Letters.{Lettered, last-allowed}
 use Rattle.runs.proofs.Proper.{ProperE, ProperEnum, ProperPort, ProperQ, ProperTy}
 use Rattle.runs.proofs.ProperLasts.{ProperHolder}
-use Rattle.runs.proofs.ProperMade.{Maybe, bool-proper, maybe-cond, maybe-first}
+use Rattle.runs.proofs.ProperMade.{bool-proper, maybe-cond}
 use Rattle.runs.proofs.ProperRewritten.{eqn-proper}
 
 -- types and initial values

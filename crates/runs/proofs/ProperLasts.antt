@@ -14,9 +14,9 @@ use Rattle.activation_rules.specs.LastCalls.{CallKind, asVar, badLast, callKind
 use Rattle.activation_rules.specs.MadeNames.{lastVar}
 use Rattle.activation_rules.specs.Sought.{Sought, found, note, sought, soughtIn}
 use Rattle.activation_rules.specs.Unlast.{unlast, unlasts}
+use Rattle.machines.proofs.RefusalNames.{Maybe, maybe-first}
 use Rattle.runs.proofs.Letters.{Lettered, last-allowed}
 use Rattle.runs.proofs.Proper.{ProperE, ProperX}
-use Rattle.runs.proofs.ProperMade.{Maybe, maybe-first}
 
 -- calls of `last`
 unfoldable pub ProperKind : CallKind → Type 0

@@ -3,17 +3,18 @@ use Prim.Native.Nat.{ℕ, _+_, _≤_, _<_}
 use native.Mathlib.Omega.{arith}
 use mathlib.Core.List.{List, [], _∷_, _++_}
 use mathlib.Core.Bool.{Bool, true, false, cond}
-use mathlib.Core.Option.{Option, none, some}
+use mathlib.Core.Option.{Option, some}
 use mathlib.Core.Path.{_≡_, ap, subst}
 use lib.ListN.{length, length-append}
 use Rattle.wire.specs.Lists.{All}
 use Rattle.pack.specs.Legal.{Allowed, Each, FormedOrigin, ShapedTy}
 use Rattle.pack.specs.Names.{Name, eqName}
-use Rattle.pack.specs.Report.{Refusal, firstOf}
+use Rattle.pack.specs.Report.{Refusal}
 use Rattle.pack.specs.Syntax.{Enum, Equation, Node, OriginKind, Port, tBool, tNamed}
 use Rattle.pack.specs.Write.{one, tyItems}
 use Rattle.pack.proofs.Tables.{all-append}
 use Rattle.machine_rules.specs.Machines.{Made, extend, extendIn, nodeNamed, originOf, refusing}
+use Rattle.machines.proofs.RefusalNames.{Maybe}
 use Rattle.runs.proofs.Proper.{ProperEnum, ProperNode, ProperOrigin, ProperPort, ProperQ, ProperTy}
 
 pub bool-proper : ProperTy tBool
@@ -23,15 +24,6 @@ bool-proper = record { shaped = tt; fair = tt }
 pub named-proper : (n : Name) → Allowed n → ProperTy (tNamed n)
 unfolding ShapedTy tyItems Each
 named-proper n h = record { shaped = tt; fair = (h, tt) }
-
-unfoldable pub Maybe : {A : Type 0} → (A → Type 0) → Option A → Type 0
-Maybe P none = Unit {0}
-Maybe P (some x) = P x
-
-pub maybe-first : {A : Type 0} (P : A → Type 0) (a b : Option A) → Maybe P a → Maybe P b → Maybe P (firstOf a b)
-unfolding Maybe firstOf
-maybe-first P none b h k = k
-maybe-first P (some x) b h k = h
 
 pub maybe-cond : {A : Type 0} (P : A → Type 0) (c : Bool) (a b : Option A) → Maybe P a → Maybe P b → Maybe P (cond c a b)
 maybe-cond P true a b h k = h

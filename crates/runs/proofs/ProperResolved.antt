@@ -18,10 +18,11 @@ use Rattle.machine_rules.specs.Checks.{refusalOf}
 use Rattle.machine_rules.specs.Machines.{Judged, accept, checked, judge, refuse, resolved}
 use Rattle.machine_rules.specs.Refusals.{refineCycle, tooLarge, unknownRefine}
 use Rattle.machine_rules.specs.Resolve.{Target, Walk, arrive, asMachine, asTarget, deeper, machineOf, prefixR, prefixS, prefixTransitions, refineAt, refineWith, resolveR, resolveS, resolvedStates, shortName, shortS, snoc, stop, walkOn, went, withRefine, withTarget}
+use Rattle.machines.proofs.RefusalNames.{Maybe, maybe-first}
 use Rattle.runs.proofs.Letters.{Lettered, joins, joins-allowed, lettered, letters}
 use Rattle.runs.proofs.Proper.{ProperPort, ProperQ, ProperT}
 use Rattle.runs.proofs.ProperDrawn.{ProperD, ProperDrawing, ProperG}
-use Rattle.runs.proofs.ProperMade.{Maybe, maybe-cond, maybe-first}
+use Rattle.runs.proofs.ProperMade.{maybe-cond}
 
 -- resolved states
 unfoldable mutual

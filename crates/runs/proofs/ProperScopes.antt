@@ -20,11 +20,12 @@ use Rattle.activation_rules.specs.Reads.{reads, readsOf}
 use Rattle.activation_rules.specs.Samples.{dropIn, overSamples, renamed, sampleEquations, sampleLocals}
 use Rattle.activation_rules.specs.Scopes.{branchEquations, branchLocals, rewritten, scopeEquations, scopeLocals, scopeReads}
 use Rattle.activation_rules.specs.Unlast.{conditionsOf, unlast}
+use Rattle.machines.proofs.RefusalNames.{Maybe}
 use Rattle.runs.proofs.Letters.{Lettered, clock-allowed, flag-allowed, none-allowed, sample-allowed, value-allowed}
 use Rattle.runs.proofs.Proper.{ProperE, ProperPort, ProperQ, ProperTy}
 use Rattle.runs.proofs.ProperDrawn.{ProperActivation, ProperBranch}
 use Rattle.runs.proofs.ProperLasts.{unlast-proper}
-use Rattle.runs.proofs.ProperMade.{Maybe, bool-proper}
+use Rattle.runs.proofs.ProperMade.{bool-proper}
 use Rattle.runs.proofs.ProperRewritten.{drop-proper, eqn-proper, head-lettered, keep-proper, pin-proper, read-proper, rename-proper}
 
 -- the equations of the activation `a`

@@ -16,7 +16,7 @@ use Rattle.runs.specs.Premises.{guardsS, guardsT}
 use Rattle.runs.specs.Run.{Clock, Run, Value, arrowAt, binary, binaryValue, bools, equals, eval, every, ifOf, literal, notValue, preAt, previous, unary, vBool, vEnum}
 use Rattle.runs.proofs.Accepting.{allTargets, validR, validS}
 use Rattle.runs.proofs.Booleans.{&&-true, cond-case, or-right, ≡→T}
-use Rattle.runs.proofs.ClocksAlike.{equal, if-some}
+use Rattle.runs.proofs.ClocksAlike.{equal, eval-var, if-some}
 use Rattle.runs.proofs.Streams.{foundAt, keptAt}
 
 -- The chart stays within the states of the region.
@@ -96,10 +96,6 @@ chain-name g (sCons s es ts rs rest) f m = go (eqName f s) m rest refl (λ (m′
     go false h (sCons s′ es′ ts′ rs′ r) e ih = ih h
 
 module _ {O : Type 0} (R : Run O) where
-  eval-var : (x : Name) (c : Clock) (t : ℕ) → R .enums x ≡ false → eval R (eVar x) c t ≡ R .at x t
-  unfolding eval
-  eval-var x c t e = rw e
-
   eval-enum : (x : Name) (c : Clock) (t : ℕ) → R .enums x ≡ true → eval R (eVar x) c t ≡ some (vEnum x)
   unfolding eval
   eval-enum x c t e = rw e
@@ -150,7 +146,7 @@ module _ {O : Type 0} (R : Run O) where
     chain-total : (ss : States) → guardsS R N G ss → known R (namesOf ss) → validS ns ss ≡ true
         → eval R (nextChain v ss) every t ≡ some (vEnum (chainName (λ g. G g t) ss f))
     unfolding nextChain chainName validS namesOf member
-    chain-total sNil gs ks va = eval-var v every t vv ∙ at-v
+    chain-total sNil gs ks va = eval-var R v every t vv ∙ at-v
     chain-total (sCons s es ts rs rest) gs ks va =
         let p = &&-true (allTargets ns ts) (validR rs && validS ns rest) va in
         let q = &&-true (validR rs) (validS ns rest) (p .1) in

@@ -2,7 +2,7 @@
 use Prim.Native.Nat.{ℕ}
 use mathlib.Core.List.{List, [], _∷_, _++_}
 use mathlib.Core.Bool.{true, false}
-use mathlib.Core.Option.{some}
+use mathlib.Core.Option.{some, Option·some-injective}
 use mathlib.Core.Path.{_≡_, refl, sym, ap, subst, _∙_}
 use lib.ListN.{length, take}
 use Rattle.wire.specs.Lists.{Bytes}
@@ -40,9 +40,6 @@ use Rattle.runs.proofs.Tested.{satisfies-tested}
 same-states : (x y : States) (m n : ℕ) → went x m ≡ went y n → x ≡ y
 same-states x y m n e = cc
 
-same-node : (x y : Node) → some x ≡ some y → x ≡ y
-same-node x y e = cc
-
 same-held : (ps qs : List Port) (hs gs : List Equation) → held ps hs ≡ held qs gs → ps ≡ qs
 same-held ps qs hs gs e = cc
 
@@ -68,7 +65,7 @@ module _ (s : List ℕ) (output report : ℕ) (by : Bytes s) (p : Package) (r : 
       let L = demand-three .activations O s output report by e .lowered in
       let q : L .held ≡ p = whole-same (L .held) p (sym (L .reads) ∙ r) in
       let c : ActClaim O p (L .got) pre A = subst (λ (x : Package). x .activations ≡ pre ++ (A ∷ post) → ActClaim O x (L .got) pre A) q (λ h. L .each pre A post h) at in
-      let k : c .owner ≡ n = same-node (c .owner) n (sym (c .owns) ∙ own) in
+      let k : c .owner ≡ n = Option·some-injective (c .owner) n (sym (c .owns) ∙ own) in
       let h = subst (λ (x : Node). hold (p .enums) (A .name) (variables x) (A .outputs) (found (expressions A) []) ≡ held (c .ports) (c .holders)) k (c .holding) in
       let l : c .ports ≡ ps = same-held (c .ports) ps (c .holders) hs (sym h ∙ holds) in
       let nodes : madeActivations p .nodes ≡ L .got .nodes = ap (λ (x : Package). madeActivations x .nodes) (sym q) ∙ sym (L .nodes) in

@@ -11,7 +11,7 @@ use Rattle.activations.specs.Places.{branchEnd}
 use Rattle.activations.specs.Passes.{passT}
 use Rattle.activations.specs.FlagsAt.{branchFlagsT}
 use Rattle.machines.proofs.SureLaws.{number-small}
-use Rattle.activations.proofs.StepLaws.{pass-done, pass-more}
+use Rattle.activations.proofs.StepLaws.{goes-end, pass-more}
 use Rattle.activations.proofs.FlagLaws.{branch-full, flags-over}
 use Rattle.activations.proofs.flags.put_flags.Statement.{statement}
 use Rattle.activations.proofs.flags.put_flags.Tie as tie
@@ -56,7 +56,7 @@ same-length-2 : tie.Need-same-length-2 Inv-loop μ-loop
 same-length-2 c = search needs
 
 returns : tie.Need-returns Inv-loop μ-loop
-returns c = λ ns e. flags-over ns _ _ _ _ _ _ _ _ _ (c .before .before .number .ensures) (pass-done _ _ _ _ _ _ _ (c .loop-test .left) (c .before .loop .inv .3 ns e))
+returns c = λ ns e. flags-over ns _ _ _ _ _ _ _ _ _ (c .before .before .number .ensures) (goes-end _ _ _ _ _ _ _ (c .loop-test .left) (c .before .loop .inv .3 ns e))
 
 pub put-flags-spec : {M : Type 1} → statement M
 put-flags-spec =

@@ -8,7 +8,8 @@ use Rattle.machines.specs.Settling.{fillT, nodeEnd, nth}
 use Rattle.machines.specs.declared.sure.Num.{Num}
 use Rattle.machines.proofs.SettleLaws.{fill-done, fill-more, fill-start, node-end, nth-more, nth-start}
 use Rattle.machines.proofs.SureLaws.{number-small}
-use Rattle.activations.proofs.PlacingLaws.{cell-kept, nodes-placed}
+use Rattle.machines.proofs.TableLaws.{put-length}
+use Rattle.activations.proofs.PlacingLaws.{nodes-placed}
 use borrow.Author.Needs.{needs}
 use Rattle.activations.proofs.placing.place_nodes.Statement.{statement}
 use Rattle.activations.proofs.placing.place_nodes.Tie as tie
@@ -41,7 +42,7 @@ loop-less : tie.Need-loop-less Inv-loop μ-loop
 loop-less c = search needs
 
 loop-again : tie.Need-loop-again Inv-loop μ-loop
-loop-again c = (cell-kept (c .before .before .before .before .before .before .before .before .loop .nodes) _ (c .before .before .before .before .before .before .before .before .before .before .before .before .args .nodes .now) (c .before .before .before .before .before .before .before .before .loop .k) (c .before .before .before .before .before .before .before .before .loop .p % 65536) (c .before .before .before .before .put-cell .ensures) (c .before .before .before .before .before .before .before .before .loop .inv .0), λ ns e. (nth-more _ _ _ _ _ (c .before .before .before .before .before .before .before .before .loop .inv .1 ns e .0) (node-end ns _ _ _ _ (c .before .to-node-equations .ensures ns e) (c .after-equations .ensures ns e)), fill-more _ _ _ _ _ _ _ (c .before .before .before .before .before .before .if1 .taken) (ap (λ y. y % 65536) (c .before .before .before .before .before .before .before .before .loop .inv .1 ns e .0)) (c .before .before .before .before .put-cell .ensures) (c .before .before .before .before .before .before .before .before .loop .inv .1 ns e .1)))
+loop-again c = (put-length (c .before .before .before .before .before .before .before .before .loop .nodes) _ (c .before .before .before .before .before .before .before .before .before .before .before .before .args .nodes .now) (c .before .before .before .before .before .before .before .before .loop .k) (c .before .before .before .before .before .before .before .before .loop .p % 65536) (c .before .before .before .before .put-cell .ensures) (c .before .before .before .before .before .before .before .before .loop .inv .0), λ ns e. (nth-more _ _ _ _ _ (c .before .before .before .before .before .before .before .before .loop .inv .1 ns e .0) (node-end ns _ _ _ _ (c .before .to-node-equations .ensures ns e) (c .after-equations .ensures ns e)), fill-more _ _ _ _ _ _ _ (c .before .before .before .before .before .before .if1 .taken) (ap (λ y. y % 65536) (c .before .before .before .before .before .before .before .before .loop .inv .1 ns e .0)) (c .before .before .before .before .put-cell .ensures) (c .before .before .before .before .before .before .before .before .loop .inv .1 ns e .1)))
 
 same-length : tie.Need-same-length Inv-loop μ-loop
 same-length c = c .before .before .loop .inv .0

@@ -1,7 +1,7 @@
 use native.Mathlib.Omega.{arith}
 use mathlib.Core.Path.{sym, ap, _∙_}
 use lib.ListN.{length}
-use Rattle.activations.proofs.OutcomeFits.{entry-most}
+use Rattle.activations.proofs.OutcomeFits.{entry-fits}
 use Rattle.activations.proofs.ReportLaws.{entry-none, entry-some}
 use borrow.Author.Needs.{needs}
 use Rattle.activations.proofs.report.refusal_len.Statement.{statement}
@@ -29,7 +29,7 @@ entry-len-requires : tie.Need-entry-len-requires
 entry-len-requires c κs = search needs
 
 returns-2 : tie.Need-returns-2
-returns-2 c = (entry-most _ _ _ _ _ _ (c .before .before .before .before .before .before .before .before .before .before .before .pre) (omega arith) (c .entry-len .ensures), c .entry-len .ensures ∙ ap length (entry-some _ _ _ (c .before .before .before .before .before .before .before .judged .ensures) _ _ _ _ _ _ (c .before .before .before .before .before .if1 .left) (c .before .before .before .before .act-spot .ensures) (c .before .before .before .number .ensures) (c .before .before .judged-of .ensures)))
+returns-2 c = (entry-fits _ _ _ _ _ _ (c .before .before .before .before .before .before .before .before .before .before .before .pre) (omega arith) (c .entry-len .ensures), c .entry-len .ensures ∙ ap length (entry-some _ _ _ (c .before .before .before .before .before .before .before .judged .ensures) _ _ _ _ _ _ (c .before .before .before .before .before .if1 .left) (c .before .before .before .before .act-spot .ensures) (c .before .before .before .number .ensures) (c .before .before .judged-of .ensures)))
 
 pub refusal-len-spec : {M : Type 1} → statement M
 refusal-len-spec =

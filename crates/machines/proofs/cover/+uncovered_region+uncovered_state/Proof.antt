@@ -16,7 +16,7 @@ use Rattle.machines.proofs.cover.+uncovered_region+uncovered_state.Lts-
 use Rattle.machines.proofs.cover.uncovered_state.Reads as uncovered-state
 use Rattle.machines.proofs.cover.uncovered_state.Kinds as uncovered-state-kinds
 use Rattle.machines.proofs.cover.+uncovered_region+uncovered_state.Lts-uncovered_state as uncovered-state-lts
-use Rattle.machines.proofs.cover.or_next.Reads as or-next-reads
+use Rattle.machines.proofs.sure.first_some.Reads as first-some-reads
 use Rattle.machines.proofs.cover.own_told.Reads as own-told-reads
 use Rattle.machines.proofs.rows.first.Reads as first-reads
 use Rattle.machines.proofs.rows.inner.Reads as inner-reads
@@ -120,7 +120,7 @@ uncovered-region-returns-3 : (t : ℕ) → uncovered-region-lts.Need-returns-3 (
 uncovered-region-returns-3 t c = (λ ns e. first-done _ _ _ _ _ (c .loop-test .left) (c .before .loop .inv .0 ns e) ∙ uncovered-some ns _ _ _ _ _ _ _ (c .before .before .before .before .if1 .left) (c .before .before .before .word .ensures) (c .before .before .first .ensures), c .before .loop .inv .1)
 
 abbrev uncovered-state-calls : ℕ → uncovered-state-lts.Claims
-uncovered-state-calls t = (entry-reads.Asked, entry-reads.Learnt, own-told-reads.Asked, own-told-reads.Learnt, word-reads.Asked, word-reads.Learnt, inner-reads.Asked, inner-reads.Learnt, uncovered-region-below t, uncovered-region.Post, or-next-reads.Asked, or-next-reads.Learnt)
+uncovered-state-calls t = (entry-reads.Asked, entry-reads.Learnt, own-told-reads.Asked, own-told-reads.Learnt, word-reads.Asked, word-reads.Learnt, inner-reads.Asked, inner-reads.Learnt, uncovered-region-below t, uncovered-region.Post, first-some-reads.Asked, first-some-reads.Learnt)
 
 abbrev uncovered-state-Inv-loop : uncovered-state-lts.InvT-loop
 uncovered-state-Inv-loop s names ends t told₀ out levels p n₀ g₀ miss₀ told n g miss = ((ns : List Name) → length ns ≡ names → allMiss t (uncoveredT ns s t out levels) n g miss ≡ allMiss t (uncoveredT ns s t out levels) n₀ g₀ 0) × ToldRight s names ends told × (length {A = ℕ} told ≡ length {A = ℕ} told₀)
@@ -165,8 +165,8 @@ uncovered-state-same-length-3 t c = c .before .before .before .uncovered-region 
 uncovered-state-returns-3 : (t : ℕ) → uncovered-state-lts.Need-returns-3 (uncovered-state-calls t) (uncovered-state-at t) uncovered-state.Post uncovered-state-Inv-loop uncovered-state-μ-loop
 uncovered-state-returns-3 t c = (λ ns e. all-given _ _ _ _ _ _ _ (c .before .before .before .before .before .loop-test .taken) (c .before .before .before .uncovered-region .ensures .0 ns e) (c .if3 .taken) (c .before .before .before .before .before .before .loop .inv .0 ns e) ∙ state-regions ns _ _ _ _ _ _ _ _ _ (c .before .before .before .before .before .before .before .before .before .before .before .before .before .before .entry .ensures) (c .before .before .before .before .before .before .before .before .before .before .before .before .before .own-told .ensures .0 ns e) (c .before .before .before .before .before .before .before .before .before .before .if1 .left) (c .before .before .before .before .before .before .before .before .before .word .ensures) (c .before .before .before .before .before .before .before .before .if2 .left) (c .before .before .before .before .before .before .before .inner .ensures), c .before .before .before .uncovered-region .ensures .1)
 
-uncovered-state-or-next-requires : (t : ℕ) → uncovered-state-lts.Need-or-next-requires (uncovered-state-calls t) (uncovered-state-at t) uncovered-state.Post uncovered-state-Inv-loop uncovered-state-μ-loop
-uncovered-state-or-next-requires t c κs = search needs
+uncovered-state-first-some-requires : (t : ℕ) → uncovered-state-lts.Need-first-some-requires (uncovered-state-calls t) (uncovered-state-at t) uncovered-state.Post uncovered-state-Inv-loop uncovered-state-μ-loop
+uncovered-state-first-some-requires t c κs = search needs
 
 uncovered-state-word-requires-2 : (t : ℕ) → uncovered-state-lts.Need-word-requires-2 (uncovered-state-calls t) (uncovered-state-at t) uncovered-state.Post uncovered-state-Inv-loop uncovered-state-μ-loop
 uncovered-state-word-requires-2 t c κs = search needs
@@ -178,7 +178,7 @@ uncovered-state-loop-less : (t : ℕ) → uncovered-state-lts.Need-loop-less (un
 uncovered-state-loop-less t c = search needs
 
 uncovered-state-loop-again : (t : ℕ) → uncovered-state-lts.Need-loop-again (uncovered-state-calls t) (uncovered-state-at t) uncovered-state.Post uncovered-state-Inv-loop uncovered-state-μ-loop
-uncovered-state-loop-again t c = (λ ns e. all-went _ _ _ _ _ _ _ _ _ (c .before .before .before .before .before .before .before .loop-test .taken) (c .before .before .before .before .before .uncovered-region .ensures .0 ns e) (c .before .before .if3 .left) (c .before .or-next .ensures) (c .word2 .ensures) (c .before .before .before .before .before .before .before .before .loop .inv .0 ns e), c .before .before .before .before .before .uncovered-region .ensures .1, c .before .before .before .before .before .uncovered-region .kept .1 .1 .1 .1 .0 ∙ c .before .before .before .before .before .before .before .before .loop .inv .2)
+uncovered-state-loop-again t c = (λ ns e. all-went _ _ _ _ _ _ _ _ _ (c .before .before .before .before .before .before .before .loop-test .taken) (c .before .before .before .before .before .uncovered-region .ensures .0 ns e) (c .before .before .if3 .left) (c .before .first-some .ensures) (c .word2 .ensures) (c .before .before .before .before .before .before .before .before .loop .inv .0 ns e), c .before .before .before .before .before .uncovered-region .ensures .1, c .before .before .before .before .before .uncovered-region .kept .1 .1 .1 .1 .0 ∙ c .before .before .before .before .before .before .before .before .loop .inv .2)
 
 uncovered-state-same-length-4 : (t : ℕ) → uncovered-state-lts.Need-same-length-4 (uncovered-state-calls t) (uncovered-state-at t) uncovered-state.Post uncovered-state-Inv-loop uncovered-state-μ-loop
 uncovered-state-same-length-4 t c = c .before .loop .inv .2 ∙ c .before .before .before .before .before .before .before .before .own-told .kept .1 .1 .1 .0
@@ -224,7 +224,7 @@ pub +uncovered-region+uncovered-state-spec : {M : Type 1} → statement M
     (uncovered-state-uncovered-region-requires t)
     (uncovered-state-same-length-3 t)
     (uncovered-state-returns-3 t)
-    (uncovered-state-or-next-requires t)
+    (uncovered-state-first-some-requires t)
     (uncovered-state-word-requires-2 t)
     (uncovered-state-sub-n t)
     (uncovered-state-loop-less t)
