@@ -14,6 +14,7 @@ use machines::rows::between;
 use machines::sure::number;
 use machines::table::place_names;
 use pack::check::Verdict;
+use pack::check::answer;
 use pack::check::read_pack;
 use pack::finish::Outcome;
 use pack::finish::copy_pack;
@@ -74,7 +75,7 @@ fn write_all(
     ensures answers { λ r. ⌜ ((p : Package) → Stands (now (s .entry)) x p → Basis (p .names) (p .enums) (now (old .entry)) (now (s .entry)) (now (spots .entry)) b → Settled (p .names) (now (s .entry)) (p .enums) (p .nodes) (p .activations) (now (nodes .entry)) (now (acts .entry)) m n → Gives (written (length (now (output .entry))) (withoutActivations p (madeActivations p))) (r .number) (r .value) (now (output .entry)) (now (output .exit))) ⌝ }
     ensures fits { λ r. ⌜ (r .number ≤ 9) × (r .value < 4294967296) ⌝ }
 {
-    let mut out = [0u8; 65536];
+    let mut out = [0u8; Pack::BYTES];
     let mut made = [0u8; ROOM];
     let w = put_sections(
         old,
@@ -209,7 +210,7 @@ fn lower_apart(s: &[u8], x: Pack, output: &mut [u8], report: &mut [u8]) -> Outco
     ensures fits { λ r. ⌜ (r .number ≤ 9) × (r .value < 4294967296) ⌝ }
 {
     if Pack::BYTES < s.len() {
-        let r = lower_apart(&s[..65536], x, output, report);
+        let r = lower_apart(&s[..Pack::BYTES], x, output, report);
         return Outcome {
             number: r.number,
             value: 0,
@@ -240,29 +241,10 @@ pub fn lower_activations(pack: &[u8], output: &mut [u8], report: &mut [u8]) -> O
     let opened = read_pack(pack);
     let k = opened.pack;
     let v = opened.verdict;
-    match v {
-        Verdict::Whole => lower_checked(pack, k, output, report),
-        Verdict::TooLong => Outcome {
-            number: 1,
-            value: 65536,
-        },
-        Verdict::EndsEarly => Outcome {
-            number: 2,
-            value: pack.len() as u64,
-        },
-        Verdict::Illegal(o) => Outcome {
-            number: 3,
-            value: o as u64,
-        },
-        Verdict::Deep(o) => Outcome {
-            number: 4,
-            value: o as u64,
-        },
-        Verdict::After(o) => Outcome {
-            number: 5,
-            value: o as u64,
-        },
-    }
+    let Verdict::Whole = v else {
+        return answer(v, pack.len());
+    };
+    lower_checked(pack, k, output, report)
 }
 
 // The same with number and value in one word, as the C interface has it: the number times 2^32 plus the value.

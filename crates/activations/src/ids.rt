@@ -3,6 +3,7 @@ use crate::base::Base;
 use crate::base::lookup_made;
 use crate::made::put_last_text;
 use machines::rows::pack_name;
+use pack::record::Pack;
 use wire::writer::Writer;
 ghost use mathlib.Core.Path.{_≡_};
 ghost use Prim.Native.Nat.{_+_, _≤_};
@@ -23,7 +24,7 @@ fn number_of(old: &[u8], b: Base, a: &[u8], n: &[u8], v: usize) -> usize
     requires { ⌜ (b .names ≤ 65536) × (v ≤ 65536) ⌝ }
     ensures { λ r. ⌜ r ≡ holderNumber (now (old .entry)) b (lastVar (now (a .entry)) (now (n .entry))) v ⌝ }
 {
-    let mut buf = [0u8; 255];
+    let mut buf = [0u8; Pack::NAME];
     let t = put_last_text(&mut buf, Writer::start(), a, n);
     let x = lookup_made(old, b, &buf, t);
     old_or(b.names, x, v)

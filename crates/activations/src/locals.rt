@@ -10,6 +10,7 @@ use machines::rows::pack_name;
 use pack::cells::cell;
 use pack::cells::put_cell;
 use pack::intern::put_built;
+use pack::record::Pack;
 use wire::writer::Writer;
 ghost use mathlib.Core.List.{List, []};
 ghost use mathlib.Core.Path.{_≡_};
@@ -105,7 +106,7 @@ fn put_branch_local(
     requires { ⌜ (length (now s) ≤ 65536) × (k < 2 ^ 63) ⌝ }
     ensures { λ r. ⌜ ((ns : List Name) → length ns ≡ b .names → leftOf (now (later .exit)) (now (out .exit)) (now (made .exit)) r ≡ branchLocalT ns (now (s .entry)) (now (old .entry)) (b .made) (now (a .entry)) v k (leftOf (now (later .entry)) (now (out .entry)) (now (made .entry)) p)) ⌝ }
 {
-    let mut buf = [0u8; 255];
+    let mut buf = [0u8; Pack::NAME];
     let t = put_branch_text(&mut buf, Writer::start(), a, v, k);
     put_local(old, s, b, &buf, t, 1, later, out, made, p)
 }
@@ -186,7 +187,7 @@ fn put_holder_local(
 {
     let v = pack_name(s, spots, cell(held, h));
     let c = cell(env, cell(held, h + 2));
-    let mut buf = [0u8; 255];
+    let mut buf = [0u8; Pack::NAME];
     let t = put_last_text(&mut buf, Writer::start(), a, v);
     put_local(old, s, b, &buf, t, c, later, out, made, p)
 }

@@ -1,5 +1,6 @@
 // The names that lowering an activation makes.
 use pack::intern::put_built;
+use pack::record::Pack;
 use wire::writer::Writer;
 use wire::writer::put_bytes;
 use wire::writer::put_digits;
@@ -47,7 +48,7 @@ pub fn put_last(
 ) -> Writer
     ensures { λ r. ⌜ stateOf (now (out .exit)) (now (made .exit)) r ≡ putName (now (old .entry)) (lastVar (now (a .entry)) (now (v .entry))) (stateOf (now (out .entry)) (now (made .entry)) w) ⌝ }
 {
-    let mut buf = [0u8; 255];
+    let mut buf = [0u8; Pack::NAME];
     let t = put_last_text(&mut buf, Writer::start(), a, v);
     put_built(old, &buf, t, out, made, w)
 }
@@ -92,7 +93,7 @@ pub fn put_var(
     requires { ⌜ k < 2 ^ 63 ⌝ }
     ensures { λ r. ⌜ stateOf (now (out .exit)) (now (made .exit)) r ≡ putName (now (old .entry)) (branchVar v (now (a .entry)) k) (stateOf (now (out .entry)) (now (made .entry)) w) ⌝ }
 {
-    let mut buf = [0u8; 255];
+    let mut buf = [0u8; Pack::NAME];
     let t = put_branch_text(&mut buf, Writer::start(), a, v, k);
     put_built(old, &buf, t, out, made, w)
 }
@@ -153,7 +154,7 @@ pub fn put_value(
 ) -> Writer
     ensures { λ r. ⌜ stateOf (now (out .exit)) (now (made .exit)) r ≡ putName (now (old .entry)) (valueVar (now (a .entry)) (scopeAt n k) (now (o .entry))) (stateOf (now (out .entry)) (now (made .entry)) w) ⌝ }
 {
-    let mut buf = [0u8; 255];
+    let mut buf = [0u8; Pack::NAME];
     let t = put_value_text(&mut buf, Writer::start(), a, n, k, o);
     put_built(old, &buf, t, out, made, w)
 }

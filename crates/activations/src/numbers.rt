@@ -7,6 +7,7 @@ use crate::made::put_sample_start;
 use machines::rows::pack_name;
 use pack::cells::cell;
 use pack::intern::put_built;
+use pack::record::Pack;
 use wire::writer::Writer;
 use wire::writer::put_bytes;
 use wire::writer::put_u16;
@@ -92,7 +93,7 @@ pub fn put_sample_of(
 ) -> Writer
     ensures { λ r. ⌜ stateOf (now (out .exit)) (now (made .exit)) r ≡ putName (now (old .entry)) (sampleNameT (now (s .entry)) (now (spots .entry)) names (now (a .entry)) n k x) (stateOf (now (out .entry)) (now (made .entry)) w) ⌝ }
 {
-    let mut buf = [0u8; 255];
+    let mut buf = [0u8; Pack::NAME];
     let t = put_sample_text(&mut buf, Writer::start(), s, spots, names, a, n, k, x);
     put_built(old, &buf, t, out, made, w)
 }
@@ -110,7 +111,7 @@ pub fn sample_id(
 ) -> usize
     ensures { λ r. ⌜ r ≡ sampleT (now (s .entry)) (now (spots .entry)) (b .names) (now (a .entry)) (now (old .entry)) (b .made) n k x ⌝ }
 {
-    let mut buf = [0u8; 255];
+    let mut buf = [0u8; Pack::NAME];
     let t = put_sample_text(&mut buf, Writer::start(), s, spots, b.names, a, n, k, x);
     let i = lookup_made(old, b, &buf, t);
     if i < b.names {

@@ -21,6 +21,7 @@ use machines::rows::pack_name;
 use machines::sure::after_expr;
 use machines::sure::number;
 use pack::cells::cell;
+use pack::record::Pack;
 use wire::writer::Writer;
 ghost use mathlib.Core.List.{List};
 ghost use mathlib.Core.Path.{_≡_};
@@ -50,7 +51,7 @@ fn put_sample_local(
     ensures { λ r. ⌜ ((ns : List Name) → length ns ≡ b .names → leftOf (now (later .exit)) (now (out .exit)) (now (made .exit)) r ≡ sampleLocalT ns (now (s .entry)) (now (old .entry)) (b .made) (now (a .entry)) (now (spots .entry)) (now (env .entry)) (now (outs .entry)) n k x (leftOf (now (later .entry)) (now (out .entry)) (now (made .entry)) p)) ⌝ }
 {
     let c = typed(env, outs, b.names, x);
-    let mut buf = [0u8; 255];
+    let mut buf = [0u8; Pack::NAME];
     let t = put_sample_text(&mut buf, Writer::start(), s, spots, b.names, a, n, k, x);
     put_local(old, s, b, &buf, t, c, later, out, made, p)
 }
@@ -152,7 +153,7 @@ fn put_value_local(
     let x = first_left(s, at);
     let c = value_type(env, outs, b.names, x);
     let o = pack_name(s, spots, x);
-    let mut buf = [0u8; 255];
+    let mut buf = [0u8; Pack::NAME];
     let t = put_value_text(&mut buf, Writer::start(), a, n, k, o);
     put_local(old, s, b, &buf, t, c, later, out, made, p)
 }

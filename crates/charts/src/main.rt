@@ -7,6 +7,7 @@ use machines::rows::between;
 use machines::sure::sure;
 use pack::check::ol_pack_check;
 use pack::finish::Outcome;
+use pack::record::Pack;
 use wire::answer::Read;
 use wire::number::read_u32;
 ghost use Prim.Native.Nat.{_≤_, _<_};
@@ -122,8 +123,8 @@ fn print_difference(which: usize, answer: Outcome, output: bool, report: bool) {
 
 // Whether a call on a pack returns this word and leaves these beginnings in its buffers.
 fn agrees(which: usize, pack: &[u8], word: &[u8], output: &[u8], report: &[u8]) -> bool {
-    let mut o = [FILL; 65536];
-    let mut r = [FILL; 65536];
+    let mut o = [FILL; Pack::BYTES];
+    let mut r = [FILL; Pack::BYTES];
     let answer = call(which, pack, &mut o, &mut r);
     let returned = returned_as(word, answer);
     let output_holds = holds(&o, output);

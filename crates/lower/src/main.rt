@@ -3,6 +3,7 @@
 use activations::call::lower_activations;
 use machines::call::lower_state_machines;
 use pack::finish::Outcome;
+use pack::record::Pack;
 
 // Writes a call's line.
 fn print_line(call: &[u8], answer: Outcome) {
@@ -16,16 +17,16 @@ fn print_line(call: &[u8], answer: Outcome) {
 
 // The second call.
 fn lower_second(pack: &[u8]) {
-    let mut output = [0u8; 65536];
-    let mut report = [0u8; 65536];
+    let mut output = [0u8; Pack::BYTES];
+    let mut report = [0u8; Pack::BYTES];
     let answer = lower_activations(pack, &mut output, &mut report);
     print_line(b"activations", answer);
 }
 
 // The first call, and where it is not refused the second on what it wrote.
 fn lower_first(pack: &[u8]) {
-    let mut output = [0u8; 65536];
-    let mut report = [0u8; 65536];
+    let mut output = [0u8; Pack::BYTES];
+    let mut report = [0u8; Pack::BYTES];
     let answer = lower_state_machines(pack, &mut output, &mut report);
     print_line(b"machines", answer);
     if answer.number == 0 {

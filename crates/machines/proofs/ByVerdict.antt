@@ -9,51 +9,24 @@ use Rattle.pack.specs.Limits.{maxBytes}
 use Rattle.pack.specs.Syntax.{Package}
 use Rattle.pack.specs.Read.{Reading, bytesAfter, deepAt, endsEarly, illegalAt, read, tooLong, whole}
 use Rattle.pack.specs.Outcome.{Gives, Outcome, answers, numberOf, onPackage, outputOf, reportOf, sized, valueOf, written}
-use Rattle.pack.specs.Verdict.{Small, Stands, recordOf, verdictOf}
+use Rattle.pack.specs.Verdict.{Stands, numberFor, recordOf, valueFor, verdictOf}
 use Rattle.pack.specs.declared.check.Verdict.{Verdict}
 use Rattle.pack.specs.declared.check.Verdict.the-variants as vd
 use Rattle.pack.specs.declared.record.Pack.{Pack}
-use Rattle.pack.proofs.CheckLaws.{check-small, record-stands}
+use Rattle.pack.proofs.CheckLaws.{number-small, record-stands, value-small}
 use Rattle.pack.proofs.RoundTrip.{read-value}
 use Rattle.pack.proofs.Unchanged.{unchanged}
 use Rattle.machines.specs.Filled.{Answers, OpenedAs}
 use Rattle.machines.proofs.Answered.{answers-as, sized-quiet}
 
--- the table's numbers and values by the verdict
-unfoldable numberFor : Verdict → ℕ
-numberFor vd.Whole = 0
-numberFor vd.TooLong = 1
-numberFor vd.EndsEarly = 2
-numberFor (vd.Illegal o) = 3
-numberFor (vd.Deep o) = 4
-numberFor (vd.After o) = 5
-
-unfoldable valueFor : Verdict → ℕ → ℕ
-valueFor vd.Whole n = n
-valueFor vd.TooLong n = 65536
-valueFor vd.EndsEarly n = n
-valueFor (vd.Illegal o) n = o
-valueFor (vd.Deep o) n = o
-valueFor (vd.After o) n = o
-
 table : (s : List ℕ) (k : Package → Outcome) (r : Reading) → (verdictOf r ≡ vd.Whole → ⊥) → onPackage s r k ≡ answers (numberFor (verdictOf r)) (valueFor (verdictOf r) (length s))
-unfolding onPackage verdictOf numberFor valueFor maxBytes
+unfolding onPackage verdictOf numberFor valueFor
 table s k tooLong n = refl
 table s k endsEarly n = refl
 table s k (illegalAt o) n = refl
 table s k (deepAt o) n = refl
 table s k (bytesAfter o) n = refl
 table s k (whole p) n = absurd (n refl)
-
--- they are small
-small-table : (v : Verdict) (n : ℕ) → Small v n → (numberFor v ≤ 9) × (valueFor v n < 4294967296)
-unfolding Small numberFor valueFor
-small-table vd.Whole n h = (omega arith, omega arith)
-small-table vd.TooLong n h = (omega arith, omega arith)
-small-table vd.EndsEarly n h = (omega arith, omega arith)
-small-table (vd.Illegal o) n h = (omega arith, omega arith)
-small-table (vd.Deep o) n h = (omega arith, omega arith)
-small-table (vd.After o) n h = (omega arith, omega arith)
 
 module _ (s : List ℕ) (v : Verdict) (e : v ≡ verdictOf (read s)) where
   is-whole : v ≡ vd.Whole → (p : Package) × (read s ≡ whole p)
@@ -78,36 +51,13 @@ module _ (s : List ℕ) (v : Verdict) (e : v ≡ verdictOf (read s)) where
     opened f = let w = is-whole f in (read-value s (w .0) (w .1) .0, record { held = w .0; reads = w .1; stands = stands-here (w .0) (w .1) })
 
   -- a pack that is not whole, whatever is done with a package: number and value, which fit 32 bits, and both buffers as they were
-  module _ (f : Package → Outcome) (output report : List ℕ) where
-    abbrev Stops : ℕ → ℕ → Type 0
-    Stops number value = Answers (onPackage s (read s) f) number value output output report report × ((number ≤ 9) × (value < 4294967296))
-
-    stopped : (w : Verdict) → v ≡ w → (w ≡ vd.Whole → ⊥) → Stops (numberFor w) (valueFor w (length s))
-    unfolding numberOf valueOf outputOf reportOf
-    stopped w h n =
-        let t : onPackage s (read s) f ≡ answers (numberFor w) (valueFor w (length s)) =
-        table s f (read s) (λ z. n (sym h ∙ e ∙ z)) ∙ ap (λ (y : Verdict). answers (numberFor y) (valueFor y (length s))) (sym e ∙ h) in
-        (record { gives = record { number-is = rw t; value-is = rw t; output-is = rw t }; report-is = rw t }, small-table w (length s) (check-small s w (sym h ∙ e)))
-
-    pub too-long : v ≡ vd.TooLong → Stops 1 65536
-    unfolding numberFor valueFor
-    too-long h = stopped vd.TooLong h (λ z. let w : _≡_ {A = ℕ} 0 1 = cc in absurd (omega arith))
-
-    pub ends-early : v ≡ vd.EndsEarly → Stops 2 (length s)
-    unfolding numberFor valueFor
-    ends-early h = stopped vd.EndsEarly h (λ z. let w : _≡_ {A = ℕ} 0 1 = cc in absurd (omega arith))
-
-    pub is-illegal : (o : ℕ) → v ≡ vd.Illegal o → Stops 3 o
-    unfolding numberFor valueFor
-    is-illegal o h = stopped (vd.Illegal o) h (λ z. let w : _≡_ {A = ℕ} 0 1 = cc in absurd (omega arith))
-
-    pub is-deep : (o : ℕ) → v ≡ vd.Deep o → Stops 4 o
-    unfolding numberFor valueFor
-    is-deep o h = stopped (vd.Deep o) h (λ z. let w : _≡_ {A = ℕ} 0 1 = cc in absurd (omega arith))
-
-    pub bytes-after : (o : ℕ) → v ≡ vd.After o → Stops 5 o
-    unfolding numberFor valueFor
-    bytes-after o h = stopped (vd.After o) h (λ z. let w : _≡_ {A = ℕ} 0 1 = cc in absurd (omega arith))
+  pub stopped : (f : Package → Outcome) (output report : List ℕ) (number value : ℕ) → (v ≡ vd.Whole → ⊥) → number ≡ numberFor v → value ≡ valueFor v (length s)
+      → Answers (onPackage s (read s) f) number value output output report report × ((number ≤ 9) × (value < 4294967296))
+  unfolding numberOf valueOf outputOf reportOf
+  stopped f output report number value n g h =
+      let t : onPackage s (read s) f ≡ answers number value =
+      table s f (read s) (λ z. n (e ∙ z)) ∙ ap (λ (y : Verdict). answers (numberFor y) (valueFor y (length s))) (sym e) ∙ (λ i. answers (sym g i) (sym h i)) in
+      (record { gives = record { number-is = rw t; value-is = rw t; output-is = rw t }; report-is = rw t }, (omega (arith, g, number-small v), omega (arith, h, value-small s v e)))
 
 -- a pack that was opened is answered as its package is
 pub opened-by : (s : List ℕ) (k : Pack) → OpenedAs s k → (f : Package → Outcome) (number value : ℕ) (output output′ report report′ : List ℕ)

@@ -9,7 +9,7 @@ use lib.Dec.{eqb}
 use borrow.Author.Tests.{eq-eqb, ne-eqb}
 use Rattle.pack.specs.Names.{Name}
 use Rattle.pack.specs.Read.{equationIn}
-use Rattle.machines.specs.declared.cover.Told.{Told}
+use Rattle.machines.specs.declared.told.Told.{Told}
 use Rattle.machines.specs.declared.sure.Num.{Num}
 use Rattle.machines.specs.Stands.{endOf}
 use Rattle.machines.specs.Sure.{firstSome, numberIn, with}

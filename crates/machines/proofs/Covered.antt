@@ -17,7 +17,7 @@ use Rattle.pack.specs.Forms.{nameAt}
 use Rattle.pack.specs.Legal.{Fresh}
 use Rattle.pack.specs.Report.{firstOf}
 use Rattle.pack.specs.Read.{equationIn, equationsIn, exprIn, nameIn, namesIn}
-use Rattle.machines.specs.declared.cover.Told.{Told}
+use Rattle.machines.specs.declared.told.Told.{Told}
 use Rattle.machine_rules.specs.Lower.{coversR, coversS, isOnly, isSome, ownValue}
 use Rattle.machine_rules.specs.Checks.{uncoveredR, uncoveredS, unlessCovered, unlessOther}
 use Rattle.machines.specs.Stands.{StateAt, endOf}

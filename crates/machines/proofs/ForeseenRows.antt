@@ -14,7 +14,7 @@ use Rattle.machines.specs.declared.strays.Aim.the-variants as aim
 use Rattle.machines.specs.declared.strays.Strays.{Strays}
 use Rattle.machines.specs.declared.valid.Checked.{Checked}
 use Rattle.machines.specs.declared.valid.Checked.the-variants as ck
-use Rattle.machines.specs.declared.valid.Foreseen.{Foreseen}
+use Rattle.machines.specs.declared.foreseen.Foreseen.{Foreseen}
 use Rattle.machines.specs.Stands.{endOf, overIn}
 use Rattle.machines.specs.Sure.{numberIn, with}
 use Rattle.machines.specs.Lays.{movesAt}

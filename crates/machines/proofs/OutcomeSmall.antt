@@ -20,10 +20,10 @@ use Rattle.pack.specs.Forms.{nameAt}
 use Rattle.pack.specs.Read.{Reading, bytesAfter, deepAt, endsEarly, illegalAt, machineIn, read, tooLong, whole}
 use Rattle.pack.specs.Report.{Refusal, entries, reportBytes}
 use Rattle.pack.specs.Outcome.{Outcome, answers, numberOf, onPackage, reported, reports, returned, sized, valueOf, writes, written}
-use Rattle.pack.specs.Verdict.{Small, Stands, recordOf, verdictOf}
+use Rattle.pack.specs.Verdict.{Stands, recordOf, valueFor, verdictOf}
 use Rattle.pack.specs.Write.{enc, encode, packageItems, shorts}
 use Rattle.pack.specs.declared.record.Pack.{Pack}
-use Rattle.pack.proofs.CheckLaws.{check-small, record-stands}
+use Rattle.pack.proofs.CheckLaws.{record-stands, value-small}
 use Rattle.pack.proofs.RoundTrip.{read-value}
 use Rattle.machines.specs.declared.refusal.Judged.{Judged}
 use Rattle.machines.specs.Sure.{numberIn}
@@ -160,10 +160,10 @@ opened-fits output report (x ∷ xs) p l = reported-fits report (reportBytes (x 
 
 -- THE THEOREM: of any bytes, and buffers of any length
 pub lowered-fits : (s : List ℕ) (output report : ℕ) → Bytes s → InTable (lowerMachines s output report)
-unfolding lowerMachines onPackage machinesOf numberOf valueOf maxBytes verdictOf Small
-lowered-fits s output report bytes = go (read s) refl (check-small s (verdictOf (read s)) refl)
+unfolding lowerMachines onPackage machinesOf numberOf valueOf maxBytes verdictOf valueFor
+lowered-fits s output report bytes = go (read s) refl (value-small s (verdictOf (read s)) refl)
   where
-    go : (x : Reading) → read s ≡ x → Small (verdictOf x) (length s) → InTable (onPackage s x (machinesOf output report))
+    go : (x : Reading) → read s ≡ x → valueFor (verdictOf x) (length s) ≤ 65536 → InTable (onPackage s x (machinesOf output report))
     go tooLong e l = (omega arith, omega arith)
     go endsEarly e l = (omega arith, omega arith)
     go (illegalAt o) e l = (omega arith, omega arith)

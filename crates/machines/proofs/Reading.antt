@@ -156,7 +156,7 @@ name-number ns s at n q e =
 pub optional-none : (ns : List Name) (s : List ℕ) (at q : ℕ) → optionalIn ns s at ≡ value none q → u16 s at ≡ value absent q
 unfolding optionalIn optional
 optional-none ns s at q e =
-    let m = map-value (optional ns s) (guard (λ i. ltb i (length ns) || eqb i absent) at (u16 s at)) none q e in
+    let m = map-value (optional ns) (guard (λ i. ltb i (length ns) || eqb i absent) at (u16 s at)) none q e in
     let g = guard-value (λ i. ltb i (length ns) || eqb i absent) at (u16 s at) (m .0) q (m .1) in
     g .0 ∙ ap (λ x. value x q) (go (m .0) (eqb (m .0) absent) refl (m .2))
   where
@@ -174,7 +174,7 @@ pub record OptionalIs (ns : List Name) (s : List ℕ) (at : ℕ) (n : Name) (q :
 pub optional-some : (ns : List Name) (s : List ℕ) (at : ℕ) (n : Name) (q : ℕ) → optionalIn ns s at ≡ value (some n) q → OptionalIs ns s at n q
 unfolding optionalIn optional
 optional-some ns s at n q e =
-    let m = map-value (optional ns s) (guard (λ i. ltb i (length ns) || eqb i absent) at (u16 s at)) (some n) q e in
+    let m = map-value (optional ns) (guard (λ i. ltb i (length ns) || eqb i absent) at (u16 s at)) (some n) q e in
     let g = guard-value (λ i. ltb i (length ns) || eqb i absent) at (u16 s at) (m .0) q (m .1) in
     let h = go (m .0) (eqb (m .0) absent) refl (m .2) (ltb (m .0) (length ns)) refl (g .1) in
     record { i = m .0; is = g .0; small = h .2; present = h .0; named = h .1 }

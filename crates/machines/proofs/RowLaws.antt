@@ -3,16 +3,16 @@ use Prim.Native.Nat.{ℕ, _+_, _-_, _<_, _≤_, min}
 use native.Mathlib.Omega.{arith}
 use mathlib.Core.List.{List, [], _∷_}
 use mathlib.Core.Bool.{Bool, true, false, cond}
-use mathlib.Core.Logic.{⊎-elim}
 use mathlib.Core.Path.{_≡_, refl, sym, ap, _∙_}
-use lib.ListN.{length, getD, take, drop, drop-of-length-le}
+use lib.ListN.{length, getD, take, drop}
 use Rattle.wire.specs.declared.writer.Writer.{Writer}
 use Rattle.wire.specs.Writer.{State, full, put, puts, stateOf}
-use Rattle.wire.proofs.Writers.{lt-or-le, puts-append, take-capped}
+use Rattle.wire.proofs.Writers.{puts-append, take-capped}
 use Rattle.pack.specs.Names.{Name}
 use Rattle.pack.specs.RawNames.{rawName}
 use Rattle.pack.specs.Write.{Item}
 use Rattle.pack.specs.Intern.{putName, render}
+use Rattle.pack.proofs.TableLaws.{drop-part}
 use Rattle.pack.proofs.Written.{render-full}
 use Rattle.machines.specs.Laid.{prefixOf, sliceOf}
 use Rattle.machines.specs.Emits.{inRegion, lettersAt, packName}
@@ -31,16 +31,10 @@ first-none t q r h l = let e = word-past t q 6 h in absurd (omega arith)
 pub inner-none : (t : List ℕ) (p r : ℕ) → length t ≤ p → 0 < getD t (p + 5) 0 → r ≡ p + 6
 inner-none t p r h l = let e = word-past t p 5 h in absurd (omega arith)
 
-pub drop-cut : (s : List ℕ) (a b : ℕ) → b ≡ min (0 + a) (length s) → drop b s ≡ drop a s
-drop-cut s a b e = ⊎-elim
-    (λ (g : length s < a). let i : b ≡ length s = omega arith in drop-of-length-le s {i = b} (omega arith) ∙ sym (drop-of-length-le s {i = a} (omega arith)))
-    (λ (g : a ≤ length s). let i : b ≡ a = omega arith in ap (λ (k : ℕ). drop k s) i)
-    (lt-or-le (length s) a)
-
 pub part-is : (s : List ℕ) (a n b e : ℕ) → b ≡ min (0 + a) (length s) → e ≡ min (b + n) (length s) → take (e - b) (drop b s) ≡ sliceOf s a n
 unfolding sliceOf
 part-is s a n b e f g =
-    ap (λ (k : ℕ). take (k - b) (drop b s)) g ∙ take-capped s b n (omega arith) ∙ ap (take n) (drop-cut s a b f)
+    ap (λ (k : ℕ). take (k - b) (drop b s)) g ∙ take-capped s b n (omega arith) ∙ ap (take n) (drop-part s a b f)
 
 pub between-none : (s x : List ℕ) (a e : ℕ) → e ≤ a → x ≡ sliceOf s a 0 → x ≡ sliceOf s a (e - a)
 between-none s x a e h f = let i : e - a ≡ 0 = omega arith in f ∙ ap (sliceOf s a) (sym i)

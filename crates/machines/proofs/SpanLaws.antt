@@ -22,7 +22,7 @@ use Rattle.machines.specs.Relaid.{AllWrite, Writes}
 use Rattle.machines.specs.Parts.{broughtEquationsT, nodeEquationsT}
 use Rattle.machines.proofs.BroughtLaws.{brings-no-equations, brings-no-locals, each-skip, no-locals, total-first}
 use Rattle.machines.proofs.RelaidLaws.{no-equations}
-use Rattle.machines.proofs.RowLaws.{drop-cut}
+use Rattle.pack.proofs.TableLaws.{drop-part}
 
 -- one more machine from the end on that goes elsewhere
 pub elsewhere-less : (ats : List ℕ) (n k p i a : ℕ) → i ≡ p - 1 → a ≡ getD ats i 0 → (a ≡ k → ⊥) → ((j : ℕ) → p ≤ j → j < n → getD ats j 0 ≡ k → ⊥)
@@ -35,7 +35,7 @@ elsewhere-less ats n k p i a d e h g j l m q = go (eqb j i) refl
 
 -- a table from f on, as it is cut and as it is looked up
 pub from-is : (t : List ℕ) (f b : ℕ) → b ≡ min (0 + f) (length t) → take (length t - b) (drop b t) ≡ drop f t
-from-is t f b e = take-all (length t - b) (drop b t) (omega (arith, length-drop b t)) ∙ drop-cut t f b e
+from-is t f b e = take-all (length t - b) (drop b t) (omega (arith, length-drop b t)) ∙ drop-part t f b e
 
 from-at : (t x : List ℕ) (f : ℕ) → x ≡ drop f t → (p : ℕ) → getD x p 0 ≡ getD t (f + p) 0
 from-at t x f e p = ap (λ (l : List ℕ). getD l p 0) e ∙ getD-drop f t p 0

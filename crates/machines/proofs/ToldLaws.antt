@@ -10,7 +10,7 @@ use lib.Seq.{getD-set-other, getD-set-same}
 use lib.Dec.{eqb, ltb}
 use borrow.Author.Tests.{eqb-true, eqb-false, le-ltb, lt-ltb}
 use Rattle.pack.specs.Names.{Name}
-use Rattle.machines.specs.declared.cover.Told.{Told}
+use Rattle.machines.specs.declared.told.Told.{Told}
 use Rattle.machines.specs.declared.sure.Num.{Num}
 use Rattle.machines.specs.Sure.{numberIn}
 use Rattle.machines.specs.Covers.{givesT, ownT, uncoveredT}

@@ -8,7 +8,7 @@ use lib.ListN.{getD}
 use lib.Dec.{eqb}
 use Rattle.pack.specs.Names.{Name}
 use Rattle.pack.specs.Read.{equationIn}
-use Rattle.machines.specs.declared.cover.Told.{Told}
+use Rattle.machines.specs.declared.told.Told.{Told}
 use Rattle.machines.specs.Stands.{endOf}
 use Rattle.machines.specs.Sure.{firstSome, numberIn, with}
 use Rattle.machines.specs.Emits.{lettersAt}

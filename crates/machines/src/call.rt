@@ -13,6 +13,7 @@ use crate::sure::number;
 use crate::table::place_machines;
 use crate::table::place_names;
 use pack::check::Verdict;
+use pack::check::answer;
 use pack::check::read_pack;
 use pack::finish::Outcome;
 use pack::finish::copy_pack;
@@ -157,7 +158,7 @@ fn write_all(
     requires { ⌜ (length (now s) ≤ 65536) × (n ≤ 65536) × Long (now t) (now reg) (now lets) × EndsRight (now s) (k .names) (now ends) ⌝ }
     ensures { λ r. ⌜ ((ns : List Name) → length ns ≡ k .names → (old : List ℕ) → old ≡ tabled (table (sliceOf (now (s .entry)) 2 (k .enums - 2))) → (eqs ens : ℕ → List Item) → AllWrite old (equationsAt ns (now (s .entry)) (now (spots .entry)) (now (to .entry))) (now (mats .entry)) n eqs → AllWrite old (enumsAt ns (now (s .entry)) (now (spots .entry)) (now (to .entry))) (now (mats .entry)) n ens → Gives (answered (length (now (output .entry))) (sliceOf (now (s .entry)) 2 (k .enums - 2)) (render old (sectionsT ns (now (s .entry)) (now (mats .entry)) (now (ats .entry)) (now (regs .entry)) (now (spots .entry)) n eqs ens k) unwritten)) (r .number) (r .value) (now (output .entry)) (now (output .exit))) ⌝ }
 {
-    let mut out = [0u8; 65536];
+    let mut out = [0u8; Pack::BYTES];
     let mut made = [0u8; ROOM];
     let mut olds = [0u8; ROOM];
     let names = between(s, 2, k.enums);
@@ -204,7 +205,7 @@ fn write_apart(
 {
     if Pack::BYTES < s.len() {
         let r = write_apart(
-            &s[..65536],
+            &s[..Pack::BYTES],
             k,
             spots,
             to,
@@ -340,7 +341,7 @@ fn lower_apart(s: &[u8], k: Pack, output: &mut [u8], report: &mut [u8]) -> Outco
     ensures { λ r. ⌜ ((p : Package) → Stands (now (s .entry)) k p → Answers (machinesOf (length (now (output .entry))) (length (now (report .entry))) p) (r .number) (r .value) (now (output .entry)) (now (output .exit)) (now (report .entry)) (now (report .exit))) ⌝ }
 {
     if Pack::BYTES < s.len() {
-        let r = lower_apart(&s[..65536], k, output, report);
+        let r = lower_apart(&s[..Pack::BYTES], k, output, report);
         return Outcome {
             number: r.number,
             value: 0,
@@ -369,29 +370,10 @@ pub fn lower_state_machines(pack: &[u8], output: &mut [u8], report: &mut [u8]) -
     let opened = read_pack(pack);
     let k = opened.pack;
     let v = opened.verdict;
-    match v {
-        Verdict::Whole => lower_checked(pack, k, output, report),
-        Verdict::TooLong => Outcome {
-            number: 1,
-            value: 65536,
-        },
-        Verdict::EndsEarly => Outcome {
-            number: 2,
-            value: pack.len() as u64,
-        },
-        Verdict::Illegal(o) => Outcome {
-            number: 3,
-            value: o as u64,
-        },
-        Verdict::Deep(o) => Outcome {
-            number: 4,
-            value: o as u64,
-        },
-        Verdict::After(o) => Outcome {
-            number: 5,
-            value: o as u64,
-        },
-    }
+    let Verdict::Whole = v else {
+        return answer(v, pack.len());
+    };
+    lower_checked(pack, k, output, report)
 }
 
 // The same with number and value in one word, as the C interface has it: the number times 2^32 plus the value.

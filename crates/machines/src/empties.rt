@@ -1,5 +1,4 @@
 // Regions without states that follow one another: how many is kept once, so that a visit passes over all of them at once.
-use crate::cover::both;
 use crate::heads::len_at;
 use crate::heads::most;
 use crate::kept::EMPTY;
@@ -8,6 +7,7 @@ use crate::kept::kept_beside;
 use crate::opening::Opening;
 use crate::opening::region_from;
 use crate::sure::Num;
+use crate::sure::both;
 use crate::sure::region;
 ghost use mathlib.Core.Path.{_≡_};
 ghost use Prim.Native.Nat.{_<_};

@@ -21,7 +21,7 @@ pub fn put_left(old: &[u8], v: Var, id: usize, out: &mut [u8], made: &mut [u8], 
     put_var(old, v, id, out, made, a)
 }
 
-// A region is active where the region holding its state is active and in that state.
+// Whether a nested region is active: by its parent's activity and state.
 pub fn put_active_equation(
     old: &[u8],
     id: usize,

@@ -1,6 +1,5 @@
 // Whether a machine is accepted, or why it is refused: resolving, then its states' names, initial states and targets,
 // then its outputs.
-use crate::cover::TOLD;
 use crate::cover::uncovered_region;
 use crate::lay::lay_machine;
 use crate::refusal::Called;
@@ -12,16 +11,18 @@ use crate::sure::number;
 use crate::table::entry;
 use crate::table::to_initial;
 use crate::table::to_outputs;
+use crate::told::TOLD;
 use crate::valid::Checked;
 use crate::valid::check_region;
 use crate::walk::Walked;
 use crate::walk::walk_machine;
 use pack::cells::byte_at;
+use pack::cells::set_byte;
 use pack::record::Pack;
 ghost use mathlib.Core.List.{List};
 ghost use mathlib.Core.Path.{_≡_};
 ghost use Prim.Native.Nat.{_≤_};
-ghost use lib.ListN.{length, set};
+ghost use lib.ListN.{length};
 ghost use Rattle.pack.specs.Names.{Name};
 ghost use Rattle.machines.specs.Covers.{uncoveredT};
 ghost use Rattle.machines.specs.Ends.{EndsRight, KeptRight};
@@ -96,15 +97,6 @@ fn again_called(lets: &[u8], d: usize) -> Called
     }
 }
 
-// The output x is given; an index past the table's end is not remembered.
-fn note_given(given: &mut [u8], x: usize)
-    ensures { λ _. ⌜ now (given .exit) ≡ set (now (given .entry)) x 1 ⌝ }
-{
-    if x < given.len() {
-        given[x] = 1;
-    }
-}
-
 // 0 where each state gives the output x, else the word of a state that does not. Where an output was asked for and is given, it need
 // not be asked for again: a machine may have it thousands of times.
 fn uncovered_output(
@@ -128,13 +120,13 @@ fn uncovered_output(
     if m != 0 {
         return m;
     }
-    note_given(given, x);
+    set_byte(given, x, 1);
     0
 }
 
 // The outputs of a machine that is laid out, `count` from the offset `from` on: the first that a state does not give. What drawn
-// states give is remembered, and which outputs are given, a cell for each name: no pack has more than 17,408, since they are
-// different and of 63 letters.
+// states give is remembered, and which outputs are given, a cell for each name. A pack has no more, by counting different names of 63
+// letters; that is not proved, and an output past the cells would be looked for again.
 fn judge_outputs(
     s: &[u8],
     names: usize,

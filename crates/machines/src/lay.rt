@@ -1,12 +1,12 @@
 // Laying a resolved machine out in three tables: words of states and regions in preorder, the word of each region by its id,
 // the full names of states. What comes after looks at the tables alone, and meets no refinement and no prefix.
-use crate::cover::both;
 use crate::empties::at_once;
 use crate::empties::open_regions;
 use crate::ends::inside_of;
 use crate::opening::Opening;
 use crate::opening::machine_as;
 use crate::spell::spell;
+use crate::sure::both;
 use crate::sure::number;
 use crate::table::put;
 use crate::words::put_region_words;

@@ -9,6 +9,7 @@ pub mod heads; // what resolving needs of a state
 pub mod empties; // regions without states, passed over at once
 pub mod walk; // resolving, which counts states and makes no tree
 pub mod keeping; // what is kept, filled
+pub mod told; // what a state's own equations give, and what of it is remembered
 pub mod cover; // whether a resolved machine's states give an output
 pub mod spell; // full names of states, as letters
 pub mod opening; // a region before its states
@@ -23,6 +24,7 @@ pub mod enums; // the enums of regions
 pub mod qualified; // names as they are called in a region
 pub mod chains; // the next state of a region
 pub mod regions; // the equations of regions
+pub mod foreseen; // what is known of targets before they are looked at
 pub mod valid; // state names, initial states and targets
 pub mod marks; // numbers by which names are told apart
 pub mod repeats; // a name that stands twice

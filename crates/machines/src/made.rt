@@ -1,5 +1,6 @@
 // The names that lowering a machine makes.
 use pack::intern::put_built;
+use pack::record::Pack;
 use wire::writer::Writer;
 use wire::writer::put_bytes;
 use wire::writer::put_digits;
@@ -53,7 +54,7 @@ fn put_text(out: &mut [u8], w: Writer, v: Var, id: usize) -> Writer
 pub fn put_var(old: &[u8], v: Var, id: usize, out: &mut [u8], made: &mut [u8], w: Writer) -> Writer
     ensures { λ r. ⌜ stateOf (now (out .exit)) (now (made .exit)) r ≡ putName (now (old .entry)) (varName v id) (stateOf (now (out .entry)) (now (made .entry)) w) ⌝ }
 {
-    let mut buf = [0u8; 255];
+    let mut buf = [0u8; Pack::NAME];
     let t = put_text(&mut buf, Writer::start(), v, id);
     put_built(old, &buf, t, out, made, w)
 }
@@ -82,7 +83,7 @@ pub fn put_enum_name(
 ) -> Writer
     ensures { λ r. ⌜ stateOf (now (out .exit)) (now (made .exit)) r ≡ putName (now (old .entry)) (enumName (now (m .entry)) id) (stateOf (now (out .entry)) (now (made .entry)) w) ⌝ }
 {
-    let mut buf = [0u8; 255];
+    let mut buf = [0u8; Pack::NAME];
     let t = put_enum_text(&mut buf, Writer::start(), m, id);
     put_built(old, &buf, t, out, made, w)
 }

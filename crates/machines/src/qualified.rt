@@ -2,6 +2,7 @@
 use crate::rows::letters;
 use crate::rows::pack_name;
 use pack::intern::put_built;
+use pack::record::Pack;
 use wire::writer::Writer;
 use wire::writer::put_byte;
 use wire::writer::put_bytes;
@@ -58,7 +59,7 @@ pub fn put_in_region(
 ) -> Writer
     ensures { λ r. ⌜ stateOf (now (out .exit)) (now (made .exit)) r ≡ putName (now (old .entry)) (inRegion (now (s .entry)) (now (spots .entry)) (now (t .entry)) (now (lets .entry)) q x) (stateOf (now (out .entry)) (now (made .entry)) w) ⌝ }
 {
-    let mut buf = [0u8; 255];
+    let mut buf = [0u8; Pack::NAME];
     let v = put_qualified(&mut buf, Writer::start(), s, spots, t, lets, q, x);
     put_built(old, &buf, v, out, made, w)
 }

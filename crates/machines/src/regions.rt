@@ -11,6 +11,7 @@ use crate::rows::letters;
 use crate::rows::word;
 use crate::table::entry;
 use crate::terms::put_variable;
+use pack::record::Pack;
 use wire::writer::Writer;
 use wire::writer::capped;
 use wire::writer::put_byte;
@@ -64,7 +65,7 @@ fn put_state(
     let x = entry(t, q);
     let id = word(t, q, 5);
     let history = is(word(t, q, 1), 1);
-    let mut buf = [0u8; 255];
+    let mut buf = [0u8; Pack::NAME];
     let v = put_qualified(&mut buf, Writer::start(), s, spots, t, lets, q, x);
     let full = v.full;
     if full {

@@ -5,6 +5,7 @@ use crate::marks::may_be;
 use crate::marks::put_half;
 use pack::intern::Found;
 use pack::intern::find_name;
+use pack::record::Pack;
 use wire::writer::capped;
 ghost use mathlib.Core.Path.{_≡_};
 ghost use lib.ListN.{take};
@@ -63,7 +64,7 @@ pub fn repeated_name(lets: &[u8], end: usize) -> usize
     ensures { λ r. ⌜ r ≡ againAt (take end (now (lets .entry))) ⌝ }
 {
     let e = capped(lets.len(), 0, end);
-    let mut lows = [0u32; 512];
-    let mut highs = [0u32; 512];
+    let mut lows = [0u32; Pack::STATES];
+    let mut highs = [0u32; Pack::STATES];
     first_again(&lets[..e], &mut lows, &mut highs)
 }

@@ -1,9 +1,9 @@
 // The first transition of a drawn region's states that leads to none of them: said of what is drawn, so that it is looked for once,
 // however often it is shown.
-use crate::cover::both;
 use crate::ends::guard_end;
 use crate::ends::moves_of;
 use crate::ends::past_of;
+use crate::sure::both;
 use crate::sure::number;
 ghost use mathlib.Core.List.{List};
 ghost use mathlib.Core.Path.{_≡_};

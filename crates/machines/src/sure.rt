@@ -13,6 +13,7 @@ use wire::number::read_byte;
 use wire::number::read_u16;
 ghost use mathlib.Core.List.{List};
 ghost use mathlib.Core.Path.{_≡_};
+ghost use mathlib.Core.Bool.{_&&_};
 ghost use Prim.Native.Nat.{_≤_};
 ghost use lib.ListN.{length};
 ghost use Rattle.wire.specs.Answer.{counted};
@@ -34,6 +35,12 @@ pub fn sure(r: Read) -> Num
         Read::Is { value, next } => Num { value, next },
         _ => Num { value: 0, next: 0 },
     }
+}
+
+pub fn both(a: bool, b: bool) -> bool
+    ensures { λ r. ⌜ r ≡ (a && b) ⌝ }
+{
+    if a { b } else { false }
 }
 
 // The first number, or the second where that is 0.

@@ -1,27 +1,25 @@
 // The checks of a machine that is laid out: its states' names, each region's initial state, and targets.
 // A region's states share their prefix, so that names within it are compared as indexes. Where it is kept which state of a drawn
 // region is the first that strays, targets are not looked at again.
-use crate::cover::both;
 use crate::ends::guard_end;
-use crate::ends::moves_of;
-use crate::ends::past_of;
-use crate::kept::STRAYS;
-use crate::kept::kept;
-use crate::kept::kept_beside;
+use crate::foreseen::Foreseen;
+use crate::foreseen::foresee;
+use crate::foreseen::onward;
 use crate::rows::first;
 use crate::rows::inner;
 use crate::rows::is;
 use crate::rows::word;
+use crate::sure::both;
 use crate::sure::number;
 use crate::table::entry;
 ghost use mathlib.Core.List.{List};
 ghost use mathlib.Core.Path.{_≡_};
-ghost use Prim.Native.Nat.{_+_, _≤_};
-ghost use lib.ListN.{length, getD};
+ghost use Prim.Native.Nat.{_≤_};
+ghost use lib.ListN.{length};
 ghost use Rattle.pack.specs.Names.{Name};
 ghost use Rattle.machines.specs.Known.{Known};
 ghost use Rattle.machines.specs.Ends.{EndsRight};
-ghost use Rattle.machines.specs.Valid.{amongT, hasT, targetsT, checkedState, checkedRegion, foretold as foretoldOf, onward as onwardOf, rowDrawn, rowsDrawn, unknown, Has, OneForeseen, AllForeseen};
+ghost use Rattle.machines.specs.Valid.{amongT, hasT, targetsT, checkedState, checkedRegion, foretold as foretoldOf, Has, OneForeseen};
 
 // What checking came to: nothing wrong, a region (by its word) whose initial state is not among its states,
 // or a state's transition to a name that is not.
@@ -33,14 +31,6 @@ pub enum Checked {
         region: usize,
         name: usize,
     },
-}
-
-// What is foreseen of the targets of a region's states from one on: the next `fine` ones have none that is wrong, the one after
-// them has one, with this name. Where nothing is known, this says nothing.
-struct Foreseen {
-    known: bool,
-    fine: usize,
-    name: usize,
 }
 
 // Whether one of `count` states from the word `from` on has the pack's name x.
@@ -106,97 +96,6 @@ fn check_targets(s: &[u8], names: usize, ends: &[u16], t: &[usize], q: usize, p:
         }
     }
     Checked::Fine
-}
-
-// Whether the row at the word p is that of the state drawn at `at`.
-fn row_drawn(s: &[u8], names: usize, ends: &[u16], t: &[usize], p: usize, at: usize) -> bool
-    requires { ⌜ (length (now s) ≤ 65536) × EndsRight (now s) names (now ends) ⌝ }
-    ensures { λ r. ⌜ ((ns : List Name) → length ns ≡ names → r ≡ rowDrawn ns (now (s .entry)) (now (t .entry)) p at) ⌝ }
-{
-    if entry(t, p) == at {
-        let m = moves_of(s, names, ends, at);
-        return is(word(t, p, 1), m);
-    }
-    false
-}
-
-// Whether `count` rows from the word `from` on are those of the states drawn one after the other from f on.
-fn rows_drawn(
-    s: &[u8],
-    names: usize,
-    ends: &[u16],
-    t: &[usize],
-    count: usize,
-    from: usize,
-    f: usize,
-) -> bool
-    requires { ⌜ (length (now s) ≤ 65536) × EndsRight (now s) names (now ends) ⌝ }
-    ensures { λ r. ⌜ ((ns : List Name) → length ns ≡ names → r ≡ rowsDrawn ns (now (s .entry)) (now (t .entry)) count from f) ⌝ }
-{
-    let mut n = count;
-    let mut p = from;
-    let mut at = f;
-    while 0 < n {
-        if row_drawn(s, names, ends, t, p, at) {
-            p = word(t, p, 4);
-            at = past_of(s, names, ends, at);
-            n = n - 1;
-        } else {
-            return false;
-        }
-    }
-    true
-}
-
-// Where nothing is known.
-fn nothing_known() -> Foreseen
-    ensures { λ r. ⌜ r ≡ unknown ⌝ }
-{
-    Foreseen {
-        known: false,
-        fine: 0,
-        name: 0,
-    }
-}
-
-// What is kept of the states of the region at the word q, where they are those of a drawn region.
-fn foresee(s: &[u8], names: usize, ends: &[u16], t: &[usize], q: usize) -> Foreseen
-    requires { ⌜ (length (now s) ≤ 65536) × EndsRight (now s) names (now ends) ⌝ }
-    ensures { λ r. ⌜ AllForeseen (now (s .entry)) names (now (t .entry)) r q (getD (now (t .entry)) (q + 6) 0) (q + 9) ⌝ }
-{
-    let n = word(t, q, 6);
-    let p = first(t, q);
-    let f = entry(t, p);
-    if f < 5 {
-        return nothing_known();
-    }
-    let x = kept(ends, f - 5, STRAYS);
-    if x == 0 {
-        return nothing_known();
-    }
-    let c = number(s, f - 2);
-    if c.value == n {
-        return Foreseen {
-            known: rows_drawn(s, names, ends, t, n, p, f),
-            fine: kept_beside(ends, f - 5),
-            name: x - 1,
-        };
-    }
-    nothing_known()
-}
-
-// What is foreseen of the states after one.
-fn onward(v: Foreseen) -> Foreseen
-    ensures { λ r. ⌜ r ≡ onwardOf v ⌝ }
-{
-    if v.fine == 0 {
-        return nothing_known();
-    }
-    Foreseen {
-        known: v.known,
-        fine: v.fine - 1,
-        name: v.name,
-    }
 }
 
 // What is foreseen of the state at the word p, in the region at the word q.

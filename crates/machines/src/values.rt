@@ -1,8 +1,6 @@
 // The value of each output: a chain over the states of a region, in which a state's first covering region goes before its own
 // equation. Right sides are copied from the pack.
 use crate::chains::put_test;
-use crate::cover::TOLD;
-use crate::cover::both;
 use crate::cover::uncovered_region;
 use crate::ends::end_of;
 use crate::rows::between;
@@ -12,8 +10,10 @@ use crate::rows::left;
 use crate::rows::word;
 use crate::sure::after_expr;
 use crate::sure::after_port;
+use crate::sure::both;
 use crate::sure::number;
 use crate::table::entry;
+use crate::told::TOLD;
 use pack::record::Pack;
 use wire::writer::Writer;
 use wire::writer::put_bytes;

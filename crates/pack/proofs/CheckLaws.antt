@@ -1,8 +1,9 @@
 -- Laws of the check: the sections one after the other, and what the verdict on them tells.
-use Prim.Native.Nat.{ℕ, _+_, _≤_, _<_, zero, suc}
+use Prim.Native.Nat.{ℕ, _+_, _*_, _≤_, _<_, zero, suc}
 use native.Mathlib.Omega.{arith}
 use mathlib.Core.List.{List, [], _∷_, _++_}
 use mathlib.Core.Bool.{Bool, true, false, cond, not}
+use mathlib.Core.Logic.{⊎-elim}
 use mathlib.Core.Path.{_≡_, refl, sym, ap, _∙_, subst}
 use lib.ListN.{length, length-append, replicate, length-replicate}
 use lib.Dec.{ltb}
@@ -11,6 +12,7 @@ use denote.Enum.Declared.{tagOf}
 use borrow.Author.Tests.{lt-ltb, le-ltb, ltb-false}
 use Rattle.wire.proofs.answer.Read as Read-enum
 use Rattle.wire.proofs.answer.Skipped as Skipped-enum
+use Rattle.pack.proofs.check.Verdict as Verdict-enum
 use Rattle.wire.specs.declared.answer.Read.{Read}
 use Rattle.wire.specs.declared.answer.Read.the-variants as rd
 use Rattle.wire.specs.declared.answer.Skipped.{Skipped}
@@ -31,7 +33,7 @@ use Rattle.pack.specs.Names.{Name, member}
 use Rattle.pack.specs.Syntax.{Package}
 use Rattle.pack.specs.Read.{Reading, activationIn, bytesAfter, deepAt, endsEarly, enumIn, illegalAt, machineIn, name, nameSection, namesAfter, nodeIn, originIn, packAt, read, readingOf, tooLong, whole}
 use Rattle.pack.specs.Outcome.{answers, check, numberOf, onPackage, returned, valueOf}
-use Rattle.pack.specs.Verdict.{Small, Stands, codeOf, countOf, emptyPackage, emptyRecord, judgedOf, nameCount, namesOf, namesOr, offsetOf, pastActivations, pastEnums, pastMachines, pastNames, pastNodes, pastOrigins, recordOf, sectionsOf, verdictOf}
+use Rattle.pack.specs.Verdict.{Stands, countOf, emptyPackage, emptyRecord, judgedOf, nameCount, namesOf, namesOr, numberFor, offsetOf, pastActivations, pastEnums, pastMachines, pastNames, pastNodes, pastOrigins, recordOf, sectionsOf, valueFor, verdictOf}
 
 -- how many names the name section has
 names-length : (s : List ℕ) (t : List Name) (n at : ℕ) (ns : List Name) (q : ℕ) → namesAfter s t n at ≡ value ns q → length ns ≡ length t + n
@@ -273,12 +275,12 @@ pub empty-stands : Stands (replicate 12 0) emptyRecord emptyPackage
 unfolding emptyRecord
 empty-stands = sections-stand (replicate 12 0) emptyPackage 12 empty-read
 
--- the number and the value
-pub code-check : (s : List ℕ) (v : Verdict) (r : ℕ) → v ≡ verdictOf (read s) → r ≡ codeOf v (length s) → r ≡ returned (check s)
-unfolding check onPackage returned numberOf valueOf codeOf verdictOf maxBytes
-code-check s v r e g = g ∙ ap (λ (x : Verdict). codeOf x (length s)) e ∙ go (read s)
+-- the number and the value, in one word
+pub word-check : (s : List ℕ) (v : Verdict) (number value : ℕ) → v ≡ verdictOf (read s) → number ≡ numberFor v → value ≡ valueFor v (length s) → number * 4294967296 + value ≡ returned (check s)
+unfolding check onPackage returned numberOf valueOf numberFor valueFor verdictOf
+word-check s v k r e f g = (λ i. f i * 4294967296 + g i) ∙ ap (λ (x : Verdict). numberFor x * 4294967296 + valueFor x (length s)) e ∙ go (read s)
   where
-    go : (x : Reading) → codeOf (verdictOf x) (length s) ≡ returned (onPackage s x (λ p. answers 0 (length s)))
+    go : (x : Reading) → numberFor (verdictOf x) * 4294967296 + valueFor (verdictOf x) (length s) ≡ returned (onPackage s x (λ p. answers 0 (length s)))
     go tooLong = refl
     go endsEarly = refl
     go (illegalAt o) = refl
@@ -286,24 +288,41 @@ code-check s v r e g = g ∙ ap (λ (x : Verdict). codeOf x (length s)) e ∙ go
     go (bytesAfter o) = refl
     go (whole p) = refl
 
-reading-small : (n : ℕ) (x : Answer Package) → n ≤ 65536 → offsetIn x ≤ n → Small (verdictOf (readingOf n x)) n
-unfolding readingOf verdictOf Small offsetIn
+-- they fit it
+pub number-small : (v : Verdict) → numberFor v ≤ 5
+unfolding numberFor
+number-small vd.Whole = omega arith
+number-small vd.TooLong = omega arith
+number-small vd.EndsEarly = omega arith
+number-small (vd.Illegal o) = omega arith
+number-small (vd.Deep o) = omega arith
+number-small (vd.After o) = omega arith
+
+reading-small : (n : ℕ) (x : Answer Package) → n ≤ 65536 → offsetIn x ≤ n → valueFor (verdictOf (readingOf n x)) n ≤ 65536
+unfolding readingOf verdictOf valueFor offsetIn
 reading-small n (value p q) h l = go (ltb q n)
   where
-    go : (t : Bool) → Small (verdictOf (cond t (bytesAfter q) (whole p))) n
+    go : (t : Bool) → valueFor (verdictOf (cond t (bytesAfter q) (whole p))) n ≤ 65536
     go true = omega arith
     go false = h
 reading-small n early h l = h
 reading-small n (illegal o) h l = omega arith
 reading-small n (deep o) h l = omega arith
 
-pub check-small : (s : List ℕ) (v : Verdict) → v ≡ verdictOf (read s) → Small v (length s)
-unfolding read maxBytes verdictOf Small
-check-small s v e = subst (λ (x : Verdict). Small x (length s)) (sym e) (go (ltb 65536 (length s)) refl)
+pub value-small : (s : List ℕ) (v : Verdict) → v ≡ verdictOf (read s) → valueFor v (length s) ≤ 65536
+unfolding read maxBytes verdictOf valueFor
+value-small s v e = subst (λ (x : Verdict). valueFor x (length s) ≤ 65536) (sym e) (go (ltb 65536 (length s)) refl)
   where
-    go : (t : Bool) → ltb 65536 (length s) ≡ t → Small (verdictOf (cond t tooLong (readingOf (length s) (packAt s 0)))) (length s)
+    go : (t : Bool) → ltb 65536 (length s) ≡ t → valueFor (verdictOf (cond t tooLong (readingOf (length s) (packAt s 0)))) (length s) ≤ 65536
     go true g = omega arith
     go false g = reading-small (length s) (packAt s 0) (ltb-false 65536 (length s) g) (within-pack s 0 (omega arith))
+
+-- the arms of a match on a verdict but for `Whole`
+pub not-whole : (v : Verdict) → OneOf (1 ∷ 2 ∷ 3 ∷ 4 ∷ 5 ∷ []) (tagOf Verdict-enum.the-type v) → v ≡ vd.Whole → ⊥
+not-whole v h e = go (subst (λ (y : Verdict). OneOf (1 ∷ 2 ∷ 3 ∷ 4 ∷ 5 ∷ []) (tagOf Verdict-enum.the-type y)) e h)
+  where
+    go : OneOf (1 ∷ 2 ∷ 3 ∷ 4 ∷ 5 ∷ []) 0 → ⊥
+    go h = ⊎-elim (λ e. omega arith) (⊎-elim (λ e. omega arith) (⊎-elim (λ e. omega arith) (⊎-elim (λ e. omega arith) (λ e. omega arith)))) h
 
 -- the code's arms
 pub judged-after : (r : Skipped) (q n : ℕ) → r ≡ sk.To q → q < n → vd.After q ≡ judgedOf r n
@@ -317,24 +336,5 @@ judged-whole r q n e h = sym (ap (λ (x : Skipped). judgedOf x n) e ∙ rw (le-l
 pub judged-is : (r t : Skipped) (v : Verdict) (n : ℕ) → r ≡ t → v ≡ judgedOf t n → v ≡ judgedOf r n
 judged-is r t v n e h = h ∙ ap (λ (x : Skipped). judgedOf x n) (sym e)
 
-pub code-is : (v u : Verdict) (k n : ℕ) → v ≡ u → k ≡ codeOf u n → k ≡ codeOf v n
-code-is v u k n e h = h ∙ ap (λ (x : Verdict). codeOf x n) (sym e)
-
-pub small-is : (v u : Verdict) (n : ℕ) → v ≡ u → Small v n → Small u n
-small-is v u n e h = subst (λ (x : Verdict). Small x n) e h
-
-pub small-illegal : (v : Verdict) (o n : ℕ) → v ≡ vd.Illegal o → Small v n → o ≤ 65536
-unfolding Small
-small-illegal v o n e h = small-is v (vd.Illegal o) n e h
-
-pub small-deep : (v : Verdict) (o n : ℕ) → v ≡ vd.Deep o → Small v n → o ≤ 65536
-unfolding Small
-small-deep v o n e h = small-is v (vd.Deep o) n e h
-
-pub small-after : (v : Verdict) (o n : ℕ) → v ≡ vd.After o → Small v n → o ≤ 65536
-unfolding Small
-small-after v o n e h = small-is v (vd.After o) n e h
-
-pub small-early : (v : Verdict) (n : ℕ) → v ≡ vd.EndsEarly → Small v n → n ≤ 65536
-unfolding Small
-small-early v n e h = small-is v vd.EndsEarly n e h
+pub table-is : (v u : Verdict) (n : ℕ) → v ≡ u → (numberFor u ≡ numberFor v) × (valueFor u n ≡ valueFor v n)
+table-is v u n e = (ap numberFor (sym e), ap (λ (x : Verdict). valueFor x n) (sym e))

@@ -13,7 +13,7 @@ use borrow.Author.Tests.{eqb-true, ltb-true, eq-eqb, ne-eqb, lt-ltb, le-ltb}
 use Rattle.pack.specs.Names.{Name, eqName, member}
 use Rattle.pack.specs.RawNames.{Follows, oneOf, rawName, rawNames}
 use Rattle.pack.specs.Siphash.{hash, quadAt}
-use Rattle.pack.specs.Distinct.{cells, letters, product, keyFor, way, tag, first, after, isOf, freeFrom, freeOn, freeCell, telling, gets, tagged, entered, Tells}
+use Rattle.pack.specs.Distinct.{cells, letters, product, keyFor, folded, longWay, way, tag, first, after, isOf, freeFrom, freeOn, freeCell, telling, gets, tagged, entered, Tells}
 use Rattle.pack.proofs.Tables.{eqName-refl, eqName-true, member-either}
 use Rattle.pack.proofs.NameLaws.{rawNames-more}
 
@@ -39,13 +39,21 @@ pub key-short : (key : ℕ) (n : Name) → length n ≤ 8 → key ≡ keyFor key
 unfolding keyFor
 key-short key n l = rw (le-ltb 8 (length n) l)
 
-pub way-hash : (key r : ℕ) (n : Name) → eqb key 0 || ltb 16 (length n) ≡ true → r ≡ hash n → r ≡ way key n
-unfolding way
-way-hash key r n l e = rw l e
+pub long-hash : (key r : ℕ) (n : Name) → key ≡ 0 → r ≡ hash n → r ≡ longWay key n
+unfolding longWay
+long-hash key r n l e = rw (eq-eqb key 0 l) e
 
-pub way-product : (key k c h : ℕ) (n : Name) → eqb key 0 || ltb 16 (length n) ≡ false → k ≡ keyFor key n → c ≡ letters n → h ≡ product k c → h / 4294967296 + h % 4294967296 ≡ way key n
+pub long-keyed : (key h x r : ℕ) (n : Name) → (key ≡ 0 → ⊥) → h ≡ hash n → x ≡ product key h → r ≡ folded x → r ≡ longWay key n
+unfolding longWay
+long-keyed key h x r n l d e f = rw (ne-eqb key 0 l) (f ∙ ap folded (e ∙ ap (product key) d))
+
+pub way-long : (key r : ℕ) (n : Name) → eqb key 0 || ltb 16 (length n) ≡ true → r ≡ longWay key n → r ≡ way key n
 unfolding way
-way-product key k c h n l d e f = rw l (ap (λ x. x / 4294967296 + x % 4294967296) (f ∙ ap (λ x. product x c) d ∙ ap (product (keyFor key n)) e))
+way-long key r n l e = rw l e
+
+pub way-short : (key k c x r : ℕ) (n : Name) → eqb key 0 || ltb 16 (length n) ≡ false → k ≡ keyFor key n → c ≡ letters n → x ≡ product k c → r ≡ folded x → r ≡ way key n
+unfolding way
+way-short key k c x r n l d e f g = rw l (g ∙ ap folded (f ∙ ap (λ y. product y c) d ∙ ap (product (keyFor key n)) e))
 
 -- a product of 32 bits by 32
 pub product-fits : (x y : ℕ) → x < 4294967296 → y < 4294967296 → x * y < 18446744073709551616

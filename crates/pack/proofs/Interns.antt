@@ -96,18 +96,13 @@ count-turn t at k e h g p = rw (table-turn t at k e h g p) (omega arith)
 pub count-done : (f : ℕ) (t : List ℕ) (at k : ℕ) → length t ≤ at → k ≡ k + length (tableF f (drop at t))
 count-done f t at k h = rw (table-done f t at h) (omega arith)
 
--- the number in an answer
-abbrev pub number : Found → ℕ
-number (At k) = k
-number (Missing k) = k
-
-lookup-number : (ns : List Name) (n : Name) (k : ℕ) → number (lookup ns n k) ≤ k + length ns
-unfolding lookup
+lookup-number : (ns : List Name) (n : Name) (k : ℕ) → numberIn (lookup ns n k) ≤ k + length ns
+unfolding lookup numberIn
 lookup-number [] n k = omega arith
 lookup-number (m ∷ ms) n k = go (eqName m n) (lookup-number ms n (k + 1))
   where
-    go : (t : Bool) → number (lookup ms n (k + 1)) ≤ k + 1 + length ms
-        → number (elim t [ true ↦ At k | false ↦ lookup ms n (k + 1) ]) ≤ k + suc (length ms)
+    go : (t : Bool) → numberIn (lookup ms n (k + 1)) ≤ k + 1 + length ms
+        → numberIn (elim t [ true ↦ At k | false ↦ lookup ms n (k + 1) ]) ≤ k + suc (length ms)
     go true h = omega arith
     go false h = omega arith
 
@@ -122,7 +117,7 @@ pub table-length : (t : List ℕ) → length (table t) ≤ length t
 unfolding table
 table-length t = tableF-length (length t) t
 
-pub found-number : (t : List ℕ) (n : Name) (f : Found) → f ≡ lookup (table t) n 0 → number f ≤ length t
+pub found-number : (t : List ℕ) (n : Name) (f : Found) → f ≡ lookup (table t) n 0 → numberIn f ≤ length t
 found-number t n f e = rw e (omega (arith, lookup-number (table t) n 0, table-length t))
 
 -- the bound on an answer, of what it is

@@ -259,11 +259,8 @@ module _ (ns : List Name) (fresh : Fresh [] ns) (small : length ns < 65536) wher
   abbrev ok-place : ℕ → Type 0
   ok-place i = (i < 65536) × ((ltb i (length ns) || eqb i absent) ≡ true)
 
-  abbrev named-at : ℕ → Option Name
-  named-at i = cond (eqb i absent) none (some (nameAt ns i))
-
-  option-down : (o : Option Name) → Any o × Each (Known ns) (optionItems o) → ok-place (place-of o) × (named-at (place-of o) ≡ o)
-  unfolding optionItems Each absent place-of
+  option-down : (o : Option Name) → Any o × Each (Known ns) (optionItems o) → ok-place (place-of o) × (optional ns (place-of o) ≡ o)
+  unfolding optional optionItems Each absent place-of
   option-down none h = ((omega arith, le-or), refl)
     where
       le-or : (ltb 65535 (length ns) || eqb 65535 65535) ≡ true
@@ -272,8 +269,8 @@ module _ (ns : List Name) (fresh : Fresh [] ns) (small : length ns < 65536) wher
       let k : place ns n < length ns = h .1 .0 in
       ((omega arith, rw (lt-ltb (place ns n) (length ns) k)), rw (ne-eqb (place ns n) 65535 (λ i. omega arith)) (ap some (name-at-place ns n k)))
 
-  option-up : (i : ℕ) → ok-place i → (Any (named-at i) × Each (Known ns) (optionItems (named-at i))) × (two i ≡ code ns (optionItems (named-at i)))
-  unfolding optionItems Each code
+  option-up : (i : ℕ) → ok-place i → (Any (optional ns i) × Each (Known ns) (optionItems (optional ns i))) × (two i ≡ code ns (optionItems (optional ns i)))
+  unfolding optional optionItems Each code
   option-up i h = go (eqb i absent) refl
     where
       go : (b : Bool) → eqb i absent ≡ b → (Any (cond b none (some (nameAt ns i))) × Each (Known ns) (optionItems (cond b none (some (nameAt ns i))))) × (two i ≡ code ns (optionItems (cond b none (some (nameAt ns i)))))
@@ -285,7 +282,7 @@ module _ (ns : List Name) (fresh : Fresh [] ns) (small : length ns < 65536) wher
 
   pub fmtOption : Fmt ns (optionalIn ns) optionItems Any
   unfolding optionalIn optional
-  fmtOption = formatMap (λ s at. guard (λ i. ltb i (length ns) || eqb i absent) at (u16 s at)) two ok-place named-at place-of (λ o. code ns (optionItems o)) (λ o. Any o × Each (Known ns) (optionItems o))
+  fmtOption = formatMap (λ s at. guard (λ i. ltb i (length ns) || eqb i absent) at (u16 s at)) two ok-place (optional ns) place-of (λ o. code ns (optionItems o)) (λ o. Any o × Each (Known ns) (optionItems o))
       (formatGuard u16 two (Below 65536) (λ i. ltb i (length ns) || eqb i absent) format16) option-down option-up
 
   pub fmtNode : Fmt ns (nodeIn ns) nodeItems ShapedNode

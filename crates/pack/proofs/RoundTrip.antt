@@ -1,5 +1,5 @@
 -- The whole pack: what reads as a package is what is written of it, and what is written of a legal package reads as it.
-use Prim.Native.Nat.{ℕ, _+_, _≤_, _<_, _-_}
+use Prim.Native.Nat.{ℕ, _+_, _≤_, _<_}
 use native.Mathlib.Omega.{arith}
 use mathlib.Core.List.{List, [], _∷_, _++_, append-assoc, append-nil}
 use mathlib.Core.Bool.{Bool, true, false, cond}
@@ -154,7 +154,7 @@ read-back p o =
     rw (le-ltb maxBytes (length (encode p)) (o .fits), b .reads, le-ltb (b .to) (length (encode p)) l)
 
 new-is : (p : Package) → newNames p ≡ complete (p .names) (packageItems p) [] .now
-unfolding newNames newOf
+unfolding newNames
 new-is p = ap newOf (complete (p .names) (packageItems p) [] .spells)
 
 items-same : (p : Package) (ns : List Name) → packageItems (withNames p ns) ≡ packageItems p

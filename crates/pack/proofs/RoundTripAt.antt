@@ -17,7 +17,7 @@ use Rattle.wire.specs.Bytes as Bytes
 use Rattle.pack.specs.Names.{Name}
 use Rattle.pack.specs.Syntax.{Drawn, Package, dCons, dNil, eBinary, eCast, eConst, eIf, eIterate, ePre, eStruct, eVar, eWhen, iFold, kOperator, lChar, lInt, oShr, ofActivation, qCons, qNil, tArray, tChar, tNamed, xCons, xNil}
 use Rattle.wire.specs.Lists.{All, Bytes}
-use Rattle.pack.specs.Legal.{Deeper, FormedRegions, FormedStates, Fresh, Legal, Ready, completed, newNames, newOf, withNames}
+use Rattle.pack.specs.Legal.{Deeper, FormedRegions, FormedStates, Fresh, Legal, Ready, completed, newNames, withNames}
 use Rattle.pack.proofs.RoundTrip.{read-back, read-back-completed, read-legal}
 use Rattle.pack.proofs.WrittenBack.{allSmall, legal-ready, small-bytes}
 
@@ -84,7 +84,7 @@ unfolding bare some-package withNames Fresh All Write.packageItems
 bare-ready = record { fresh = tt; names = tt; used = legal-ready some-package some-legal .used; formed = some-legal .formed; fits = fits }
 
 pub bare-names : newNames bare ≡ a ∷ b ∷ c ∷ []
-unfolding newNames newOf bare some-package withNames Limits.maxBytes Limits.maxLevel Limits.maxName Limits.absent Names.eqName Names.member Forms.typeArity Forms.typeFields Forms.typeHead Forms.typeAt Forms.exprArity Forms.flagOf Forms.literalOf Forms.literal Forms.callFields Forms.structFields Forms.whenFields Forms.iterateFields Forms.exprRows Forms.exprFields Forms.exprHead Forms.exprAt Forms.nameAt Forms.plainTypes Forms.typeOver Forms.typeOf Forms.firstType Forms.unOps Forms.binOps Forms.iterKinds Forms.nth Forms.namesAt Forms.exprOver Forms.exprOf Forms.exprsOf Read.nameByte Read.char Read.size Read.name Read.namesAfter Read.nameSection Read.nameIn Read.optional Read.optionalIn Read.namesIn Read.typeIn Read.exprIn Read.portIn Read.portsIn Read.equationIn Read.equationsIn Read.enumIn Read.kindOf Read.nodeIn Read.transitionIn Read.drawnOf Read.regionsOf Read.stateWith Read.regionAt Read.stateAt Read.machineIn Read.branchIn Read.activationIn Read.originKind Read.originIn Read.packAt Read.readingOf Read.read Write.one Write.flagByte Write.each Write.list Write.nameItems Write.optionItems Write.tyItems Write.litBytes Write.unByte Write.binByte Write.iterByte Write.countOf Write.arrays Write.exprItems Write.exprsItems Write.portItems Write.equationItems Write.transitionItems Write.enumItems Write.kindByte Write.nodeItems Write.drawnCount Write.regionCount Write.drawnItems Write.regionItems Write.machineItems Write.branchItems Write.activationItems Write.originByte Write.originItems Write.packageItems Write.enc Write.lookup Write.newIn Write.oldIn Write.spellOne Write.before Write.andThen Write.spell Write.joined Write.encode Answer.bind Answer.mapA Answer.guard Answer.byte Answer.u16 Answer.u32 Answer.u64 Answer.index Answer.below Answer.many Answer.counted Preorder.trees Bytes.bytes Bytes.two
+unfolding newNames bare some-package withNames Limits.maxBytes Limits.maxLevel Limits.maxName Limits.absent Names.eqName Names.member Forms.typeArity Forms.typeFields Forms.typeHead Forms.typeAt Forms.exprArity Forms.flagOf Forms.literalOf Forms.literal Forms.callFields Forms.structFields Forms.whenFields Forms.iterateFields Forms.exprRows Forms.exprFields Forms.exprHead Forms.exprAt Forms.nameAt Forms.plainTypes Forms.typeOver Forms.typeOf Forms.firstType Forms.unOps Forms.binOps Forms.iterKinds Forms.nth Forms.namesAt Forms.exprOver Forms.exprOf Forms.exprsOf Read.nameByte Read.char Read.size Read.name Read.namesAfter Read.nameSection Read.nameIn Read.optional Read.optionalIn Read.namesIn Read.typeIn Read.exprIn Read.portIn Read.portsIn Read.equationIn Read.equationsIn Read.enumIn Read.kindOf Read.nodeIn Read.transitionIn Read.drawnOf Read.regionsOf Read.stateWith Read.regionAt Read.stateAt Read.machineIn Read.branchIn Read.activationIn Read.originKind Read.originIn Read.packAt Read.readingOf Read.read Write.one Write.flagByte Write.each Write.list Write.nameItems Write.optionItems Write.tyItems Write.litBytes Write.unByte Write.binByte Write.iterByte Write.countOf Write.arrays Write.exprItems Write.exprsItems Write.portItems Write.equationItems Write.transitionItems Write.enumItems Write.kindByte Write.nodeItems Write.drawnCount Write.regionCount Write.drawnItems Write.regionItems Write.machineItems Write.branchItems Write.activationItems Write.originByte Write.originItems Write.packageItems Write.enc Write.lookup Write.newIn Write.oldIn Write.spellOne Write.before Write.andThen Write.spell Write.joined Write.encode Answer.bind Answer.mapA Answer.guard Answer.byte Answer.u16 Answer.u32 Answer.u64 Answer.index Answer.below Answer.many Answer.counted Preorder.trees Bytes.bytes Bytes.two
 bare-names = refl
 
 pub bare-back : Read.read (Write.encode bare) ≡ Read.whole (withNames some-package (a ∷ b ∷ c ∷ []))

@@ -31,7 +31,7 @@ unfolding further
 further-own n f h j x l e g = rw (lt-ltb h 4 l) (ap (λ y. 256 + y) (g ∙ ap (λ y. getD n (y / 8) 0) e))
 
 -- from the end on there is nothing
-drop-part : (t : List ℕ) (p b : ℕ) → b ≡ min (0 + p) (length t) → drop b t ≡ drop p t
+pub drop-part : (t : List ℕ) (p b : ℕ) → b ≡ min (0 + p) (length t) → drop b t ≡ drop p t
 drop-part t p b e = ⊎-elim
     (λ (g : length t < p). let z : b ≡ length t = omega arith in rw (z, drop-length, drop-of-length-le t {i = p} (omega arith)))
     (λ (g : p ≤ length t). let z : b ≡ p = omega arith in rw z)

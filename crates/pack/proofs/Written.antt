@@ -17,15 +17,13 @@ use Rattle.pack.specs.Write.{Item, raw, nm, enc, Found, At, Missing, loo
 use Rattle.pack.specs.Table.{textsFrom, tableRoom, seek, blank, tabled}
 use Rattle.pack.specs.Intern.{putEntry, putAdded, putNew, putFound, putItem, render, started, unwritten}
 use Rattle.pack.specs.Outcome.{Outcome, answers, sized, written, packOf, answered}
+use Rattle.pack.specs.Legal.{newOf}
 use Rattle.pack.proofs.TableIndex.{enc-more, length-tabled, seek-tabled, tabled-more, tabled-none, table-enc, texts-tabled}
-use Rattle.pack.proofs.Interns.{buffer-size, entry-enters, entry-over, name-found, name-long, putFound-full, started-blank}
+use Rattle.pack.proofs.Interns.{and-false, buffer-size, entry-enters, entry-over, name-found, name-long, putFound-full, started-blank}
 
 -- the bytes and the new names that are spelt
 abbrev pub bytesOf : Spelt → List ℕ
 bytesOf (spelt b ns) = b
-
-abbrev pub namesOf : Spelt → List Name
-namesOf (spelt b ns) = ns
 
 -- all names are short and all fits: so many bytes and names after those that stand there
 abbrev pub Fits : ℕ → ℕ → List ℕ → Bool → List ℕ → List Name → Type 0
@@ -63,7 +61,7 @@ more-over co cm bs n ns g h =
     entry-over co (textsFrom + cm) bs (tabled ns) n (omega arith) (omega (arith, length-append (enc ns) (length n ∷ n)))
 
 added-reach : (f : Found) (co cm : ℕ) (bs : List ℕ) (n : Name) (b : ℕ) (ns : List Name) → length bs ≤ co → length (enc ns) ≤ cm
-    → Reached (putAdded f b n (st co (textsFrom + cm) bs (tabled ns))) co cm bs true (bytesOf (newIn f b n ns)) (namesOf (newIn f b n ns))
+    → Reached (putAdded f b n (st co (textsFrom + cm) bs (tabled ns))) co cm bs true (bytesOf (newIn f b n ns)) (newOf (newIn f b n ns))
 unfolding putAdded newIn
 added-reach (At k) co cm bs n b ns h g = puts-reach co cm bs (two (b + k)) ns h g
 added-reach (Missing k) co cm bs n b ns h g = ⊎-elim
@@ -77,14 +75,14 @@ unfolding putNew
 putNew-tabled co cm bs n b ns = rw (seek-tabled ns n)
 
 putFound-reach : (f : Found) (co cm : ℕ) (bs : List ℕ) (n : Name) (ns : List Name) → length bs ≤ co → length (enc ns) ≤ cm
-    → Reached (putFound f n (st co (textsFrom + cm) bs (tabled ns))) co cm bs true (bytesOf (oldIn f n ns)) (namesOf (oldIn f n ns))
+    → Reached (putFound f n (st co (textsFrom + cm) bs (tabled ns))) co cm bs true (bytesOf (oldIn f n ns)) (newOf (oldIn f n ns))
 unfolding putFound oldIn
 putFound-reach (At k) co cm bs n ns h g = puts-reach co cm bs (two k) ns h g
 putFound-reach (Missing b) co cm bs n ns h g = rw (putNew-tabled co cm bs n b ns) (added-reach (lookup ns n 0) co cm bs n b ns h g)
 
 -- one item
 one-reach : (olds : List Name) (i : Item) (co cm : ℕ) (bs : List ℕ) (ns : List Name) → length bs ≤ co → length (enc ns) ≤ cm
-    → Reached (putItem (tabled olds) i (st co (textsFrom + cm) bs (tabled ns))) co cm bs (short i) (bytesOf (spellOne olds i ns)) (namesOf (spellOne olds i ns))
+    → Reached (putItem (tabled olds) i (st co (textsFrom + cm) bs (tabled ns))) co cm bs (short i) (bytesOf (spellOne olds i ns)) (newOf (spellOne olds i ns))
 unfolding putItem spellOne short maxName
 one-reach olds (raw xs) co cm bs ns h g = puts-reach co cm bs xs ns h g
 one-reach olds (nm n) co cm bs ns h g = ⊎-elim
@@ -95,43 +93,43 @@ one-reach olds (nm n) co cm bs ns h g = ⊎-elim
     (lt-or-le 255 (length n))
 
 -- names only grow
-newIn-grows : (f : Found) (b : ℕ) (n : Name) (ns : List Name) → length (enc ns) ≤ length (enc (namesOf (newIn f b n ns)))
+newIn-grows : (f : Found) (b : ℕ) (n : Name) (ns : List Name) → length (enc ns) ≤ length (enc (newOf (newIn f b n ns)))
 unfolding newIn
 newIn-grows (At k) b n ns = omega arith
 newIn-grows (Missing k) b n ns = rw enc-more (omega (arith, length-append (enc ns) (length n ∷ n)))
 
-oldIn-grows : (f : Found) (n : Name) (ns : List Name) → length (enc ns) ≤ length (enc (namesOf (oldIn f n ns)))
+oldIn-grows : (f : Found) (n : Name) (ns : List Name) → length (enc ns) ≤ length (enc (newOf (oldIn f n ns)))
 unfolding oldIn
 oldIn-grows (At k) n ns = omega arith
 oldIn-grows (Missing b) n ns = newIn-grows (lookup ns n 0) b n ns
 
-one-grows : (olds : List Name) (i : Item) (ns : List Name) → length (enc ns) ≤ length (enc (namesOf (spellOne olds i ns)))
+one-grows : (olds : List Name) (i : Item) (ns : List Name) → length (enc ns) ≤ length (enc (newOf (spellOne olds i ns)))
 unfolding spellOne
 one-grows olds (raw xs) ns = omega arith
 one-grows olds (nm n) ns = oldIn-grows (lookup olds n 0) n ns
 
 -- what is spelt, item by item
 module _ (k : List Name → Spelt) where
-  then-bytes : (x : Spelt) → bytesOf (andThen x k) ≡ bytesOf x ++ bytesOf (k (namesOf x))
+  then-bytes : (x : Spelt) → bytesOf (andThen x k) ≡ bytesOf x ++ bytesOf (k (newOf x))
   unfolding andThen before
   then-bytes (spelt b ns) = go (k ns)
     where
       go : (y : Spelt) → bytesOf (before b y) ≡ b ++ bytesOf y
       go (spelt c ms) = refl
 
-  then-names : (x : Spelt) → namesOf (andThen x k) ≡ namesOf (k (namesOf x))
+  then-names : (x : Spelt) → newOf (andThen x k) ≡ newOf (k (newOf x))
   unfolding andThen before
   then-names (spelt b ns) = go (k ns)
     where
-      go : (y : Spelt) → namesOf (before b y) ≡ namesOf y
+      go : (y : Spelt) → newOf (before b y) ≡ newOf y
       go (spelt c ms) = refl
 
 module _ (olds : List Name) (i : Item) (is : List Item) (ns : List Name) where
-  spell-bytes : bytesOf (spell olds (i ∷ is) ns) ≡ bytesOf (spellOne olds i ns) ++ bytesOf (spell olds is (namesOf (spellOne olds i ns)))
+  spell-bytes : bytesOf (spell olds (i ∷ is) ns) ≡ bytesOf (spellOne olds i ns) ++ bytesOf (spell olds is (newOf (spellOne olds i ns)))
   unfolding spell
   spell-bytes = then-bytes (λ ms. spell olds is ms) (spellOne olds i ns)
 
-  spell-names : namesOf (spell olds (i ∷ is) ns) ≡ namesOf (spell olds is (namesOf (spellOne olds i ns)))
+  spell-names : newOf (spell olds (i ∷ is) ns) ≡ newOf (spell olds is (newOf (spellOne olds i ns)))
   unfolding spell
   spell-names = then-names (λ ms. spell olds is ms) (spellOne olds i ns)
 
@@ -139,10 +137,10 @@ spell-none : (olds : List Name) (ns : List Name) → spell olds [] ns ≡ spelt 
 unfolding spell
 spell-none olds ns = refl
 
-spell-grows : (olds : List Name) (is : List Item) (ns : List Name) → length (enc ns) ≤ length (enc (namesOf (spell olds is ns)))
+spell-grows : (olds : List Name) (is : List Item) (ns : List Name) → length (enc ns) ≤ length (enc (newOf (spell olds is ns)))
 spell-grows olds [] ns = rw (spell-none olds ns) (omega arith)
 spell-grows olds (i ∷ is) ns =
-    rw (spell-names olds i is ns) (omega (arith, one-grows olds i ns, spell-grows olds is (namesOf (spellOne olds i ns))))
+    rw (spell-names olds i is ns) (omega (arith, one-grows olds i ns, spell-grows olds is (newOf (spellOne olds i ns))))
 
 -- a full writer stays full
 item-full : (old : List ℕ) (i : Item) → putItem old i full ≡ full
@@ -158,10 +156,6 @@ unfolding render
 render-full old [] = refl
 render-full old (i ∷ is) = ap (render old is) (item-full old i) ∙ render-full old is
 
-and-right : (a b : Bool) → b ≡ false → a && b ≡ false
-and-right true b p = p
-and-right false b p = refl
-
 -- what follows one item
 then-reach : (s s′ : State) (co cm : ℕ) (bs b₁ b₂ : List ℕ) (t u : Bool) (ns : List Name) → t ≡ true → s′ ≡ s
     → Reached s co cm (bs ++ b₁) u b₂ ns → Reached s′ co cm bs (t && u) (b₁ ++ b₂) ns
@@ -169,7 +163,7 @@ then-reach s s′ co cm bs b₁ b₂ t u ns p e (inl (o, q)) = inl (
   (rw (p, o .0), omega (arith, o .1, length-append bs b₁, length-append b₁ b₂), o .2),
   e ∙ q ∙ ap (λ (l : List ℕ). st co (textsFrom + cm) l (tabled ns)) (append-assoc bs b₁ b₂),
 )
-then-reach s s′ co cm bs b₁ b₂ t u ns p e (inr (inl o, q)) = inr (inl (and-right t u o), e ∙ q)
+then-reach s s′ co cm bs b₁ b₂ t u ns p e (inr (inl o, q)) = inr (inl (and-false t o), e ∙ q)
 then-reach s s′ co cm bs b₁ b₂ t u ns p e (inr (inr (inl o), q)) = inr (inr (inl (omega (arith, length-append bs b₁, length-append b₁ b₂))), e ∙ q)
 then-reach s s′ co cm bs b₁ b₂ t u ns p e (inr (inr (inr o), q)) = inr (inr (inr o), e ∙ q)
 
@@ -182,12 +176,12 @@ over-reach s co cm bs b₁ b₂ t u ns₁ ns₂ e g (inr (inr o)) = inr (inr (in
 
 -- the items of any package, after any bytes and new names that fit
 pub all-reach : (olds : List Name) (is : List Item) (co cm : ℕ) (bs : List ℕ) (ns : List Name) → length bs ≤ co → length (enc ns) ≤ cm
-    → Reached (render (tabled olds) is (st co (textsFrom + cm) bs (tabled ns))) co cm bs (shorts is) (bytesOf (spell olds is ns)) (namesOf (spell olds is ns))
+    → Reached (render (tabled olds) is (st co (textsFrom + cm) bs (tabled ns))) co cm bs (shorts is) (bytesOf (spell olds is ns)) (newOf (spell olds is ns))
 unfolding render shorts
 all-reach olds [] co cm bs ns h g = rw (spell-none olds ns) (inl ((refl, omega arith, g), rw append-nil))
 all-reach olds (i ∷ is) co cm bs ns h g =
     let b = bytesOf (spellOne olds i ns) in
-    let ms = namesOf (spellOne olds i ns) in
+    let ms = newOf (spellOne olds i ns) in
     let c = bytesOf (spell olds is ms) in
     rw (spell-bytes olds i is ns, spell-names olds i is ns)
     (⊎-elim
@@ -199,19 +193,19 @@ all-reach olds (i ∷ is) co cm bs ns h g =
 
 -- from empty buffers: exactly what is spelt, or full and too large
 pub spelt-reach : (olds : List Name) (is : List Item)
-    → Reached (render (tabled olds) is unwritten) maxBytes maxBytes [] (shorts is) (bytesOf (spell olds is [])) (namesOf (spell olds is []))
+    → Reached (render (tabled olds) is unwritten) maxBytes maxBytes [] (shorts is) (bytesOf (spell olds is [])) (newOf (spell olds is []))
 unfolding enc unwritten
 spelt-reach olds is =
-    subst (λ (t : List ℕ). Reached (render (tabled olds) is (st maxBytes (textsFrom + maxBytes) [] t)) maxBytes maxBytes [] (shorts is) (bytesOf (spell olds is [])) (namesOf (spell olds is [])))
+    subst (λ (t : List ℕ). Reached (render (tabled olds) is (st maxBytes (textsFrom + maxBytes) [] t)) maxBytes maxBytes [] (shorts is) (bytesOf (spell olds is [])) (newOf (spell olds is [])))
     tabled-none
     (all-reach olds is maxBytes maxBytes [] [] zero-le zero-le)
 
 -- the pack by its parts is the pack that is spelt
-joined-is : (olds : List Name) (x : Spelt) → packOf (enc olds) (enc (namesOf x)) (bytesOf x) ≡ joined olds x
+joined-is : (olds : List Name) (x : Spelt) → packOf (enc olds) (enc (newOf x)) (bytesOf x) ≡ joined olds x
 unfolding packOf joined
 joined-is olds (spelt b ns) = rw (table-enc olds, table-enc ns)
 
-joined-length : (olds : List Name) (x : Spelt) → length (joined olds x) ≡ 2 + (length (enc olds) + (length (enc (namesOf x)) + length (bytesOf x)))
+joined-length : (olds : List Name) (x : Spelt) → length (joined olds x) ≡ 2 + (length (enc olds) + (length (enc (newOf x)) + length (bytesOf x)))
 unfolding joined two
 joined-length olds (spelt b ns) = simp length-append (omega arith)
 
@@ -224,7 +218,7 @@ cond-same true x y e = e
 cond-same false x y e = refl
 
 -- what the writer reached, joined, is what writing the package answers
-answered-reach : (room : ℕ) (olds : List Name) (s : State) (sh : Bool) (x : Spelt) → Reached s maxBytes maxBytes [] sh (bytesOf x) (namesOf x)
+answered-reach : (room : ℕ) (olds : List Name) (s : State) (sh : Bool) (x : Spelt) → Reached s maxBytes maxBytes [] sh (bytesOf x) (newOf x)
     → answered room (enc olds) s ≡ cond sh (sized room (joined olds x)) (answers 8 0)
 unfolding answered
 answered-reach room olds s sh x (inl (o, e)) = rw (e, o .0, texts-tabled, joined-is olds x)

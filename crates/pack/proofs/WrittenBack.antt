@@ -1,5 +1,5 @@
 -- What the lowerings take from the round trip: what is written reads back as the package with its table completed.
-use Prim.Native.Nat.{ℕ, _+_, _<_, _-_, zero, suc}
+use Prim.Native.Nat.{ℕ, _+_, _<_, zero, suc}
 use native.Mathlib.Omega.{arith}
 use mathlib.Core.List.{List, [], _∷_, _++_, append-nil}
 use mathlib.Core.Bool.{Bool, true, false, cond, _&&_}
@@ -41,7 +41,7 @@ each-known P ns (nm n ∷ is) a k = (all-known P ns n a (k .0), each-known P ns 
 
 -- a legal package is its own completion
 pub legal-completed : (p : Package) → Legal p → completed p ≡ p
-unfolding completed withNames newNames newOf
+unfolding completed withNames newNames
 legal-completed p o =
     let e : newOf (spell (p .names) (packageItems p) []) ≡ [] = ap newOf (spell-known (p .names) (packageItems p) [] (o .known)) in
     let n : p .names ++ newOf (spell (p .names) (packageItems p) []) ≡ p .names = ap (λ (m : List Name). p .names ++ m) e ∙ append-nil (p .names) in

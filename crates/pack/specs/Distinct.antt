@@ -34,9 +34,17 @@ product key c = half c key * half (c / 4294967296) (key / 4294967296)
 unfoldable pub keyFor : ℕ → Name → ℕ
 keyFor key n = cond (ltb 8 (length n)) (product key (letters (take 8 n))) key
 
--- the way of a name: its hash where it is long or where there is no key, or else the two halves of the product added
+-- the two halves of a number added
+unfoldable pub folded : ℕ → ℕ
+folded h = h / 4294967296 + h % 4294967296
+
+-- the way of a name that is long, or where there is no key: its hash, multiplied with the key where there is one
+unfoldable pub longWay : ℕ → Name → ℕ
+longWay key n = cond (eqb key 0) (hash n) (folded (product key (hash n)))
+
+-- the way of a name
 unfoldable pub way : ℕ → Name → ℕ
-way key n = cond (eqb key 0 || ltb 16 (length n)) (hash n) (product (keyFor key n) (letters n) / 4294967296 + product (keyFor key n) (letters n) % 4294967296)
+way key n = cond (eqb key 0 || ltb 16 (length n)) (longWay key n) (folded (product (keyFor key n) (letters n)))
 
 -- what is kept of a way
 unfoldable pub tag : ℕ → ℕ

@@ -145,7 +145,7 @@ pub record Legal (p : Package) : Type 0 where
   pub fits : length (encode p) ≤ maxBytes
 
 -- the table completed by the names that are new, in order of first use
-unfoldable pub newOf : Spelt → List Name
+abbrev pub newOf : Spelt → List Name
 newOf (spelt b ns) = ns
 
 -- the names that a package uses and its table lacks

@@ -41,19 +41,19 @@ namesAfter s t (suc n) at = bind (guard (λ x. not (member x t)) at (name s at))
 unfoldable pub nameSection : List ℕ → ℕ → Answer (List Name)
 nameSection s at = bind (u16 s at) λ n p. namesAfter s [] n p
 
+-- a name by its index, or none, which is written 65535
+unfoldable pub optional : List Name → ℕ → Option Name
+optional ns i = cond (eqb i absent) none (some (nameAt ns i))
+
 -- what holds names holds indexes of the name section
 module _ (ns : List Name) (s : List ℕ) where
   -- a name, by its index
   unfoldable pub nameIn : ℕ → Answer Name
   nameIn at = mapA (nameAt ns) (index (length ns) s at)
 
-  -- no name is written 65535
-  unfoldable pub optional : ℕ → Option Name
-  optional i = cond (eqb i absent) none (some (nameAt ns i))
-
   -- a name or none: a machine's owner, a state's refinement
   unfoldable pub optionalIn : ℕ → Answer (Option Name)
-  optionalIn at = mapA optional (guard (λ i. ltb i (length ns) || eqb i absent) at (u16 s at))
+  optionalIn at = mapA (optional ns) (guard (λ i. ltb i (length ns) || eqb i absent) at (u16 s at))
 
   -- names after their count
   unfoldable pub namesIn : ℕ → Answer (List Name)

@@ -27,7 +27,7 @@ table t = tableF (length t) t
 -- and two more belong to each name. From a head on the names are a binary tree that branches by the bits of the hash, so that names
 -- are found in a few steps even where many share a head.
 
--- the names that have rows: as many as a pack of 65,536 bytes can have that are told apart
+-- the names that have rows: by counting, 65,536 bytes hold no more that are different. That is not proved: with more there is no index
 unfoldable pub rowsMost : ℕ
 rowsMost = 17408
 

@@ -2,7 +2,7 @@
 use mathlib.Core.List.{List, []}
 use mathlib.Core.Bool.{cond}
 use mathlib.Core.Path.{_≡_}
-use Prim.Native.Nat.{ℕ, _+_, _*_, _≤_}
+use Prim.Native.Nat.{ℕ}
 use lib.ListN.{length, replicate}
 use lib.Dec.{ltb}
 use Rattle.wire.specs.declared.answer.Skipped.{Skipped}
@@ -33,23 +33,22 @@ judgedOf sk.Early n = vd.EndsEarly
 judgedOf (sk.Illegal o) n = vd.Illegal o
 judgedOf (sk.Deep o) n = vd.Deep o
 
--- the number and the value of a verdict on n bytes, as the C interface returns them
-unfoldable pub codeOf : Verdict → ℕ → ℕ
-codeOf vd.Whole n = 0 * 4294967296 + n
-codeOf vd.TooLong n = 1 * 4294967296 + 65536
-codeOf vd.EndsEarly n = 2 * 4294967296 + n
-codeOf (vd.Illegal o) n = 3 * 4294967296 + o
-codeOf (vd.Deep o) n = 4 * 4294967296 + o
-codeOf (vd.After o) n = 5 * 4294967296 + o
+-- the table's number for a verdict, and its value where there are n bytes
+unfoldable pub numberFor : Verdict → ℕ
+numberFor vd.Whole = 0
+numberFor vd.TooLong = 1
+numberFor vd.EndsEarly = 2
+numberFor (vd.Illegal o) = 3
+numberFor (vd.Deep o) = 4
+numberFor (vd.After o) = 5
 
--- what a verdict on n bytes tells is no number over 65,536
-unfoldable pub Small : Verdict → ℕ → Type 0
-Small vd.Whole n = n ≤ 65536
-Small vd.TooLong n = 0 ≤ n
-Small vd.EndsEarly n = n ≤ 65536
-Small (vd.Illegal o) n = o ≤ 65536
-Small (vd.Deep o) n = o ≤ 65536
-Small (vd.After o) n = o ≤ 65536
+unfoldable pub valueFor : Verdict → ℕ → ℕ
+valueFor vd.Whole n = n
+valueFor vd.TooLong n = maxBytes
+valueFor vd.EndsEarly n = n
+valueFor (vd.Illegal o) n = o
+valueFor (vd.Deep o) n = o
+valueFor (vd.After o) n = o
 
 -- where reading stands, or 0
 unfoldable pub offsetOf : Skipped → ℕ

@@ -1,4 +1,4 @@
-// Charts: a state reads its regions and a region reads its states, each call one level nearer the limit.
+// Charts: reading goes from a state to its regions and back to states, with one level less at each region.
 use crate::parts::then_equations;
 use crate::parts::then_name;
 use crate::parts::then_optional;

@@ -1,5 +1,6 @@
 // The check: what a byte slice is as a pack, and where its sections stand.
 use crate::cursor::opening;
+use crate::finish::Outcome;
 use crate::record::Pack;
 use crate::sections::then_activations;
 use crate::sections::then_enums;
@@ -15,7 +16,7 @@ ghost use lib.ListN.{length};
 ghost use Rattle.wire.specs.Code.{skip};
 ghost use Rattle.pack.specs.Read.{packAt, read};
 ghost use Rattle.pack.specs.Outcome.{check as checked, returned};
-ghost use Rattle.pack.specs.Verdict.{verdictOf, judgedOf, codeOf, nameCount, offsetOf, recordOf, sectionsOf, Small};
+ghost use Rattle.pack.specs.Verdict.{verdictOf, judgedOf, nameCount, numberFor, offsetOf, recordOf, sectionsOf, valueFor};
 
 // What a byte slice is as a pack: the table's answers 1 to 5 with their offsets, or a whole pack.
 pub enum Verdict {
@@ -114,27 +115,45 @@ pub fn read_pack(s: &[u8]) -> Opened
     read_sections(s)
 }
 
-// The number times 2^32 plus the value.
-fn code(v: Verdict, len: usize) -> u64
-    requires { ⌜ Small v len ⌝ }
-    ensures { λ r. ⌜ r ≡ codeOf v len ⌝ }
+// The table's number and value for a verdict on len bytes.
+pub fn answer(v: Verdict, len: usize) -> Outcome
+    ensures { λ r. ⌜ (r .number ≡ numberFor v) × (r .value ≡ valueFor v len) ⌝ }
 {
     match v {
-        Verdict::Whole => len as u64,
-        Verdict::TooLong => 0x1_0000_0000 + 65536,
-        Verdict::EndsEarly => 0x2_0000_0000 + (len as u64),
-        Verdict::Illegal(o) => 0x3_0000_0000 + (o as u64),
-        Verdict::Deep(o) => 0x4_0000_0000 + (o as u64),
-        Verdict::After(o) => 0x5_0000_0000 + (o as u64),
+        Verdict::Whole => Outcome {
+            number: 0,
+            value: len as u64,
+        },
+        Verdict::TooLong => Outcome {
+            number: 1,
+            value: Pack::BYTES as u64,
+        },
+        Verdict::EndsEarly => Outcome {
+            number: 2,
+            value: len as u64,
+        },
+        Verdict::Illegal(o) => Outcome {
+            number: 3,
+            value: o as u64,
+        },
+        Verdict::Deep(o) => Outcome {
+            number: 4,
+            value: o as u64,
+        },
+        Verdict::After(o) => Outcome {
+            number: 5,
+            value: o as u64,
+        },
     }
 }
 
-// Checks a pack.
+// Checks a pack: the number times 2^32 plus the value.
 #[no_mangle]
 pub extern "C" fn ol_pack_check(pack: &[u8]) -> u64
     ensures { λ r. ⌜ r ≡ returned (checked (now (pack .entry))) ⌝ }
 {
     let opened = read_pack(pack);
     let v = opened.verdict;
-    code(v, pack.len())
+    let r = answer(v, pack.len());
+    r.number * 0x1_0000_0000 + r.value
 }

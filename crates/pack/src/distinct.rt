@@ -7,7 +7,7 @@ use crate::siphash::quad;
 ghost use mathlib.Core.Path.{_≡_};
 ghost use Prim.Native.Nat.{_+_, _<_};
 ghost use lib.ListN.{length, getD};
-ghost use Rattle.pack.specs.Distinct.{letters as lettersOf, product as productOf, keyFor, way as wayOf, tag as tagOf, first as firstOf, after as afterOf, isOf, freeFrom, freeOn, telling as tellingIn, gets, tagged, entered};
+ghost use Rattle.pack.specs.Distinct.{letters as lettersOf, product as productOf, keyFor, folded as foldedOf, longWay, way as wayOf, tag as tagOf, first as firstOf, after as afterOf, isOf, freeFrom, freeOn, telling as tellingIn, gets, tagged, entered};
 
 // How many cells there are.
 pub const CELLS: usize = 32768;
@@ -44,15 +44,32 @@ fn key_for(key: usize, n: &[u8]) -> usize
     key
 }
 
+// The two halves of h added.
+fn folded(h: usize) -> usize
+    ensures { λ r. ⌜ r ≡ foldedOf h ⌝ }
+{
+    h / 4294967296 + h % 4294967296
+}
+
+// The way of a name that is long, or where there is no key.
+fn long_way(key: usize, n: &[u8]) -> usize
+    ensures { λ r. ⌜ r ≡ longWay key (now (n .entry)) ⌝ }
+{
+    let h = hash(n);
+    if key == 0 {
+        return h;
+    }
+    folded(product(key, h))
+}
+
 // The way of a name.
 pub fn way(key: usize, n: &[u8]) -> usize
     ensures { λ r. ⌜ r ≡ wayOf key (now (n .entry)) ⌝ }
 {
     if (key == 0) | (16 < n.len()) {
-        return hash(n);
+        return long_way(key, n);
     }
-    let h = product(key_for(key, n), letters(n));
-    h / 4294967296 + h % 4294967296
+    folded(product(key_for(key, n), letters(n)))
 }
 
 // What is kept of a way.

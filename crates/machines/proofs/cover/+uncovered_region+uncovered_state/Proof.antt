@@ -17,7 +17,7 @@ use Rattle.machines.proofs.cover.uncovered_state.Reads as uncovered-sta
 use Rattle.machines.proofs.cover.uncovered_state.Kinds as uncovered-state-kinds
 use Rattle.machines.proofs.cover.+uncovered_region+uncovered_state.Lts-uncovered_state as uncovered-state-lts
 use Rattle.machines.proofs.sure.first_some.Reads as first-some-reads
-use Rattle.machines.proofs.cover.own_told.Reads as own-told-reads
+use Rattle.machines.proofs.told.own_told.Reads as own-told-reads
 use Rattle.machines.proofs.rows.first.Reads as first-reads
 use Rattle.machines.proofs.rows.inner.Reads as inner-reads
 use Rattle.machines.proofs.rows.word.Reads as word-reads

@@ -24,8 +24,8 @@ same-length-3 c = search needs
 returns-2 : tie.Need-returns-2
 returns-2 c = (c .before .before .before .uncovered-region .ensures .0, (c .before .before .before .uncovered-region .ensures .1, c .before .before .before .before .before .before .before .before .before .before .before .before .before .pre .3))
 
-note-given-requires : tie.Need-note-given-requires
-note-given-requires c κs = search needs
+set-byte-requires : tie.Need-set-byte-requires
+set-byte-requires c κs = search needs
 
 same-length-4 : tie.Need-same-length-4
 same-length-4 c = search needs
@@ -34,7 +34,7 @@ same-length-5 : tie.Need-same-length-5
 same-length-5 c = search needs
 
 returns-3 : tie.Need-returns-3
-returns-3 c = (given-zero _ _ _ _ _ (c .before .before .before .before .before .before .before .uncovered-region .ensures .0) (c .before .before .before .before .if2 .left), (c .before .before .before .before .before .before .before .uncovered-region .ensures .1, given-more _ _ _ _ _ _ _ (c .before .before .before .before .before .before .before .before .before .before .before .before .before .before .before .before .before .pre .3) (c .before .before .before .before .before .before .before .uncovered-region .ensures .0) (c .before .before .before .before .if2 .left) (c .before .before .note-given .ensures)))
+returns-3 c = (given-zero _ _ _ _ _ (c .before .before .before .before .before .before .before .uncovered-region .ensures .0) (c .before .before .before .before .if2 .left), (c .before .before .before .before .before .before .before .uncovered-region .ensures .1, given-more _ _ _ _ _ _ _ (c .before .before .before .before .before .before .before .before .before .before .before .before .before .before .before .before .before .pre .3) (c .before .before .before .before .before .before .before .uncovered-region .ensures .0) (c .before .before .before .before .if2 .left) (c .before .before .set-byte .ensures)))
 
 pub uncovered-output-spec : {M : Type 1} → statement M
 uncovered-output-spec =
@@ -47,7 +47,7 @@ uncovered-output-spec =
     same-length-2
     same-length-3
     returns-2
-    note-given-requires
+    set-byte-requires
     same-length-4
     same-length-5
     returns-3)

@@ -17,7 +17,7 @@ use Rattle.machines.proofs.lay.+lay_region+lay_state.Lts-lay_region as 
 use Rattle.machines.proofs.lay.lay_state.Reads as lay-state
 use Rattle.machines.proofs.lay.lay_state.Kinds as lay-state-kinds
 use Rattle.machines.proofs.lay.+lay_region+lay_state.Lts-lay_state as lay-state-lts
-use Rattle.machines.proofs.cover.both.Reads as both-reads
+use Rattle.machines.proofs.sure.both.Reads as both-reads
 use Rattle.machines.proofs.lay.close_state.Reads as close-state-reads
 use Rattle.machines.proofs.opening.machine_as.Reads as machine-as-reads
 use Rattle.machines.proofs.lay.moved.Reads as moved-reads

@@ -22,9 +22,9 @@ use Rattle.machines.proofs.rows.inner.Reads as inner-reads
 use Rattle.machines.proofs.rows.word.Reads as word-reads
 use Rattle.machines.proofs.table.entry.Reads as entry-reads
 use Rattle.machines.proofs.valid.check_moves.Reads as check-moves-reads
-use Rattle.machines.proofs.valid.foresee.Reads as foresee-reads
+use Rattle.machines.proofs.foreseen.foresee.Reads as foresee-reads
 use Rattle.machines.proofs.valid.has_state.Reads as has-state-reads
-use Rattle.machines.proofs.valid.onward.Reads as onward-reads
+use Rattle.machines.proofs.foreseen.onward.Reads as onward-reads
 use Rattle.machines.proofs.valid.+check_region+check_state.{statement}
 use Rattle.machines.proofs.valid.+check_region+check_state.Tie.{close}
 

@@ -1,8 +1,8 @@
 use mathlib.Core.Path.{refl}
 use Rattle.machines.proofs.CoverLaws.{gives-is}
 use borrow.Author.Needs.{needs}
-use Rattle.machines.proofs.cover.gives.Statement.{statement}
-use Rattle.machines.proofs.cover.gives.Tie as tie
+use Rattle.machines.proofs.told.gives.Statement.{statement}
+use Rattle.machines.proofs.told.gives.Tie as tie
 
 number-requires : tie.Need-number-requires
 number-requires c κs = search needs

@@ -1,8 +1,8 @@
 use native.Mathlib.Omega.{arith}
 use Rattle.machines.proofs.ToldLaws.{rest-before, rest-gives, rest-less}
 use borrow.Author.Needs.{needs}
-use Rattle.machines.proofs.cover.own_near.Statement.{statement}
-use Rattle.machines.proofs.cover.own_near.Tie as tie
+use Rattle.machines.proofs.told.own_near.Statement.{statement}
+use Rattle.machines.proofs.told.own_near.Tie as tie
 
 mul-b : tie.Need-mul-b
 mul-b c = search needs

@@ -2,8 +2,8 @@ use native.Mathlib.Omega.{arith}
 use Rattle.machines.proofs.EndLaws.{strays-kept}
 use Rattle.machines.proofs.ForeseenRows.{all-foreseen, unknown-foreseen}
 use borrow.Author.Needs.{needs}
-use Rattle.machines.proofs.valid.foresee.Statement.{statement}
-use Rattle.machines.proofs.valid.foresee.Tie as tie
+use Rattle.machines.proofs.foreseen.foresee.Statement.{statement}
+use Rattle.machines.proofs.foreseen.foresee.Tie as tie
 
 word-requires : tie.Need-word-requires
 word-requires c κs = search needs

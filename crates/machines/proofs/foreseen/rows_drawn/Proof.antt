@@ -5,8 +5,8 @@ use Rattle.pack.specs.Names.{Name}
 use Rattle.machines.specs.Valid.{rowsDrawn}
 use Rattle.machines.proofs.ForeseenRows.{rows-drawn-done, rows-drawn-stop, rows-drawn-went}
 use borrow.Author.Needs.{needs}
-use Rattle.machines.proofs.valid.rows_drawn.Statement.{statement}
-use Rattle.machines.proofs.valid.rows_drawn.Tie as tie
+use Rattle.machines.proofs.foreseen.rows_drawn.Statement.{statement}
+use Rattle.machines.proofs.foreseen.rows_drawn.Tie as tie
 
 abbrev Inv-loop : tie.InvT-loop
 Inv-loop s names ends t count from f n₀ p₀ at₀ n p at = (ns : List Name) → length ns ≡ names → rowsDrawn ns s t n p at ≡ rowsDrawn ns s t count from f

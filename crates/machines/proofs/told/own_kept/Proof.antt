@@ -1,8 +1,8 @@
 use mathlib.Core.Path.{sym, _∙_}
 use Rattle.machines.proofs.ToldLaws.{rest-more, told-before, told-more}
 use borrow.Author.Needs.{needs}
-use Rattle.machines.proofs.cover.own_kept.Statement.{statement}
-use Rattle.machines.proofs.cover.own_kept.Tie as tie
+use Rattle.machines.proofs.told.own_kept.Statement.{statement}
+use Rattle.machines.proofs.told.own_kept.Tie as tie
 
 add-b : tie.Need-add-b
 add-b c = search needs

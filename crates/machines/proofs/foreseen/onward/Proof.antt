@@ -1,7 +1,7 @@
 use Rattle.machines.proofs.ForeseenRows.{onward-none, onward-some}
 use borrow.Author.Needs.{needs}
-use Rattle.machines.proofs.valid.onward.Statement.{statement}
-use Rattle.machines.proofs.valid.onward.Tie as tie
+use Rattle.machines.proofs.foreseen.onward.Statement.{statement}
+use Rattle.machines.proofs.foreseen.onward.Tie as tie
 
 nothing-known-requires : tie.Need-nothing-known-requires
 nothing-known-requires c κs = search needs

@@ -1,7 +1,7 @@
 use Rattle.machines.proofs.ToldLaws.{rest-far, rest-late, rest-many, rest-put}
 use borrow.Author.Needs.{needs}
-use Rattle.machines.proofs.cover.put_rest.Statement.{statement}
-use Rattle.machines.proofs.cover.put_rest.Tie as tie
+use Rattle.machines.proofs.told.put_rest.Statement.{statement}
+use Rattle.machines.proofs.told.put_rest.Tie as tie
 
 returns : tie.Need-returns
 returns c = rest-far _ _ _ _ (c .if1 .taken)

@@ -9,8 +9,8 @@ use Rattle.machines.specs.Covers.{givesT, tells}
 use Rattle.machines.proofs.CoverLaws.{own-is, tells-done, tells-found, tells-went}
 use Rattle.machines.specs.Told.{RestOf}
 use Rattle.machines.proofs.ToldLaws.{rest-all, rest-less, rest-none}
-use Rattle.machines.proofs.cover.own.Statement.{statement}
-use Rattle.machines.proofs.cover.own.Tie as tie
+use Rattle.machines.proofs.told.own.Statement.{statement}
+use Rattle.machines.proofs.told.own.Tie as tie
 
 abbrev Inv-loop : tie.InvT-loop
 Inv-loop s names ends out at n₀ p₀ n p = ((ns : List Name) → length ns ≡ names → tells (givesT ns s out) _||_ n p false .yes ≡ tells (givesT ns s out) _||_ n₀ p₀ false .yes) × RestOf s names at n p

@@ -1,7 +1,7 @@
 use Rattle.machines.proofs.ToldLaws.{mark-given, mark-not}
 use borrow.Author.Needs.{needs}
-use Rattle.machines.proofs.cover.mark.Statement.{statement}
-use Rattle.machines.proofs.cover.mark.Tie as tie
+use Rattle.machines.proofs.told.mark.Statement.{statement}
+use Rattle.machines.proofs.told.mark.Tie as tie
 
 mul-result : tie.Need-mul-result
 mul-result c = search needs

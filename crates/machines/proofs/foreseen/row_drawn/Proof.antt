@@ -1,7 +1,7 @@
 use Rattle.machines.proofs.ForeseenRows.{row-drawn-is, row-drawn-not}
 use borrow.Author.Needs.{needs}
-use Rattle.machines.proofs.valid.row_drawn.Statement.{statement}
-use Rattle.machines.proofs.valid.row_drawn.Tie as tie
+use Rattle.machines.proofs.foreseen.row_drawn.Statement.{statement}
+use Rattle.machines.proofs.foreseen.row_drawn.Tie as tie
 
 entry-requires : tie.Need-entry-requires
 entry-requires c κs = search needs
