@@ -290,7 +290,8 @@ fn round([a, b, c, d]: [u64; 4]) -> [u64; 4] {
 }
 
 /// The number of a name in the library. In a table of names the lowest `HEAD_BITS` choose a tree, the others the way
-/// down; where names are told apart as they are read (specs/Distinct), the lowest 15 choose the first cell.
+/// down; where names are told apart as they are read (specs/Distinct) and there is no key, the lowest 14 choose the
+/// first cell.
 pub fn index_number(name: &[u8]) -> u64 {
     let quad = |at: usize| name[at..].iter().take(4).rev().fold(0, |x, byte| x << 8 | u64::from(*byte));
     let mixed = |[a, b, c, d]: [u64; 4], x: usize, y: usize| {

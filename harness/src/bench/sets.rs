@@ -55,6 +55,11 @@ pub fn worst(h: Hostile) -> Set {
 pub fn check() -> Vec<Set> {
     let one = |name, p: Package| Set { name, size: Size::Worst, packs: vec![encode_any(&p).0] };
     let mixed = || special::mixed_names(&mut Rng::new(1), MAX_PACK);
+    let crowd = |stem| special::names_of(MAX_PACK, special::crowded(stem, 15));
+    let mixed_crowd = |stem| {
+        let short = (63..6_000).map(special::short_name);
+        special::names_of(MAX_PACK, short.chain(special::crowded(stem, 15)))
+    };
     let padded = |mut p: Package| {
         special::pad(&mut p, MAX_PACK);
         p
@@ -64,7 +69,11 @@ pub fn check() -> Vec<Set> {
         one("short names, mixed", mixed()),
         one("short names, last repeated", special::repeated(mixed(), mixed().old - 1)),
         one("names of five letters, 16 bits alike", special::names_of(MAX_PACK, special::crowded("", 16))),
-        one("names of nine letters, 15 bits alike", special::names_of(MAX_PACK, special::crowded("door", 15))),
+        one("names of nine letters, 15 bits alike", crowd("door")),
+        one("names of 16 letters, 15 bits alike", crowd("strongrooms")),
+        one("names of 17 letters, 15 bits alike", crowd("strongrooms_")),
+        one("names of 60 letters, 15 bits alike", crowd("strongroom_of_the_north_wing_below_the_hall_and_the_sta")),
+        one("short names, then 17 letters, 15 bits alike", mixed_crowd("strongrooms_")),
         one("long names all alike", special::alike_names(MAX_PACK)),
         one("long names, last repeated", special::repeated(special::alike_names(MAX_PACK), 254)),
         one("long names of two stems", special::stem_names(MAX_PACK, 2)),
