@@ -9,6 +9,7 @@ ghost use Rattle.wire.specs.declared.answer.Skipped.{Skipped};
 ghost use Rattle.wire.specs.Answer.{byte, u16, u32, u64, index, below};
 ghost use Rattle.wire.specs.Code.{readOf, skip, next, onward, listed, rep};
 
+// A byte.
 pub fn read_byte(s: &[u8], at: usize) -> Read
     ensures { λ r. ⌜ r ≡ readOf (byte (now (s .entry)) at) ⌝ }
 {
@@ -22,6 +23,7 @@ pub fn read_byte(s: &[u8], at: usize) -> Read
     }
 }
 
+// A number of 16 bits.
 pub fn read_u16(s: &[u8], at: usize) -> Read
     ensures { λ r. ⌜ r ≡ readOf (u16 (now (s .entry)) at) ⌝ }
 {
@@ -54,6 +56,7 @@ pub fn read_index(s: &[u8], names: usize, at: usize) -> Read
     checked(read_u16(s, at), names, at)
 }
 
+// A number of 32 bits.
 pub fn read_u32(s: &[u8], at: usize) -> Read
     ensures { λ r. ⌜ r ≡ readOf (u32 (now (s .entry)) at) ⌝ }
 {
@@ -79,6 +82,7 @@ pub fn read_u32(s: &[u8], at: usize) -> Read
     }
 }
 
+// A number of 64 bits, passed over.
 pub fn skip_u64(s: &[u8], at: usize) -> Skipped
     ensures { λ r. ⌜ r ≡ skip (u64 (now (s .entry)) at) ⌝ }
 {
@@ -123,6 +127,7 @@ pub struct Count {
     pub at: Skipped,
 }
 
+// A count from where reading stands, 0 where reading stopped.
 pub fn then_count(s: &[u8], from: Skipped) -> Count
     ensures { λ r. ⌜ ((k : ℕ → Skipped) → next (r .at) (rep k (r .left)) ≡ listed (now (s .entry)) k from) ⌝ }
 {
