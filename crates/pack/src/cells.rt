@@ -4,6 +4,7 @@ ghost use mathlib.Core.Path.{_≡_};
 ghost use Prim.Native.Nat.{_%_, _<_};
 ghost use lib.ListN.{getD, set};
 
+// The byte at i.
 pub fn byte_at(t: &[u8], i: usize) -> usize
     ensures { λ r. ⌜ (r ≡ getD (now (t .entry)) i 0) × (r < 256) ⌝ }
 {
@@ -13,6 +14,7 @@ pub fn byte_at(t: &[u8], i: usize) -> usize
     0
 }
 
+// Sets the byte at i to v.
 pub fn set_byte(t: &mut [u8], i: usize, v: u8)
     ensures { λ _. ⌜ now (t .exit) ≡ set (now (t .entry)) i v ⌝ }
 {
@@ -21,12 +23,14 @@ pub fn set_byte(t: &mut [u8], i: usize, v: u8)
     }
 }
 
+// The word at i.
 pub fn cell(t: &[u16], i: usize) -> usize
     ensures { λ r. ⌜ r ≡ getD (now (t .entry)) i 0 ⌝ }
 {
     if i < t.len() { t[i] as usize } else { 0 }
 }
 
+// Sets the word at i to v, by 16 bits.
 pub fn put_cell(t: &mut [u16], i: usize, v: usize)
     ensures { λ _. ⌜ now (t .exit) ≡ set (now (t .entry)) i (v % 65536) ⌝ }
 {

@@ -52,6 +52,7 @@ pub fn skip_indexes(s: &[u8], names: usize, count: usize, at: usize) -> Skipped
     Skipped::To(p)
 }
 
+// A literal: its tag, then its value.
 fn skip_literal(s: &[u8], at: usize) -> Skipped
     ensures { λ r. ⌜ r ≡ skip (literal (now (s .entry)) at) ⌝ }
 {

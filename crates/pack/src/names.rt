@@ -98,6 +98,7 @@ fn name_bytes(n: &[u8]) -> bool
     by_blocks(n)
 }
 
+// A byte of a name.
 pub fn skip_char(s: &[u8], at: usize) -> Skipped
     ensures { λ r. ⌜ r ≡ skip (char (now (s .entry)) at) ⌝ }
 {
@@ -112,6 +113,7 @@ pub fn skip_char(s: &[u8], at: usize) -> Skipped
     }
 }
 
+// A name's length byte, which may not be 0.
 pub fn read_size(s: &[u8], at: usize) -> Read
     ensures { λ r. ⌜ r ≡ readOf (size (now (s .entry)) at) ⌝ }
 {

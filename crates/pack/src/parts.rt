@@ -45,6 +45,7 @@ fn read_optional(s: &[u8], names: usize, at: usize) -> Read
     Read::Illegal(at)
 }
 
+// The same, from where reading stands.
 pub fn then_optional(s: &[u8], names: usize, from: Skipped) -> Skipped
     ensures { λ r. ⌜ ((ns : List Name) → length ns ≡ names → r ≡ onward (optionalIn ns (now (s .entry))) from) ⌝ }
 {
@@ -68,6 +69,7 @@ pub fn then_names(s: &[u8], names: usize, from: Skipped) -> Skipped
     r
 }
 
+// A type.
 pub fn then_type(s: &[u8], names: usize, from: Skipped) -> Skipped
     requires { ⌜ length (now s) ≤ 65536 ⌝ }
     ensures { λ r. ⌜ ((ns : List Name) → length ns ≡ names → r ≡ onward (typeIn ns (now (s .entry))) from) ⌝ }
@@ -78,6 +80,7 @@ pub fn then_type(s: &[u8], names: usize, from: Skipped) -> Skipped
     skip_type(s, names, at)
 }
 
+// An expression.
 pub fn then_expr(s: &[u8], names: usize, from: Skipped) -> Skipped
     requires { ⌜ length (now s) ≤ 65536 ⌝ }
     ensures { λ r. ⌜ ((ns : List Name) → length ns ≡ names → r ≡ onward (exprIn ns (now (s .entry))) from) ⌝ }

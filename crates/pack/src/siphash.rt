@@ -38,6 +38,7 @@ fn half_round(h: Lanes, j: u32, k: u32) -> Lanes
     }
 }
 
+// A round of SipHash: two halves.
 fn round(h: Lanes) -> Lanes
     ensures { λ r. ⌜ r ≡ rounded h ⌝ }
 {

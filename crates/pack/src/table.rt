@@ -46,6 +46,7 @@ fn word(t: &[u8], i: usize) -> usize
     byte_at(t, i) + 256 * byte_at(t, i + 1)
 }
 
+// Sets 16 bits of t to v.
 fn put_word(t: &mut [u8], i: usize, v: usize)
     requires { ⌜ i < 1000000 ⌝ }
     ensures { λ _. ⌜ now (t .exit) ≡ putWord (now (t .entry)) i v ⌝ }

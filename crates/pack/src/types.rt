@@ -25,6 +25,7 @@ pub fn type_fields(s: &[u8], names: usize, tag: usize, at: usize) -> Read
     }
 }
 
+// A type's tag and fields: how many types stand under it.
 pub fn type_head(s: &[u8], names: usize, at: usize) -> Read
     ensures { λ r. ⌜ r ≡ readOf (typeMore names (now (s .entry)) at) ⌝ }
 {
