@@ -99,6 +99,7 @@ module _ (ns : List Name) (s : List ℕ) where
     unfoldable pub bringsEquationsT : ℕ → ℕ → ℕ
     bringsEquationsT k i = cond (eqb (getD ats i 0) k) (equationCountT (getD mats i 0) (getD regs i 0)) 0
 
+    -- how many locals it brings there
     unfoldable pub bringsLocalsT : ℕ → ℕ → ℕ
     bringsLocalsT k i = cond (eqb (getD ats i 0) k) (localCountT (getD mats i 0) (getD regs i 0)) 0
 
@@ -122,6 +123,7 @@ module _ (ns : List Name) (s : List ℕ) where
     unfoldable pub turnedT : ℕ → ℕ → Counted → ℕ → ℕ → Counted
     turnedT count from d k i = cond (eqb (d .node) k) d (counted k (beforeT count from k i))
 
+    -- the same by the tables: where the machine has no owner, d stays
     unfoldable pub countedT : ℕ → ℕ → Counted → ℕ → Counted
     countedT count from d i = cond (eqb (ownedT s mats i) 0) d (turnedT count from d (getD ats i 0) i)
 

@@ -13,9 +13,11 @@ use Rattle.machines.specs.Stands.{endOf}
 use Rattle.machines.specs.Sure.{firstSome, numberIn, with}
 use Rattle.machines.specs.Emits.{lettersAt}
 
+-- an answer, yes or no, and the offset after what was asked
 abbrev pub told : Bool → ℕ → Told
 told b q = record { yes = b; next = q }
 
+-- what is made of an answer and the offset after it
 unfoldable pub asked : {A : Type 0} → Told → (Bool → ℕ → A) → A
 asked x k = k (x .yes) (x .next)
 

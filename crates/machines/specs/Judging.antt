@@ -38,9 +38,11 @@ calledAt t q x = record { letter = getD t (q + 2) 0; letters = getD t (q + 3) 0;
 unfoldable pub againCalled : List ℕ → ℕ → Called
 againCalled lets d = cond (leb 4294967296 d) noName (record { letter = d + 1; letters = getD lets d 0; name = 65535 })
 
+-- a machine refused for the kind k, with the names a and b after its own
 abbrev pub refusedBy : ℕ → Called → Called → Judged
 refusedBy k a b = record { kind = k; regions = 0; second = a; third = b }
 
+-- a machine accepted with n regions
 abbrev pub acceptedWith : ℕ → Judged
 acceptedWith n = record { kind = 0; regions = n; second = noName; third = noName }
 
@@ -52,6 +54,7 @@ module _ (ns : List Name) (s t : List ℕ) where
       cond (eqb (uncoveredT ns s t (numberIn s p .value) 8 0) 0) (outputsJ regions n (endOf (portIn ns s p)))
       (refusedBy 4 (named (numberIn s p .value)) (stateCalled t (uncoveredT ns s t (numberIn s p .value) 8 0)))
 
+  -- the outputs whose count stands at `at`
   unfoldable pub outputsAt : ℕ → ℕ → Judged
   outputsAt at regions = with (numberIn s at) λ n p. outputsJ regions n p
 
@@ -76,6 +79,7 @@ module _ (ns : List Name) (s spots to : List ℕ) where
   walkedJ (wk.Unknown i m) j = refusedBy 6 (named i) (named m)
   walkedJ wk.Large j = refusedBy 17 noName noName
 
+  -- and the tables: b where resolving came through, d where it stopped
   unfoldable pub walkedB : Walked → Board → Board → Board
   walkedB (wk.Went q c a) b d = b
   walkedB (wk.Cycle n) b d = d

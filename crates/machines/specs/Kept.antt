@@ -63,5 +63,6 @@ pastIn t p = getD t (stateRow p + 3) 0
 unfoldable pub regionsIn : List ℕ → ℕ → ℕ
 regionsIn t p = cond (eqb (getD t (stateRow p) 0) p) (getD t (stateRow p + 4) 0) 0
 
+-- the row of the state at p, written: its head's longest name l, its transitions at m, its end o, its regions' count at r
 unfoldable pub statePut : List ℕ → ℕ → ℕ → ℕ → ℕ → ℕ → List ℕ
 statePut t p l m o r = set (set (set (set (set t (stateRow p) p) (stateRow p + 1) l) (stateRow p + 2) m) (stateRow p + 3) o) (stateRow p + 4) r

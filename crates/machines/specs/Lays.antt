@@ -52,6 +52,7 @@ spelt s spots i lets a m at =
     (sets lets at (length (spelling s spots i lets a m) % 256 ∷ spelling s spots i lets a m))
     lets
 
+-- how many letters the word has, 0 where it does not fit in
 unfoldable pub spellLen : List ℕ → List ℕ → ℕ → List ℕ → ℕ → ℕ → ℕ → ℕ
 spellLen s spots i lets a m at =
     cond (fitsAt (length lets) a m at (length (spelling s spots i lets a m))) (length (spelling s spots i lets a m)) 0
@@ -68,6 +69,7 @@ stateEnds t p q k = set (set t (p + 4) q) (p + 5) k
 abbrev pub opening : ℕ → ℕ → ℕ → ℕ → Opening
 opening x y n q = record { initial = x; history = y; states = n; next = q }
 
+-- that of the region at `at`
 unfoldable pub regionFrom : List ℕ → ℕ → Opening
 regionFrom s at = with (numberIn s at) λ x p. with (byteIn s p) λ y q. with (numberIn s q) λ n r. opening x y n r
 
@@ -91,6 +93,7 @@ lay q w r l g = record { next = q; words = w; regions = r; letters = l; hole = g
 abbrev pub entered : ℕ → ℕ → ℕ → ℕ → ℕ → ℕ → Entered
 entered q w l n a m = record { next = q; words = w; letters = l; regions = n; letter = a; length = m }
 
+-- the tables filled as far as before, the pack read up to q
 unfoldable pub movedTo : ℕ → Lay → Lay
 movedTo q c = lay q (c .words) (c .regions) (c .letters) (c .hole)
 
@@ -101,9 +104,11 @@ pub record Board : Type 0 where
   pub lets : List ℕ
   pub c : Lay
 
+-- a board by its tables: words, the words of regions by their ids, letters; and how far they are filled
 abbrev pub board : List ℕ → List ℕ → List ℕ → Lay → Board
 board t reg lets c = record { t = t; reg = reg; lets = lets; c = c }
 
+-- a board, handed to what is made of it
 unfoldable pub fed : {A : Type 0} → Board → (Board → A) → A
 fed b k = k b
 

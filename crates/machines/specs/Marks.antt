@@ -10,9 +10,11 @@ use Rattle.pack.specs.Names.{Name}
 use Rattle.pack.specs.Siphash.{hash}
 use Rattle.pack.specs.Intern.{table}
 
+-- the low half of a name's number: its lowest 32 bits
 unfoldable pub lowOf : Name → ℕ
 lowOf n = hash n % 4294967296
 
+-- the high half: the 32 bits above them
 unfoldable pub highOf : Name → ℕ
 highOf n = hash n / 4294967296 % 4294967296
 

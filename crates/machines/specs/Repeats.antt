@@ -19,6 +19,7 @@ unfoldable pub againF : ℕ → List ℕ → ℕ → ℕ
 againF zero t at = at
 againF (suc f) t at = cond (ltb at (length t)) (cond (member (wordAt t at) (table (take at t))) at (againF f t (endAt t at))) at
 
+-- in the whole table; the table's length where no name stood before
 unfoldable pub againAt : List ℕ → ℕ
 againAt t = againF (length t) t 0
 

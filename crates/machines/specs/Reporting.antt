@@ -36,6 +36,7 @@ module _ (ns : List Name) (s spots to mats regs : List ℕ) where
   unfoldable pub entryT : ℕ → List ℕ → List ℕ → List ℕ → List ℕ
   entryT i t reg lets = entryBytes s spots (lettersT i t reg lets) (numberIn s (getD mats i 0) .value) (refusalT i t reg lets)
 
+  -- the same, and nothing where the machine is not refused
   unfoldable pub refusedEntryT : List ℕ → ℕ → List ℕ → List ℕ → List ℕ → List ℕ
   refusedEntryT ats i t reg lets = cond (eqb (getD ats i 0) absent) (entryT i t reg lets) []
 

@@ -30,6 +30,7 @@ WithinNames ns (wk.Cycle i) = i < length ns
 WithinNames ns (wk.Unknown i m) = (i < length ns) × (m < length ns)
 WithinNames ns wk.Large = Unit {0}
 
+-- the walk stopped for r, and the indexes in its answer are those of names
 abbrev pub Why : List Name → Name → Walked → Refusal → Type 0
 Why ns top v r = (whyOf ns top v ≡ some r) × WithinNames ns v
 

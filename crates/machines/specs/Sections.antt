@@ -20,10 +20,12 @@ pub data Fate : Type 0 where
   alone : Machine → Fate
   into : Name → Machine → Fate
 
+-- the fate of a machine, by its owner
 unfoldable pub fateOf : Option Name → Machine → Fate
 fateOf none m = alone m
 fateOf (some o) m = into o m
 
+-- the machine of a fate
 unfoldable pub fateMachine : Fate → Machine
 fateMachine (alone m) = m
 fateMachine (into o m) = m
@@ -73,6 +75,7 @@ pub record Share : Type 0 where
   pub at : ℕ
   pub fate : Fate
 
+-- the machine of a share
 unfoldable pub shareMachine : Share → Machine
 shareMachine s = fateMachine (s .fate)
 
@@ -81,6 +84,7 @@ unfoldable pub indexOf : List Name → Fate → ℕ
 indexOf ns (alone m) = length ns
 indexOf ns (into o m) = place ns o
 
+-- the share of a fate among nodes of these names
 unfoldable pub shareOf : List Name → Fate → Share
 shareOf ns f = record { at = indexOf ns f; fate = f }
 
@@ -89,6 +93,7 @@ unfoldable pub namesWith : List Name → Fate → List Name
 namesWith ns (alone m) = ns ++ (m .name ∷ [])
 namesWith ns (into o m) = ns
 
+-- the shares of fates in order, each among the names after those before it
 unfoldable pub shares : List Name → List Fate → List Share
 shares ns [] = []
 shares ns (f ∷ fs) = shareOf ns f ∷ shares (namesWith ns f) fs
@@ -97,10 +102,12 @@ shares ns (f ∷ fs) = shareOf ns f ∷ shares (namesWith ns f) fs
 unfoldable pub headOf : Machine → Node
 headOf m = record { name = m .name; kind = kOperator; inputs = m .inputs; outputs = m .outputs; locals = []; equations = [] }
 
+-- the node that a fate begins, none where the machine has an owner
 unfoldable pub headIn : Fate → List Node
 headIn (alone m) = headOf m ∷ []
 headIn (into o m) = []
 
+-- the nodes that fates begin, in order
 unfoldable pub heads : List Fate → List Node
 heads fs = flatMap headIn fs
 
@@ -222,6 +229,7 @@ unfoldable pub headItems : List Share → ℕ → Fate → List Item
 headItems ss t (alone m) = holdingItems ss t (headOf m)
 headItems ss t (into o m) = []
 
+-- the node that a share begins
 unfoldable pub begunItems : List Share → Share → List Item
 begunItems ss s = headItems ss (s .at) (s .fate)
 

@@ -51,6 +51,7 @@ pub record LoweredAt (ms : List Drawing) (ns : List Name) (s mats ats regs : Lis
   pub resolves : resolvedStates ms (shown .drawing) ≡ went (shown .states) count
   pub accepted : refusalOf (asMachine (shown .drawing) (shown .states)) ≡ none
 
+-- the machines from index i on
 unfoldable pub Lowered : List Drawing → List Name → List ℕ → List ℕ → List ℕ → List ℕ → ℕ → List Share → Type 0
 Lowered ms ns s mats ats regs i [] = Unit {0}
 Lowered ms ns s mats ats regs i (x ∷ xs) = LoweredAt ms ns s mats ats regs i x × Lowered ms ns s mats ats regs (suc i) xs

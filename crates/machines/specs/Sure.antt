@@ -9,15 +9,18 @@ use Rattle.wire.specs.Answer.{byte, u16}
 use Rattle.wire.specs.Code.{readOf}
 use Rattle.machines.specs.declared.sure.Num.{Num}
 
+-- a number and the offset after it
 abbrev pub num : ℕ → ℕ → Num
 num v q = record { value = v; next = q }
 
+-- what was read, 0 and 0 where reading stopped
 unfoldable pub sureOf : Read → Num
 sureOf (rd.Is v q) = num v q
 sureOf rd.Early = num 0 0
 sureOf (rd.Illegal o) = num 0 0
 sureOf (rd.Deep o) = num 0 0
 
+-- what is made of a number and the offset after it
 unfoldable pub with : {A : Type 0} → Num → (ℕ → ℕ → A) → A
 with x k = k (x .value) (x .next)
 
@@ -29,6 +32,7 @@ firstSome a b = cond (eqb a 0) b a
 unfoldable pub numberIn : List ℕ → ℕ → Num
 numberIn s at = sureOf (readOf (u16 s at))
 
+-- a byte
 unfoldable pub byteIn : List ℕ → ℕ → Num
 byteIn s at = sureOf (readOf (byte s at))
 

@@ -41,5 +41,6 @@ module _ (ns : List Name) (s : List ℕ) where
   placedFrom zero at t = t
   placedFrom (suc n) at t = with (numberIn s at) λ i p. placedFrom n (statesEnd (initialIn p)) (set t i (initialIn p % 65536))
 
+  -- the machines whose count stands at `at`
   unfoldable pub machinesPlaced : ℕ → List ℕ → List ℕ
   machinesPlaced at t = with (numberIn s at) λ n p. placedFrom n p t

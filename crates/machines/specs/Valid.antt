@@ -25,6 +25,7 @@ orThen (ck.Target p q x) c = ck.Target p q x
 abbrev pub foreseen : Bool → ℕ → ℕ → Foreseen
 foreseen k n x = record { known = k; fine = n; name = x }
 
+-- nothing is known
 abbrev pub unknown : Foreseen
 unknown = foreseen false 0 0
 
@@ -48,6 +49,7 @@ module _ (s t : List ℕ) where
   amongT x zero p = false
   amongT x (suc n) p = eqb (numberIn s (getD t p 0) .value) x || amongT x n (getD t (p + 4) 0)
 
+  -- so has a state of the region at the word q
   unfoldable pub hasT : ℕ → ℕ → Bool
   hasT q x = amongT x (getD t (q + 6) 0) (q + 9)
 
@@ -62,6 +64,7 @@ module _ (ns : List Name) (s t : List ℕ) where
   movesChecked q p (suc n) at =
       with (numberIn s (endOf (exprIn ns s at))) λ x o. cond (hasT s t q x) (movesChecked q p n o) (ck.Target p q x)
 
+  -- all transitions of that state
   unfoldable pub targetsT : ℕ → ℕ → Checked
   targetsT q p = with (numberIn s (getD t (p + 1) 0)) λ n o. movesChecked q p n o
 

@@ -75,6 +75,7 @@ unfoldable pub ToldOf : List Drawing → Drawing → Judged → ℕ → Type 0
 ToldOf ms d (refuse r) g = g ≡ 0
 ToldOf ms d (accept x) g = AcceptedAs ms d x g
 
+-- the same, where it is judged among the machines ms
 unfoldable pub Told : List Drawing → Drawing → ℕ → Type 0
 Told ms d g = ToldOf ms d (judge ms d) g
 

@@ -16,9 +16,11 @@ use Rattle.machines.specs.Sure.{machineFrom, num, numberIn, regionIn, tu
 use Rattle.machines.specs.Tables.{lenOf}
 use Rattle.machines.specs.Paths.{onOf, pushedOf, startOf}
 
+-- the larger of two numbers
 unfoldable pub maxOf : ℕ → ℕ → ℕ
 maxOf a b = cond (ltb a b) b a
 
+-- what follows a walk that went through; one that stopped stays so
 unfoldable pub goOn : Walked → (ℕ → ℕ → ℕ → Walked) → Walked
 goOn (wk.Went q c a) k = k q c a
 goOn (wk.Cycle i) k = wk.Cycle i
@@ -36,6 +38,7 @@ qualifyOf i w a e d = cond (leb (i + 1 + w) maxName) (wk.Went e d (maxOf a (i + 
 
 -- bytes, and where the names stand
 module _ (s spots : List ℕ) where
+  -- the length of the name whose index stands at `at`
   unfoldable pub lenAt : ℕ → ℕ
   lenAt at = with (numberIn s at) λ i q. lenOf s spots i
 
@@ -57,6 +60,7 @@ module _ (ns : List Name) (s spots : List ℕ) where
 
   -- and where the initial state of the machine of a name is
   module _ (to : List ℕ) where
+    -- the inline region at `at`, after c states: its states, and its initial state's name with theirs
     unfoldable pub regionW : (Path → ℕ → ℕ → ℕ → Walked) → Path → ℕ → ℕ → Walked
     regionW rec p at c = with (regionIn s at) λ k b. goOn (rec p k b c) λ q d w. wk.Went q d (maxOf (lenAt s spots at) w)
 
@@ -67,6 +71,7 @@ module _ (ns : List Name) (s spots : List ℕ) where
         cond (eqb m absent) (wk.Went e c a)
         (goOn (enterW s spots to p i m) λ b k f. goOn (rec (pushedOf p m) k b c) λ q d w. qualifyOf (lenOf s spots i) (maxOf f w) a e d)
 
+    -- the state at `at`, after c states: its head, its inline regions, then its refinement; a 513th state is too many
     unfoldable pub stateW : (Path → ℕ → ℕ → ℕ → Walked) → Path → ℕ → ℕ → Walked
     stateW rec p at c =
         cond (ltb c maxStates)

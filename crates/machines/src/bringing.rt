@@ -30,6 +30,7 @@ pub fn inner_count(regions: usize) -> usize
     if 0 < k { k - 1 } else { 0 }
 }
 
+// How many equations or locals so many regions make, and `own` more.
 fn made_count(regions: usize, own: usize) -> usize
     ensures { λ r. ⌜ (r < 1048576) × (r ≡ madeOf regions own) ⌝ }
 {
@@ -38,6 +39,7 @@ fn made_count(regions: usize, own: usize) -> usize
     2 + 3 * k + n
 }
 
+// Past ports, which stand after their count.
 pub fn after_ports(s: &[u8], names: usize, at: usize) -> usize
     requires { ⌜ length (now s) ≤ 65536 ⌝ }
     ensures { λ r. ⌜ ((ns : List Name) → length ns ≡ names → r ≡ endOf (portsIn ns (now (s .entry)) at)) ⌝ }
@@ -112,6 +114,7 @@ pub fn brings_equations(
     0
 }
 
+// How many locals it brings there.
 fn brings_locals(
     s: &[u8],
     names: usize,

@@ -15,6 +15,7 @@ ghost use Rattle.machines.specs.Walks.{lenAt, maxOf, targetT, headT};
 ghost use Rattle.machines.specs.Lays.{movesAt};
 ghost use Rattle.machines.specs.Ends.{EndsRight, KeptRight};
 
+// The larger of two numbers.
 pub fn most(a: usize, b: usize) -> usize
     ensures { λ r. ⌜ r ≡ maxOf a b ⌝ }
 {

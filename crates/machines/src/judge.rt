@@ -29,6 +29,7 @@ ghost use Rattle.machines.specs.Ends.{EndsRight, KeptRight};
 ghost use Rattle.machines.specs.Told.{GivenRight, ToldRight};
 ghost use Rattle.machines.specs.Judging.{noName, named as namedOf, refusedBy, stateCalled, calledAt, againCalled, outputsJ, checkedJ, laidJ, judgeAt, boardAt};
 
+// No name.
 pub fn no_name() -> Called
     ensures { λ r. ⌜ r ≡ noName ⌝ }
 {
@@ -39,6 +40,7 @@ pub fn no_name() -> Called
     }
 }
 
+// The pack's name of index x.
 pub fn named(x: usize) -> Called
     ensures { λ r. ⌜ r ≡ namedOf x ⌝ }
 {
@@ -49,6 +51,7 @@ pub fn named(x: usize) -> Called
     }
 }
 
+// A refused machine, with the names after its own.
 pub fn refused(kind: usize, second: Called, third: Called) -> Judged
     ensures { λ r. ⌜ r ≡ refusedBy kind second third ⌝ }
 {

@@ -60,6 +60,7 @@ fn sum(a: usize, b: usize) -> usize
     a + b
 }
 
+// The tables filled as far as before, the pack read up to `next`.
 fn moved(c: Lay, next: usize) -> Lay
     ensures { λ r. ⌜ r ≡ movedTo next c ⌝ }
 {
@@ -121,6 +122,7 @@ fn close_state(t: &mut [usize], p: usize, k: usize, q: usize, c: Lay) -> Lay
     moved(c, q)
 }
 
+// Whether a region without states was met, once one of n states is opened.
 fn without(n: usize, hole: bool) -> bool
     ensures { λ r. ⌜ r ≡ holed hole n ⌝ }
 {

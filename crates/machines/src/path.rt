@@ -16,6 +16,7 @@ pub struct Path {
     pub h: usize,
 }
 
+// The path with nothing but the top machine m.
 pub fn start(m: usize) -> Path
     ensures { λ r. ⌜ r ≡ startOf m ⌝ }
 {
@@ -47,6 +48,7 @@ pub fn pushed(p: Path, m: usize) -> Path
     }
 }
 
+// Whether m is a, or the rest says so.
 fn same_or(m: usize, a: usize, rest: bool) -> bool
     ensures { λ r. ⌜ r ≡ (eqb m a || rest) ⌝ }
 {

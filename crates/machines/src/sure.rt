@@ -28,6 +28,7 @@ pub struct Num {
     pub next: usize,
 }
 
+// What was read, 0 and 0 where reading stopped.
 pub fn sure(r: Read) -> Num
     ensures { λ q. ⌜ q ≡ sureOf r ⌝ }
 {
@@ -37,6 +38,7 @@ pub fn sure(r: Read) -> Num
     }
 }
 
+// Whether both hold.
 pub fn both(a: bool, b: bool) -> bool
     ensures { λ r. ⌜ r ≡ (a && b) ⌝ }
 {
@@ -74,6 +76,7 @@ pub fn machine(s: &[u8], at: usize) -> Num
     number(s, i.next)
 }
 
+// Past an expression.
 pub fn after_expr(s: &[u8], names: usize, at: usize) -> usize
     requires { ⌜ length (now s) ≤ 65536 ⌝ }
     ensures { λ r. ⌜ ((ns : List Name) → length ns ≡ names → r ≡ endOf (exprIn ns (now (s .entry)) at)) ⌝ }
@@ -81,6 +84,7 @@ pub fn after_expr(s: &[u8], names: usize, at: usize) -> usize
     reached(then_expr(s, names, Skipped::To(at)))
 }
 
+// Past a port.
 pub fn after_port(s: &[u8], names: usize, at: usize) -> usize
     requires { ⌜ length (now s) ≤ 65536 ⌝ }
     ensures { λ r. ⌜ ((ns : List Name) → length ns ≡ names → r ≡ endOf (portIn ns (now (s .entry)) at)) ⌝ }
@@ -88,6 +92,7 @@ pub fn after_port(s: &[u8], names: usize, at: usize) -> usize
     reached(then_port(s, names, Skipped::To(at)))
 }
 
+// Past an equation.
 pub fn after_equation(s: &[u8], names: usize, at: usize) -> usize
     requires { ⌜ length (now s) ≤ 65536 ⌝ }
     ensures { λ r. ⌜ ((ns : List Name) → length ns ≡ names → r ≡ endOf (equationIn ns (now (s .entry)) at)) ⌝ }
@@ -95,6 +100,7 @@ pub fn after_equation(s: &[u8], names: usize, at: usize) -> usize
     reached(then_equation(s, names, Skipped::To(at)))
 }
 
+// Past equations, which stand after their count.
 pub fn after_equations(s: &[u8], names: usize, at: usize) -> usize
     requires { ⌜ length (now s) ≤ 65536 ⌝ }
     ensures { λ r. ⌜ ((ns : List Name) → length ns ≡ names → r ≡ endOf (equationsIn ns (now (s .entry)) at)) ⌝ }
@@ -102,6 +108,7 @@ pub fn after_equations(s: &[u8], names: usize, at: usize) -> usize
     reached(then_equations(s, names, Skipped::To(at)))
 }
 
+// Past transitions, which stand after their count.
 pub fn after_transitions(s: &[u8], names: usize, at: usize) -> usize
     requires { ⌜ length (now s) ≤ 65536 ⌝ }
     ensures { λ r. ⌜ ((ns : List Name) → length ns ≡ names → r ≡ endOf (counted (transitionIn ns (now (s .entry))) (now (s .entry)) at)) ⌝ }

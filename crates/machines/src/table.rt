@@ -16,12 +16,14 @@ ghost use Rattle.pack.specs.Names.{Name};
 ghost use Rattle.machines.specs.Ends.{EndsRight};
 ghost use Rattle.machines.specs.Tables.{initialIn, outputsIn, statesEnd, machinesPlaced, namesPlaced, nextName, lenOf};
 
+// The entry i, 0 past the end.
 pub fn entry(t: &[usize], i: usize) -> usize
     ensures { λ r. ⌜ r ≡ getD (now (t .entry)) i 0 ⌝ }
 {
     if i < t.len() { t[i] } else { 0 }
 }
 
+// Sets the entry i to v; past the end nothing is written.
 pub fn put(t: &mut [usize], i: usize, v: usize)
     ensures { λ r. ⌜ now (t .exit) ≡ set (now (t .entry)) i v ⌝ }
 {
