@@ -16,6 +16,7 @@ pub record Beginning : Type 0 where
   pub hold : Hold
   pub rows : ℕ
 
+-- the same from the tables and the answer of the code
 abbrev pub beginningOf : List ℕ → List ℕ → List ℕ → Begun → Beginning
 beginningOf env outs held r = record { outs = outs; hold = record { env = env; held = held; kind = r .kind; var = r .var }; rows = r .rows }
 

@@ -29,12 +29,14 @@ unfoldable pub equationsOf : Lowered → List Equation
 equationsOf (refuse r) = []
 equationsOf (make ls qs) = qs
 
+-- an activation that was not refused
 unfoldable pub IsMade : Lowered → Type 0
 IsMade (refuse r) = ⊥
 IsMade (make ls qs) = Unit {0}
 
 -- those of some activations that go to a node of the place k
 module _ {X : Type 0} (es : List Enum) (nodes : List Name) (f : Lowered → List X) (k : ℕ) where
+  -- one after the other, each lowered in the node with what those before it brought
   unfoldable pub brought : List Activation → Node → List X
   brought [] n = []
   brought (A ∷ As) n = cond (eqb (place nodes (A .owner)) k) (f (lowered es A n)) [] ++ brought As (joins es nodes k A n)

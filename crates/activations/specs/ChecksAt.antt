@@ -23,6 +23,7 @@ use Rattle.activations.specs.Passes.{passT}
 unfoldable pub overEquation : List Name → List ℕ → ℕ → ℕ
 overEquation ns s p = endOf (equationIn ns s p)
 
+-- a refusal by its kind, 0 for none, and the numbers of the names after the activation's own
 abbrev pub refusedT : ℕ → ℕ → ℕ → Refused
 refusedT k x y = record { kind = k; second = x; third = y }
 
@@ -56,6 +57,7 @@ module _ (ns : List Name) (s : List ℕ) where
   unfoldable pub assignBranchesT : ℕ → List ℕ → List ℕ
   assignBranchesT at t = with (numberIn s at) λ n p. passT (λ m k q z. assignScopeT k (bodyIn ns s q) z) (branchEnd ns s) n 0 p t
 
+  -- the same with the else scope after the branches, from a table of zeros
   unfoldable pub assignedT : Act → List ℕ → List ℕ
   assignedT a t = assignScopeT (a .n) (a .other) (assignBranchesT (a .branches) (clearT (length ns) t))
 
@@ -70,6 +72,7 @@ module _ (ns : List Name) (s : List ℕ) where
       with (numberIn s p) λ o q.
       cond (ltb (a .n) (getD t o 0)) (unassignedT a t n (endOf (portIn ns s p))) (refusedT 11 o (scopeNameT a (getD t o 0)))
 
+  -- of all outputs of an activation
   unfoldable pub inScopesT : Act → List ℕ → Refused
   inScopesT a t = with (numberIn s (a .outputs)) λ n p. unassignedT a (assignedT a t) n p
 
@@ -80,6 +83,7 @@ module _ (ns : List Name) (s : List ℕ) where
   unfoldable pub leftlessScopeT : ℕ → Bool
   leftlessScopeT at = with (numberIn s at) λ n p. anyT namelessT (overEquation ns s) n p
 
+  -- whether one of an activation's scopes has one
   unfoldable pub leftlessT : Act → Bool
   leftlessT a = anyBranchT ns s (λ p. leftlessScopeT (bodyIn ns s p)) (a .branches) || leftlessScopeT (a .other)
 

@@ -43,9 +43,11 @@ pub record DrawnAt (ns : List Name) (s : List ℕ) (nodes : List Name) (acts : L
 
 -- the activations As of a package, whose nodes are N and whose enums are es; a row is told by the activations before it
 module _ (ns : List Name) (s : List ℕ) (es : List Enum) (N : List Node) (As : List Activation) (acts : List ℕ) where
+  -- each stands where its row says, and the row has the place of its owner
   abbrev pub Drawn : Type 0
   Drawn = (before : List Activation) (A : Activation) (post : List Activation) → As ≡ before ++ (A ∷ post) → DrawnAt ns s (nodeNames N) acts (length before) A
 
+  -- the row of each says its fate, by its owner with what those before it brought there
   abbrev pub Fates : Type 0
   Fates = (before : List Activation) (A : Activation) (post : List Activation) → As ≡ before ++ (A ∷ post) → FateIs ns (A .name) (refusalT acts (length before)) (madeT acts (length before)) (fateIn es A (ownerOf es N before A))
 

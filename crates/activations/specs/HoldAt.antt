@@ -47,6 +47,7 @@ module _ (ns : List Name) (old s : List ℕ) (b : Base) (spots : List ℕ) (a : 
   unfoldable pub holdCode : ℕ → ℕ → ℕ → List ℕ → List ℕ → Hold
   holdCode h v c e d = cond (eqb c 0) (holdOf e d 15 v) (cond (needsT ns s b spots (wordT d h 1) c) (holdOf e d 16 v) (knownT h v c (holderT old s b spots a v) e d))
 
+  -- the row h, by the type of its variable
   unfoldable pub holdRow : ℕ → List ℕ → List ℕ → Hold
   holdRow h e d = holdCode h (wordT d h 0) (typedT e outs (b .names) (wordT d h 0)) e d
 

@@ -50,6 +50,7 @@ unfoldable pub fateIn : List Enum → Activation → Option Node → Lowered
 fateIn es A none = refuse (unknownOwner (A .name) (A .owner))
 fateIn es A (some n) = lowered es A n
 
+-- the refusal in it, if there is one
 unfoldable pub refusalIn : Lowered → List Refusal
 refusalIn (refuse r) = r ∷ []
 refusalIn (make ls es) = []

@@ -23,6 +23,7 @@ use Rattle.activations.specs.Fates.{FateIs}
 unfoldable pub withinT : ℕ → ℕ → ℕ
 withinT names x = cond (ltb names x) (suc names) x
 
+-- a refusal with its names' numbers in 16 bits
 unfoldable pub refusedIn : ℕ → ℕ → ℕ → ℕ → Refused
 refusedIn names kind second third = refusedT kind (withinT names second) (withinT names third)
 

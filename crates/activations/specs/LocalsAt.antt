@@ -30,9 +30,11 @@ pub record Left : Type 0 where
   pub state : State
   pub count : ℕ
 
+-- the same from a table of types, a writer's two buffers, and the writer and the count that the code passes on
 abbrev pub leftOf : List ℕ → List ℕ → List ℕ → Passed → Left
 leftOf l o m p = record { later = l; state = stateOf o m (p .w); count = p .count }
 
+-- one local more, by 16 bits
 unfoldable pub moreT : ℕ → ℕ
 moreT n = (n % 65536 + 1) % 65536
 
@@ -54,11 +56,13 @@ module _ (ns : List Name) (s old : List ℕ) (made : Bool) where
     count = moreT (z .count);
   }
 
+  -- the same of the name x
   unfoldable pub namedT : Name → ℕ → Left → Left
   namedT x c z = localT (built x) c z
 
   -- an activation's name
   module _ (a : Name) where
+    -- a variable made for the branch k, of type Bool
     unfoldable pub branchLocalT : Var → ℕ → Left → Left
     branchLocalT v k z = namedT (branchVar v a k) 1 z
 
@@ -84,6 +88,7 @@ module _ (ns : List Name) (s old : List ℕ) (made : Bool) where
 
     -- where names stand, the types of variables and outputs; the scope k of n branches
     module _ (spots env outs : List ℕ) (n : ℕ) where
+      -- the sample of the name of number x in the scope k
       unfoldable pub sampleLocalT : ℕ → ℕ → Left → Left
       sampleLocalT k x z = namedT (sampleNameT s spots (length ns) a n k x) (typedT env outs (length ns) x) z
 
@@ -122,6 +127,7 @@ module _ (ns : List Name) (s old : List ℕ) (made : Bool) where
 
     -- all locals of an activation
     module _ (spots env outs : List ℕ) (last : ℕ) (held : List ℕ) (rows : ℕ) where
+      -- holders, flags, clocks from the second branch on, then the samples and values of each branch and of the else scope
       unfoldable pub actLocalsT : Act → Left → Left
       actLocalsT A z =
           scopeLocalsT spots env outs (A .n) last held rows (A .n) (A .other)

@@ -32,5 +32,6 @@ module _ (ns : List Name) (s : List ℕ) (last : ℕ) where
   unfoldable pub misusedBodyT : ℕ → Bool
   misusedBodyT at = misusedScopeT (bodyIn ns s at)
 
+  -- in an activation: a condition, a scope of a branch, the else scope
   unfoldable pub anyMisusedT : Act → Bool
   anyMisusedT a = anyBranchT ns s misusedConditionT (a .branches) || (anyBranchT ns s misusedBodyT (a .branches) || misusedScopeT (a .other))

@@ -36,5 +36,6 @@ unfoldable pub lastRowT : List ℕ → ℕ → ℕ → ℕ → ℕ
 lastRowT held v zero h = 65536
 lastRowT held v (suc n) h = cond (eqb (getD held h 0) v) (getD held (h + 2) 0) (lastRowT held v n (h + 3))
 
+-- the same in all rows
 unfoldable pub lastIdT : List ℕ → ℕ → ℕ → ℕ
 lastIdT held rows v = lastRowT held v rows 0

@@ -60,5 +60,6 @@ module _ (ns : List Name) (s : List ℕ) where
   unfoldable pub actAt : ℕ → Act
   actAt at = with (numberIn s at) λ a p. with (numberIn s p) λ o q. actOf a q (endOf (portsIn ns s q))
 
+  -- past it
   unfoldable pub actEnd : ℕ → ℕ
   actEnd at = endOf (equationsIn ns s (actAt at .other))

@@ -39,6 +39,7 @@ module _ (held : List ℕ) (rows : ℕ) where
   readBy mt.Nothing = 65536
 
   module _ (env outs : List ℕ) (names : ℕ) where
+    -- what a node adds
     unfoldable pub readStep : Met → ℕ → List ℕ → List ℕ
     readStep m p l = noteT env outs names (readBy m) l
 

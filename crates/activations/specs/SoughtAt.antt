@@ -52,6 +52,7 @@ rowMore v init z = cond (ltb (z .count) maxRows) (rowsOf (putT (putT (z .table) 
 unfoldable pub noteRow : ℕ → ℕ → ℕ → Rows → Rows
 noteRow h v init z = cond (ltb h (z .count)) (rowsOf (initT h init (z .table)) (z .count)) (rowMore v init z)
 
+-- the same, where its row is to be found
 unfoldable pub noteT : ℕ → ℕ → Rows → Rows
 noteT v init z = noteRow (rowT (z .table) v (z .count) 0) v init z
 
@@ -70,6 +71,7 @@ unfoldable pub eachBranchT : {S : Type 0} → List Name → List ℕ → (ℕ �
 eachBranchT ns s f at z = with (numberIn s at) λ n p. eachOf f (branchEnd ns s) n p z
 
 module _ (ns : List Name) (s : List ℕ) (last : ℕ) where
+  -- in the expression at an offset
   unfoldable pub seekT : ℕ → Rows → Rows
   seekT at z = walked ns s last seekStep 1 at z
 

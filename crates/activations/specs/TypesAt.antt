@@ -31,6 +31,7 @@ unfoldable pub firstPortT : List ℕ → ℕ → List ℕ → List ℕ
 firstPortT s p t = with (numberIn s p) λ x q. cond (eqb (getD t x 0) 0) (putT t x q) t
 
 module _ (ns : List Name) (s : List ℕ) where
+  -- past the port at `at`
   unfoldable pub portEnd : ℕ → ℕ
   portEnd at = endOf (portIn ns s at)
 
@@ -41,6 +42,7 @@ module _ (ns : List Name) (s : List ℕ) where
   unfoldable pub portsEnd : ℕ → ℕ
   portsEnd at = with (numberIn s at) λ n p. along portEnd n p
 
+  -- the same ports, each only where its name has no type yet
   unfoldable pub firstPortsT : ℕ → List ℕ → List ℕ
   firstPortsT at t = with (numberIn s at) λ n p. eachOf (firstPortT s) portEnd n p t
 
@@ -116,6 +118,7 @@ StartIn ns sr.Missing = Unit {0}
 StartIn ns (sr.Literal tag) = Unit {0}
 StartIn ns (sr.Name v) = v < length ns
 
+-- whether there is nothing to start from
 unfoldable pub isMissing : Start → Bool
 isMissing sr.Missing = true
 isMissing (sr.Literal tag) = false

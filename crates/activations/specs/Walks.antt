@@ -27,6 +27,7 @@ module _ (ns : List Name) (s : List ℕ) (last : ℕ) where
   walkT step (suc f) (suc n) p z =
       walkT step f (openT (metAt ns s last p) (suc n)) (onwardT (metAt ns s last p)) (step (metAt ns s last p) p z)
 
+  -- the same with fuel for as many nodes as the pack has bytes, and one more
   unfoldable pub walked : {S : Type 0} → (Met → ℕ → S → S) → ℕ → ℕ → S → S
   walked step n p z = walkT step (suc (length s)) n p z
 

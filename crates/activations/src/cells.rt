@@ -18,6 +18,7 @@ pub fn word(t: &[u16], p: usize, k: usize) -> usize
     0
 }
 
+// Sets that word to v, by 16 bits.
 pub fn put_word(t: &mut [u16], p: usize, k: usize, v: usize)
     ensures { λ r. ⌜ now (t .exit) ≡ putT (now (t .entry)) (p + k) v ⌝ }
 {

@@ -36,6 +36,7 @@ fn within(names: usize, x: usize) -> usize
     if names < x { names + 1 } else { x }
 }
 
+// A refused activation: it makes no locals.
 fn refuse(names: usize, kind: usize, second: usize, third: usize) -> Judged
     requires { ⌜ names ≤ 65536 ⌝ }
     ensures { λ r. ⌜ (r .refused ≡ refusedIn names kind second third) × (r .locals ≡ 0) ⌝ }

@@ -29,6 +29,7 @@ pub struct Passed {
     pub count: usize,
 }
 
+// One local more, by 16 bits.
 fn one_more(n: usize) -> usize
     ensures { λ r. ⌜ r ≡ moreT n ⌝ }
 {

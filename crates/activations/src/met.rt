@@ -203,6 +203,7 @@ pub fn is_bad(m: Met) -> bool
     }
 }
 
+// Whether it is a constant.
 pub fn is_const(m: Met) -> bool
     ensures { λ r. ⌜ r ≡ isConst m ⌝ }
 {

@@ -27,6 +27,7 @@ pub struct Act {
     pub n: usize,
 }
 
+// Past a type.
 pub fn after_type(s: &[u8], names: usize, at: usize) -> usize
     requires { ⌜ length (now s) ≤ 65536 ⌝ }
     ensures { λ r. ⌜ ((ns : List Name) → length ns ≡ names → r ≡ endOf (typeIn ns (now (s .entry)) at)) ⌝ }
@@ -59,6 +60,7 @@ pub fn branch_equations(s: &[u8], names: usize, at: usize) -> usize
     after_expr(s, names, i.next)
 }
 
+// Past a branch.
 pub fn after_branch(s: &[u8], names: usize, at: usize) -> usize
     requires { ⌜ length (now s) ≤ 65536 ⌝ }
     ensures { λ r. ⌜ ((ns : List Name) → length ns ≡ names → r ≡ branchEnd ns (now (s .entry)) at) ⌝ }
