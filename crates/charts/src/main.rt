@@ -94,6 +94,7 @@ fn call(which: usize, pack: &[u8], output: &mut [u8], report: &mut [u8]) -> Outc
     lower_activations(pack, output, report)
 }
 
+// Says which call it was.
 fn print_call(which: usize) {
     if which == 0 {
         io::write_all(1, b", check");
@@ -195,6 +196,7 @@ fn try_all(s: &[u8]) {
     io::write_all(1, b" different\n");
 }
 
+// Tries all charts of standard input.
 fn main() {
     let mut input = [0u8; 524288];
     let n = io::read_full(0, &mut input);
