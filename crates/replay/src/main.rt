@@ -103,6 +103,7 @@ fn replay(s: &[u8]) -> Tally {
     t
 }
 
+// Replays the records of standard input, and prints how many were compared and how many differ.
 fn main() {
     let mut buf = [0u8; 65536];
     let n = io::read_full(0, &mut buf);
