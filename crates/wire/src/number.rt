@@ -93,7 +93,7 @@ pub fn skip_u64(s: &[u8], at: usize) -> Skipped
     past(read_u32(s, p))
 }
 
-// The same from where reading stands: what stopped stays so.
+// Numbers from where reading stands: what stopped stays so.
 pub fn then_u16(s: &[u8], from: Skipped) -> Skipped
     ensures { λ r. ⌜ r ≡ onward (u16 (now (s .entry))) from ⌝ }
 {
