@@ -79,6 +79,19 @@ pub fn nested(history: bool) -> Package {
     })
 }
 
+/// Two machines whose state S has one equation, for o and q: M has the outputs o and q, N has them as q and o.
+pub fn two_left_names() -> Package {
+    let mut b = Builder::new();
+    let [m, s, o, q, n] = ["M", "S", "o", "q", "N"].map(|n| b.name(n));
+    let one = b.p.expr([Tok::Const(Lit::Int(1))]);
+    for (name, outputs) in [(m, [o, q]), (n, [q, o])] {
+        let state = State { equations: vec![Equation { lhs: vec![o, q], rhs: one }], ..special::state(s) };
+        let outputs = outputs.map(|name| Port { name, ty: Type::plain(4) }).to_vec();
+        b.p.machines.push(Machine { outputs, ..special::machine(name, s, vec![state]) });
+    }
+    b.done()
+}
+
 /// A state S of the output o: with an equation for o and q or one for o alone, which is 1, and with a region whose state
 /// has o = 2.
 pub fn covered(pair: bool, alone: bool, inside: bool) -> Package {
@@ -221,7 +234,7 @@ pub fn all() -> Vec<Chart> {
         ("last(v, 1), last(v, 2)", initials(Some(1), Some(2))),
         ("last(v, last(w))", inner_last()),
         ("both conditions", two_branches()),
-        ("two left names", covered(true, false, false)),
+        ("two left names", two_left_names()),
         ("own equation and covering region", covered(false, true, true)),
         ("a scope of constants", Activated::new().done()),
         ("a clock's name is read", clocks()),

@@ -176,6 +176,9 @@ fn covering() {
     let value = |p| right_side(&made(lower_machines(&pack(p))), 0, "o");
     // Two left names cover neither.
     assert_eq!(lower_machines(&pack(charts::covered(true, false, false))), report(4, &["M", "o", "S"]));
+    // Each of the two is asked for, where it is the first output.
+    let both: &[u8] = b"\x02\x00\x04\x01M\x01o\x01S\x04\x01N\x01q\x01S";
+    assert_eq!(lower_machines(&pack(charts::two_left_names())), Outcome::Refused(both.to_vec()));
     // A covering region comes before the state's own equation, which is taken where there is none.
     assert_eq!(value(charts::covered(true, true, true)), "Int(2)");
     assert_eq!(value(charts::covered(true, true, false)), "Int(1)");

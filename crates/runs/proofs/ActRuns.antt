@@ -3,8 +3,8 @@ use Prim.Native.Nat.{ℕ, suc, _<_}
 use native.Mathlib.Omega.{arith}
 use mathlib.Core.List.{List, [], _∷_, _++_, cons-ne-nil}
 use mathlib.Core.Bool.{Bool, true, false, cond, _&&_}
-use mathlib.Core.Option.{none, some}
-use mathlib.Core.Path.{_≡_, refl, _∙_}
+use mathlib.Core.Option.{Option, none}
+use mathlib.Core.Path.{_≡_, refl, subst, _∙_}
 use lib.ListN.{length}
 use Rattle.pack.specs.Names.{Name}
 use Rattle.pack.specs.Syntax.{Activation, Branch, Equation, Expr, Port}
@@ -19,11 +19,11 @@ use Rattle.activation_rules.specs.Merges.{mergeEquations, mergeFrom}
 use Rattle.activation_rules.specs.Samples.{dropIn, sampleEquations}
 use Rattle.activation_rules.specs.Scopes.{branchEquations, rewritten, scopeEquations, scopeReads}
 use Rattle.activation_rules.specs.Unlast.{conditionsOf, unlast}
-use Rattle.runs.specs.Premises.{ActPremises, portsPresent, present, startsWith}
-use Rattle.runs.specs.Run.{Clock, Run, agrees, clockOf, eval, sameClock, satisfies}
-use Rattle.runs.specs.Scopes.{Conditions, OutputGiven, OutputsGiven, choice, chosen, eqScope, givenBy, scopeClock, scopeIn}
+use Rattle.run_rules.specs.Premises.{ActPremises, portsPresent, present, startsWith}
+use Rattle.run_rules.specs.Run.{Clock, Run, Value, agrees, clockOf, eval, sameClock, satisfies}
+use Rattle.run_rules.specs.Scopes.{AllGive, Conditions, OutputGiven, OutputsGiven, choice, chosen, eqScope, givenBy, scopeClock, scopeIn}
 use Rattle.runs.proofs.Accepting.{actAccepted, allAssign, assigns, nonempty, outputsAssigned}
-use Rattle.runs.proofs.Booleans.{&&-true, or-split, ≡→T}
+use Rattle.run_rules.proofs.Booleans.{&&-true, or-split, ≡→T}
 use Rattle.runs.proofs.Choosing.{from-start, scope-same}
 use Rattle.runs.proofs.ClocksAlike.{eval-alike}
 
@@ -38,13 +38,16 @@ only-head o (x ∷ []) h = eqName-true x o h
 only-head o (x ∷ y ∷ l) h = absurd (≡→T false h)
 
 module _ {O : Type 0} (R : Run O) (N : ℕ) (a : Name) (n : ℕ) (vars : List Name) where
-  -- the equations of a scope: some right side is given for an output that it assigns, and the scope's value agrees with it
-  scope-gives : (s : Scope) (o : Name) (es : List Equation) (old : List Name) → assigns o es ≡ true → satisfies R N (scopeEquations a n vars s old es)
-      → (e : Expr) × (givenBy a n vars s o es ≡ some e) × agrees R N (valueVar a s o ∷ []) e
-  unfolding assigns scopeEquations givenBy eqn
-  scope-gives s o [] old h sat = absurd (≡→T false h)
-  scope-gives s o (e ∷ es) old h sat =
-      go (isOnly o (e .lhs)) refl (λ (h′ : assigns o es ≡ true). scope-gives s o es (old ++ dropIn old r) h′ (parts .1 .1))
+  -- a variable agrees with each of some right sides
+  abbrev AllAgree : Name → List Expr → Type 0
+  AllAgree x [] = Unit {0}
+  AllAgree x (e ∷ es) = agrees R N (x ∷ []) e × AllAgree x es
+
+  -- the scope's value of an output agrees with each right side that its equations give for it
+  scope-gives : (s : Scope) (o : Name) (es : List Equation) (old : List Name) → satisfies R N (scopeEquations a n vars s old es) → AllAgree (valueVar a s o) (givenBy a n vars s o es)
+  unfolding scopeEquations givenBy eqn
+  scope-gives s o [] old sat = tt
+  scope-gives s o (e ∷ es) old sat = go (isOnly o (e .lhs)) refl (scope-gives s o es (old ++ dropIn old r) (parts .1 .1))
     where
       r : List Name
       r = scopeReads a vars e
@@ -55,10 +58,20 @@ module _ {O : Type 0} (R : Run O) (N : ℕ) (a : Name) (n : ℕ) (vars : List Na
       parts : satisfies R N (sampleEquations a n s (dropIn old r)) × satisfies R N (this ∷ scopeEquations a n vars s (old ++ dropIn old r) es)
       parts = satisfies-split R N (sampleEquations a n s (dropIn old r)) (this ∷ scopeEquations a n vars s (old ++ dropIn old r) es) sat
 
-      go : (b : Bool) → isOnly o (e .lhs) ≡ b
-          → (assigns o es ≡ true → (e : Expr) × (givenBy a n vars s o es ≡ some e) × agrees R N (valueVar a s o ∷ []) e)
-          → (e′ : Expr) × (cond (isOnly o (e .lhs)) (some (rewritten a n vars s e)) (givenBy a n vars s o es) ≡ some e′) × agrees R N (valueVar a s o ∷ []) e′
-      go true q r = (rewritten a n vars s e, rw q, rw (only-head o (e .lhs) q) at (parts .1 .0))
+      go : (b : Bool) → isOnly o (e .lhs) ≡ b → AllAgree (valueVar a s o) (givenBy a n vars s o es)
+          → AllAgree (valueVar a s o) (cond (isOnly o (e .lhs)) (rewritten a n vars s e ∷ givenBy a n vars s o es) (givenBy a n vars s o es))
+      go true q h = rw q (rw (only-head o (e .lhs) q) at (parts .1 .0), h)
+      go false q h = rw q h
+
+  -- a scope that assigns an output gives some right side for it
+  gives-some : (s : Scope) (o : Name) (es : List Equation) → assigns o es ≡ true → (e : Expr) × (l : List Expr) × (givenBy a n vars s o es ≡ e ∷ l)
+  unfolding assigns givenBy
+  gives-some s o [] h = absurd (≡→T false h)
+  gives-some s o (e ∷ es) h = go (isOnly o (e .lhs)) refl (λ (h′ : assigns o es ≡ true). gives-some s o es h′)
+    where
+      go : (b : Bool) → isOnly o (e .lhs) ≡ b → (assigns o es ≡ true → (x : Expr) × (l : List Expr) × (givenBy a n vars s o es ≡ x ∷ l))
+          → (x : Expr) × (l : List Expr) × (cond (isOnly o (e .lhs)) (rewritten a n vars s e ∷ givenBy a n vars s o es) (givenBy a n vars s o es) ≡ x ∷ l)
+      go true q r = (rewritten a n vars s e, givenBy a n vars s o es, rw q)
       go false q r = rw q (r (or-split (isOnly o (e .lhs)) (assigns o es) h q))
 
   -- the equations of the scope of a cycle hold
@@ -98,6 +111,12 @@ pub on-clock : {O : Type 0} (R : Run O) (N : ℕ) (x : Name) (e : Expr) (d : Clo
 on-clock R N x e d s h t lt q =
     h .1 t lt ∙ (rw (s t lt, q) (eval-alike R e (clockOf R x) d t (λ u l. s u (omega arith))))
 
+-- a value that is that of a variable on its clock is what each right side that the variable agrees with gives there
+all-give : {O : Type 0} (R : Run O) (N : ℕ) (a : Name) (n : ℕ) (vars : List Name) (x : Name) (d : Clock) → sameClock N (clockOf R x) d → (t : ℕ) → t < N → d t ≡ true → (w : Option (Value O)) → w ≡ R .at x t
+    → (es : List Expr) → AllAgree R N a n vars x es → AllGive R d t w es
+all-give R N a n vars x d s t lt q w e [] h = tt
+all-give R N a n vars x d s t lt q w e (r ∷ rs) h = (e ∙ on-clock R N x r d s (h .0) t lt q, all-give R N a n vars x d s t lt q w e rs (h .1))
+
 module _ {O : Type 0} (R : Run O) (N : ℕ) (C : Conditions) (A : Activation) (before : List Equation) (vars : List Name) (ok : actAccepted A ≡ true) (P : ActPremises R N C A)
     (sat : satisfies R N (actEquations A before vars)) where
   a : Name
@@ -133,12 +152,14 @@ module _ {O : Type 0} (R : Run O) (N : ℕ) (C : Conditions) (A : Activation) (b
       let ne = has-conditions (A .name) (A .branches) (&&-true (nonempty (A .branches)) (outputsAssigned (A .branches) (A .otherwise) (A .outputs)) ok .0) in
       let cl = from-start R N (A .name) free-name C o conds ne po (P .conditions) (parts .0) (parts .1) mg t lt refl in
       let n = length conds in
-      let g = scope-gives R N (A .name) n vars s o (chosen C (A .name) t (A .branches) (A .otherwise)) []
-      (chosen-assigns R N (A .name) n vars C t o (A .branches) (A .otherwise) ab ao)
-      (chosen-holds R N (A .name) n vars C t 0 (A .branches) (A .otherwise) (parts .2) (parts .3)) in (
-        g .0,
-        g .1,
-        mg .1 t lt ∙ (rw (po t lt) (cl .0 (clockOf R o) ∙ on-clock R N (valueVar (A .name) s o) (g .0) (λ u. eqScope (choice C u 0 conds) s) (cl .1) (g .2) t lt (scope-same s))),
+      let es = chosen C (A .name) t (A .branches) (A .otherwise) in
+      let some-given = gives-some R N (A .name) n vars s o es (chosen-assigns R N (A .name) n vars C t o (A .branches) (A .otherwise) ab ao) in
+      let agree = scope-gives R N (A .name) n vars s o es [] (chosen-holds R N (A .name) n vars C t 0 (A .branches) (A .otherwise) (parts .2) (parts .3)) in (
+        some-given .0,
+        some-given .1,
+        some-given .2,
+        all-give R N (A .name) n vars (valueVar (A .name) s o) (λ u. eqScope (choice C u 0 conds) s) (cl .1) t lt (scope-same s) (R .at o t) (mg .1 t lt ∙ (rw (po t lt) (cl .0 (clockOf R o))))
+            (some-given .0 ∷ some-given .1) (subst (λ (l : List Expr). AllAgree R N (A .name) n vars (valueVar (A .name) s o) l) (some-given .2) agree),
       )
 
   outputs-given : (ps : List Port) → portsPresent R N ps → outputsAssigned (A .branches) (A .otherwise) ps ≡ true → satisfies R N (mergeEquations (A .name) (conditionsOf (A .name) (A .branches)) ps) → OutputsGiven R N C A vars ps

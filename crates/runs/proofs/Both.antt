@@ -16,8 +16,8 @@ use Rattle.runs.specs.Claim.{MachinesKept}
 use Rattle.runs.proofs.BothLowered.{both-lowered}
 use Rattle.runs.proofs.Computing.{machinesNumber, packIn, secondNumber, secondSmall, small}
 use Rattle.runs.proofs.Demand.{machines-lowered}
-use Rattle.runs.proofs.Nested.{Off, On, P, Q, swap}
-use Rattle.runs.proofs.Owned.{F, o, owned}
+use Rattle.run_rules.proofs.ChartFacts.{Off, On, P, Q, o, swap}
+use Rattle.runs.proofs.Owned.{F, owned}
 use Rattle.runs.proofs.Zero.{Zero, activations-zero, machines-zero}
 
 abbrev v : Name

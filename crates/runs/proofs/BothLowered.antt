@@ -18,13 +18,11 @@ use Rattle.machine_rules.specs.Machines.{Made, start}
 use Rattle.machine_rules.specs.Resolve.{asMachine}
 use Rattle.activation_rules.specs.Call.{lowerActivations}
 use Rattle.runs.specs.Claim.{MachinesKept, MachinesLowered}
-use Rattle.runs.specs.Run.{Run, satisfies}
-use Rattle.runs.specs.Standing.{Block, Stands, entry, equationsFrom, machineStanding, machinesBefore, slice}
-use Rattle.runs.proofs.ActRuns.{satisfies-split}
+use Rattle.run_rules.specs.Run.{Run, satisfies}
+use Rattle.runs.specs.Standing.{Block, Stands, entry, machineStanding, machinesBefore, slice}
 use Rattle.runs.proofs.ActsStand.{acts-grow}
-use Rattle.runs.proofs.Demand.{activations-lowered}
+use Rattle.runs.proofs.Demand.{activations-lowered, own-stands}
 use Rattle.runs.proofs.Growing.{Extended, grown, node-grown}
-use Rattle.runs.proofs.MachinesStand.{block-stands}
 use Rattle.runs.proofs.ReadsBack.{whole-same}
 
 entry-more : {A : Type 0} (n : ℕ) (l r : List A) (x : A) → entry n l ≡ some x → entry n (l ++ r) ≡ some x
@@ -84,14 +82,10 @@ stands-kept none m k nodes nodes' origins origins' g o s =
 stands-kept (some x) m k nodes nodes' origins origins' g o s = block-kept g o s
 
 -- and a run of what stands for it then is a run of what stood for it before
-runs-kept : {O : Type 0} (R : Run O) (N : ℕ) (o : Option Name) (m : Machine) (k : Made) (nodes nodes' : List Node) (origins origins' : List Origin)
-    → grown nodes nodes' → ((later : List Origin) × (origins' ≡ origins ++ later)) → Stands o m k nodes origins → satisfies R N (machineStanding o k nodes' origins') → satisfies R N (machineStanding o k nodes origins)
-unfolding machineStanding equationsFrom
-runs-kept R N none m k nodes nodes' origins origins' g o s sat =
-    let e = entry-kept (length (k .nodes)) nodes nodes' (s .node) g (s .stays) in
-    subst (λ (x : Option Node). satisfies R N (equationsFrom x)) (sym (s .stays))
-    (satisfies-split R N (s .node .equations) (e .2 .later) (subst (λ (es : List Equation). satisfies R N es) (ap equationsFrom (e .1) ∙ e .2 .equations) sat) .0)
-runs-kept R N (some x) m k nodes nodes' origins origins' g o s sat = subst (λ (es : List Equation). satisfies R N es) (block-stands (block-kept g o s) ∙ sym (block-stands s)) sat
+runs-kept : {O : Type 0} (R : Run O) (N : ℕ) (w : Option Name) (m : Machine) (k : Made) (nodes nodes' : List Node) (origins origins' : List Origin)
+    → grown nodes nodes' → ((later : List Origin) × (origins' ≡ origins ++ later)) → Stands w m k nodes origins → satisfies R N (machineStanding w m k nodes' origins') → satisfies R N (machineStanding w m k nodes origins)
+runs-kept R N w m k nodes nodes' origins origins' g o s sat =
+    subst (λ (es : List Equation). satisfies R N es) (own-stands w m k nodes' origins' (stands-kept w m k nodes nodes' origins origins' g o s) ∙ sym (own-stands w m k nodes origins s)) sat
 
 -- both calls answered 0, the second on the pack that the first wrote
 pub both-lowered : (O : Type 0) (s b c : List ℕ) (output report : ℕ) → MachinesLowered O s b → Bytes b → lowerActivations b output report ≡ writes c → MachinesKept O s c

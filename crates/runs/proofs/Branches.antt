@@ -11,12 +11,13 @@ use Rattle.pack.specs.Syntax.{Activation, Equation, Node, Package, Port, eArrow
 use Rattle.activation_rules.specs.LastCalls.{lastName}
 use Rattle.activation_rules.specs.MadeNames.{actPrefix, branch, clockVar, flagVar, lastInfix, lastVar, madeName, noneVar, other, sampleVar, tag, valueVar}
 use Rattle.runs.specs.Claim.{mayRead}
-use Rattle.runs.specs.Run.{Run, ifValue}
-use Rattle.runs.specs.Scopes.{OutputsGiven}
+use Rattle.run_rules.specs.Run.{Run, ifValue}
+use Rattle.run_rules.specs.Scopes.{OutputsGiven}
 use Rattle.runs.proofs.Computing.{actBlock, actPremises, activationsNumber, holding, ownerOf, reading, satisfying, small}
-use Rattle.runs.proofs.Owned.{F, o, sets}
-use Rattle.runs.proofs.PremisesTested.{fed}
-use Rattle.runs.proofs.RunTables.{cellAt, look, sometimes, tableRun, truths}
+use Rattle.run_rules.proofs.ChartFacts.{o, sets}
+use Rattle.runs.proofs.Owned.{F}
+use Rattle.run_rules.proofs.PremisesTested.{fed}
+use Rattle.run_rules.proofs.RunTables.{cellAt, look, openRun, sometimes, tableRun, truths}
 use Rattle.runs.proofs.Using.{ActInstance, act-instance}
 
 abbrev a : Name
@@ -83,7 +84,7 @@ run =
     ∷ [])
 
 pub branches-instance : ActInstance held act owner (port (lastVar a v) ∷ []) holders run 4
-unfolding held owner act holders run tableRun look cellAt truths sometimes ifValue lastName lastVar lastInfix flagVar noneVar clockVar sampleVar valueVar tag madeName actPrefix decimal digits small reading activationsNumber ownerOf holding actPremises satisfying actBlock member
+unfolding held owner act holders run tableRun openRun look cellAt truths sometimes ifValue lastName lastVar lastInfix flagVar noneVar clockVar sampleVar valueVar tag madeName actPrefix decimal digits small reading activationsNumber ownerOf holding actPremises satisfying actBlock member
 branches-instance = record { only = refl; bytes = refl; reads = refl; answers = refl; owner = refl; holds = refl; none = λ x. refl; premises = refl; satisfied = refl }
 
 pub branches-run : OutputsGiven run 4 (fed run) act (mayRead act owner (port (lastVar a v) ∷ [])) (act .outputs)

@@ -9,8 +9,8 @@ use lib.Seq.{drop-at}
 use Rattle.pack.specs.Names.{Name, eqName}
 use Rattle.machine_rules.specs.Resolved.{Machine, Regions, States, rCons, rNil, sCons, sNil}
 use Rattle.machine_rules.specs.Lower.{sizeR, sizeS}
-use Rattle.runs.specs.Chart.{Guards, Kept, Turn, atFirst, cycle, firstKept, foundIn, founds, keptIn, kepts, startR, startS, topOf, turn, turnsR, turnsS}
-use Rattle.runs.specs.Words.{always, within}
+use Rattle.run_rules.specs.Chart.{Guards, Kept, Turn, atFirst, cycle, firstKept, foundIn, founds, keptIn, kepts, startR, startS, topOf, turn, turnsR, turnsS}
+use Rattle.run_rules.specs.Words.{always, within}
 use Rattle.runs.proofs.Streams.{chart, chartR, chartS, foundAt, keptAt, topFound}
 
 -- streams in a cycle
@@ -40,11 +40,11 @@ kepts-append (x ∷ k) l = ap (λ y. x .kept ∷ y) (kepts-append k l)
 
 -- what the regions keep, in preorder
 unfoldable mutual
-  keptsS : Guards → (ℕ → Bool) → (ℕ → Name) → States → List (ℕ → Kept)
+  pub keptsS : Guards → (ℕ → Bool) → (ℕ → Name) → States → List (ℕ → Kept)
   keptsS G A f sNil = []
   keptsS G A f (sCons s es ts rs rest) = keptsR G (within A f s) rs ++ keptsS G A f rest
 
-  keptsR : Guards → (ℕ → Bool) → Regions → List (ℕ → Kept)
+  pub keptsR : Guards → (ℕ → Bool) → Regions → List (ℕ → Kept)
   keptsR G A rNil = []
   keptsR G A (rCons i h ss rest) = keptAt G i h ss A ∷ (keptsS G A (foundAt G i h ss A) ss ++ keptsR G A rest)
 
@@ -52,12 +52,12 @@ unfoldable mutual
 mutual
   unfolding keptsS sizeS atEach
 
-  sizedS : (G : Guards) (A : ℕ → Bool) (f : ℕ → Name) (ss : States) (t : ℕ) → length (atEach t (keptsS G A f ss)) ≡ sizeS ss
+  pub sizedS : (G : Guards) (A : ℕ → Bool) (f : ℕ → Name) (ss : States) (t : ℕ) → length (atEach t (keptsS G A f ss)) ≡ sizeS ss
   sizedS G A f sNil t = refl
   sizedS G A f (sCons s es ts rs rest) t =
       rw (each-append t (keptsR G (within A f s) rs) (keptsS G A f rest), length-append (atEach t (keptsR G (within A f s) rs)) (atEach t (keptsS G A f rest)), sizedR G (within A f s) rs t, sizedS G A f rest t)
 
-  sizedR : (G : Guards) (A : ℕ → Bool) (rs : Regions) (t : ℕ) → length (atEach t (keptsR G A rs)) ≡ sizeR rs
+  pub sizedR : (G : Guards) (A : ℕ → Bool) (rs : Regions) (t : ℕ) → length (atEach t (keptsR G A rs)) ≡ sizeR rs
   sizedR G A rNil t = refl
   sizedR G A (rCons i h ss rest) t =
       rw (each-append t (keptsS G A (foundAt G i h ss A) ss) (keptsR G A rest), length-append (atEach t (keptsS G A (foundAt G i h ss A) ss)) (atEach t (keptsR G A rest)), sizedS G A (foundAt G i h ss A) ss t, sizedR G A rest t) (omega arith)
@@ -119,7 +119,7 @@ mutual
       rw (now, then) (ap (λ x. F t ∷ x) (p .0), ap (λ x. keptAt G i h ss A (suc t) ∷ x) (p .1))
 
 -- what is kept before a cycle, and found in it
-kept-is : (G : Guards) (m : Machine) (t : ℕ) → keptIn G m t ≡ atEach t (keptsR G always (topOf m))
+pub kept-is : (G : Guards) (m : Machine) (t : ℕ) → keptIn G m t ≡ atEach t (keptsR G always (topOf m))
 unfolding keptIn cycle
 kept-is G m zero = firstR G always (topOf m)
 kept-is G m (suc t) =

@@ -16,12 +16,12 @@ use Rattle.activation_rules.specs.Flags.{andAlso, flagEquations}
 use Rattle.activation_rules.specs.Lower.{tailOf}
 use Rattle.activation_rules.specs.MadeNames.{Scope, actPrefix, branch, clockVar, flagVar, madeName, noneVar, other, valueVar}
 use Rattle.activation_rules.specs.Merges.{mergeFrom}
-use Rattle.runs.specs.Premises.{conditionsAre, present, startsWith}
-use Rattle.runs.specs.Run.{Clock, Run, Value, agrees, binary, binaryValue, bools, clockOf, eval, every, fits, ifValue, isBool, isPresent, notValue, sameClock, satisfies, sub, unary, vBool}
-use Rattle.runs.specs.Scopes.{Conditions, choice, eqScope}
-use Rattle.runs.proofs.Booleans.{&&-true, true-false}
+use Rattle.run_rules.specs.Premises.{conditionsAre, present, startsWith}
+use Rattle.run_rules.specs.Run.{Clock, Run, Value, agrees, binary, binaryValue, bools, clockOf, eval, every, fits, ifValue, isBool, notValue, sameClock, satisfies, sub, unary, vBool}
+use Rattle.run_rules.specs.Scopes.{Conditions, choice, eqScope}
+use Rattle.run_rules.proofs.Booleans.{&&-true}
 use Rattle.runs.proofs.ClocksAlike.{eval-var, on-base}
-use Rattle.runs.proofs.Prefixes.{starts-append}
+use Rattle.run_rules.proofs.Prefixes.{starts-append}
 
 -- a later branch is another scope
 later : (C : Conditions) (u k j : ℕ) (cs : List Expr) → j < k → eqScope (choice C u k cs) (branch j) ≡ false
@@ -60,20 +60,15 @@ and-true : (b : Bool) → b && true ≡ b
 and-true true = refl
 and-true false = refl
 
-and-false : (a : Bool) → a && false ≡ false
+pub and-false : (a : Bool) → a && false ≡ false
 and-false true = refl
 and-false false = refl
 
 module _ {O : Type 0} where
-  not-present : (w : Option (Value O)) → isPresent w ≡ false → w ≡ none
-  unfolding isPresent
-  not-present none e = refl
-  not-present (some v) e = absurd (true-false {b = true} refl e)
-
-  cell-is : (v b q : Bool) (w : Option (Value O)) → isPresent w ≡ q → (q ≡ true → w ≡ some (vBool b)) → isBool v w ≡ q && Bool·beq v b
+  cell-is : (v b q : Bool) (w : Option (Value O)) → (q ≡ false → w ≡ none) → (q ≡ true → w ≡ some (vBool b)) → isBool v w ≡ q && Bool·beq v b
   unfolding isBool
   cell-is v b true w p h = rw (h refl)
-  cell-is v b false w p h = rw (not-present w p)
+  cell-is v b false w p h = rw (p refl)
 
 module _ {O : Type 0} (R : Run O) (N : ℕ) (a : Name) (free : (x : Name) → startsWith actPrefix x ≡ true → R .enums x ≡ false) where
   made-free : (l : ℕ) (r : Name) → R .enums (madeName a l r) ≡ false
@@ -127,12 +122,12 @@ module _ {O : Type 0} (R : Run O) (N : ℕ) (a : Name) (free : (x : Name) → st
     sub-true : (k : ℕ) (Q : ℕ → Bool) (c : Expr) → sameClock N (clockOf R (clockVar a k)) Q → ((t : ℕ) → t < N → Q t ≡ true → R .at (clockVar a k) t ≡ some (vBool (C c t)))
         → (t : ℕ) → t < N → sub R (clockVar a k) true t ≡ Q t && C c t
     unfolding sub clockOf
-    sub-true k Q c p h t lt = cell-is true (C c t) (Q t) (R .at (clockVar a k) t) (p t lt) (h t lt) ∙ ap (λ x. Q t && x) (beq-true (C c t))
+    sub-true k Q c p h t lt = cell-is true (C c t) (Q t) (R .at (clockVar a k) t) (λ e. R .off (clockVar a k) t (p t lt ∙ e)) (h t lt) ∙ ap (λ x. Q t && x) (beq-true (C c t))
 
     sub-false : (k : ℕ) (Q : ℕ → Bool) (c : Expr) → sameClock N (clockOf R (clockVar a k)) Q → ((t : ℕ) → t < N → Q t ≡ true → R .at (clockVar a k) t ≡ some (vBool (C c t)))
         → (t : ℕ) → t < N → sub R (clockVar a k) false t ≡ Q t && not (C c t)
     unfolding sub clockOf
-    sub-false k Q c p h t lt = cell-is false (C c t) (Q t) (R .at (clockVar a k) t) (p t lt) (h t lt) ∙ ap (λ x. Q t && x) (beq-false (C c t))
+    sub-false k Q c p h t lt = cell-is false (C c t) (Q t) (R .at (clockVar a k) t) (λ e. R .off (clockVar a k) t (p t lt ∙ e)) (h t lt) ∙ ap (λ x. Q t && x) (beq-false (C c t))
 
     -- what is claimed of the branches from `k` on, in the cycles where none before holds
     -- (what the merged output is; in which cycles the chosen scope's value is present; what is sampled onto that scope, and that it is present)

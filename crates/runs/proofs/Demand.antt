@@ -3,6 +3,8 @@ use Prim.Native.Nat.{ℕ, suc, _<_}
 use mathlib.Core.List.{List, [], _∷_, _++_}
 use mathlib.Core.Option.{Option, none, some}
 use mathlib.Core.Path.{_≡_, refl, sym, ap, subst, _∙_}
+use lib.ListN.{length, take}
+use lib.Seq.{take-append-seam}
 use Rattle.wire.specs.Lists.{Bytes}
 use Rattle.pack.specs.Legal.{completed, newNames, withNames}
 use Rattle.pack.specs.Names.{Name}
@@ -19,15 +21,17 @@ use Rattle.activation_rules.specs.Call.{lowerActivations}
 use Rattle.activation_rules.specs.Checks.{branchNames, elseName}
 use Rattle.activation_rules.specs.Lower.{actEquations}
 use Rattle.activations.proofs.Joined.{activations-enums}
-use Rattle.runs.specs.Chart.{Guards}
-use Rattle.runs.specs.Claim.{ActClaim, ActivationsLowered, DemandThree, MachineClaim, MachineRun, MachinesLowered, OutputsAre, Picks, StatesAre, mayRead}
-use Rattle.runs.specs.Premises.{MachinePremises}
-use Rattle.runs.specs.Run.{Run, satisfies}
+use Rattle.run_rules.specs.Chart.{Guards, Kept, topOf}
+use Rattle.runs.specs.Claim.{ActClaim, ActivationsLowered, DemandThree, KeptAre, MachineClaim, MachineRun, MachinesLowered, OutputsAre, Picks, StatesAre, mayRead}
+use Rattle.run_rules.specs.Premises.{MachinePremises}
+use Rattle.run_rules.specs.Run.{Run, satisfies}
+use Rattle.run_rules.specs.Words.{always}
 use Rattle.runs.specs.Standing.{Block, Stands, actStanding, activationsBefore, equationsFrom, machineStanding, machinesBefore}
-use Rattle.runs.proofs.ActRuns.{act-run, satisfies-split}
+use Rattle.runs.proofs.ActRuns.{act-run}
 use Rattle.runs.proofs.ActsStand.{ActWritten, act-written}
-use Rattle.runs.proofs.ChartStreams.{atEach, found-is}
+use Rattle.runs.proofs.ChartStreams.{atEach, found-is, kept-is, keptsR}
 use Rattle.runs.proofs.InWords.{in-words}
+use Rattle.runs.proofs.KeptRuns.{keptNumbered}
 use Rattle.runs.proofs.MachineRuns.{RunIsChart, outputsPicked, run-is-chart}
 use Rattle.runs.proofs.MachinesStand.{MachineWritten, block-stands, machine-written}
 use Rattle.runs.proofs.NotRefused.{not-refused, not-refused-act}
@@ -43,6 +47,11 @@ unfolding atEach
 states-are R N n [] p t lt = tt
 states-are R N n (f ∷ fs) p t lt = (p .0 t lt, states-are R N (suc n) fs (p .1) t lt)
 
+all-kept : {O : Type 0} (R : Run O) (N n : ℕ) (ks : List (ℕ → Kept)) → keptNumbered R N n ks → (t : ℕ) → t < N → KeptAre R t n (atEach (suc t) ks)
+unfolding atEach
+all-kept R N n [] p t lt = tt
+all-kept R N n (k ∷ ks) p t lt = (p .0 t lt .0, p .0 t lt .1, all-kept R N (suc n) ks (p .1) t lt)
+
 outputs-are : {O : Type 0} (R : Run O) (N : ℕ) (G : Guards) (m : Machine) (ps : List Port) → outputsPicked R N G m ps → OutputsAre R N G m ps
 outputs-are R N G m [] h = tt
 outputs-are R N G m (p ∷ ps) h =
@@ -54,20 +63,23 @@ machine-run R N G m ok P sat =
     let c : RunIsChart R N G m = run-is-chart R N G m (not-refused m ok) P sat in
     record {
       found = λ t lt. subst (λ (x : List Name). StatesAre R t 0 x) (sym (found-is G m t)) (states-are R N 0 (chart G m) (c .found) t lt);
+      kept = λ t lt. subst (λ (x : List Kept). KeptAre R t 0 x) (sym (kept-is G m (suc t))) (all-kept R N 0 (keptsR G always (topOf m)) (c .kept) t lt);
       words = in-words R N G m (c .found);
       outputs = outputs-are R N G m (m .outputs) (c .outputs);
     }
 
--- what stands for a machine begins with its equations
-machine-stands : {O : Type 0} (R : Run O) (N : ℕ) (o : Option Name) (m : Machine) (k : Made) (nodes : List Node) (origins : List Origin) → Stands o m k nodes origins
-    → satisfies R N (machineStanding o k nodes origins) → satisfies R N (equationsOf m)
+-- what stands for a machine are its equations
+pub own-stands : (o : Option Name) (m : Machine) (k : Made) (nodes : List Node) (origins : List Origin) → Stands o m k nodes origins → machineStanding o m k nodes origins ≡ equationsOf m
 unfolding machineStanding equationsFrom
-machine-stands R N none m k nodes origins s sat =
-    satisfies-split R N (equationsOf m) (s .later) (subst (λ (es : List Equation). satisfies R N es) (ap equationsFrom (s .stays) ∙ s .stands) sat) .0
-machine-stands R N (some o) m k nodes origins s sat =
-    subst (λ (es : List Equation). satisfies R N es) (block-stands s) sat
+own-stands none m k nodes origins s =
+    ap (λ (es : List Equation). take (length (equationsOf m)) es) (ap equationsFrom (s .stays) ∙ s .stands) ∙ take-append-seam (equationsOf m) (s .later)
+own-stands (some o) m k nodes origins s = block-stands s
 
-act-stands : {O : Type 0} (R : Run O) (N : ℕ) (kind : OriginKind) (name owner : Name) (branches : List Name) (es : List Equation) (k : Made) (nodes : List Node) (origins : List Origin) → Block kind name owner branches es k nodes origins
+machine-stands : {O : Type 0} (R : Run O) (N : ℕ) (o : Option Name) (m : Machine) (k : Made) (nodes : List Node) (origins : List Origin) → Stands o m k nodes origins
+    → satisfies R N (machineStanding o m k nodes origins) → satisfies R N (equationsOf m)
+machine-stands R N o m k nodes origins s sat = subst (λ (es : List Equation). satisfies R N es) (own-stands o m k nodes origins s) sat
+
+pub act-stands : {O : Type 0} (R : Run O) (N : ℕ) (kind : OriginKind) (name owner : Name) (branches : List Name) (es : List Equation) (k : Made) (nodes : List Node) (origins : List Origin) → Block kind name owner branches es k nodes origins
     → satisfies R N (actStanding k nodes origins) → satisfies R N es
 unfolding actStanding
 act-stands R N kind name owner branches es k nodes origins s sat =

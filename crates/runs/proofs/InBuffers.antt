@@ -14,7 +14,7 @@ use Rattle.runs.proofs.Demand.{activations-lowered, machines-lowered}
 use Rattle.runs.proofs.Zero.{activations-zero, machines-zero}
 
 -- the bytes that a call says it has written are the outcome's pack
-written-bytes : (x : Outcome) (number value : ℕ) (output output' : List ℕ) (b : List ℕ) → Gives x number value output output' → x ≡ writes b → take value output' ≡ b
+pub written-bytes : (x : Outcome) (number value : ℕ) (output output' : List ℕ) (b : List ℕ) → Gives x number value output output' → x ≡ writes b → take value output' ≡ b
 unfolding outputOf valueOf begins
 written-bytes x number value output output' b g e =
     let v : value ≡ length b = g .value-is ∙ ap valueOf e in

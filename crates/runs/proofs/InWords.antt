@@ -9,16 +9,16 @@ use Rattle.pack.specs.Names.{Name}
 use Rattle.machine_rules.specs.Resolved.{Machine, Regions, States, rCons, rNil, sCons, sNil}
 use Rattle.machine_rules.specs.Lower.{sizeR, sizeS}
 use Rattle.machine_rules.specs.MadeNames.{stateVar}
-use Rattle.runs.specs.Chart.{Guards}
-use Rattle.runs.specs.Run.{Run, vEnum}
-use Rattle.runs.specs.Words.{Region, Words, always, within, wordsR, wordsS}
+use Rattle.run_rules.specs.Chart.{Guards}
+use Rattle.run_rules.specs.Run.{Run, vEnum}
+use Rattle.run_rules.specs.Words.{Region, Words, always, stateOf, within, wordsR, wordsS}
 use Rattle.runs.proofs.Latest.{chosenAt, found-latest}
 use Rattle.runs.proofs.OutputRuns.{numbered-first, numbered-second}
 use Rattle.runs.proofs.Streams.{chart, chartR, chartS, foundAt, topFound}
 use Rattle.runs.proofs.TreeRuns.{lengthR, lengthS, numbered}
 
 one : {O : Type 0} (R : Run O) (N : ℕ) (G : Guards) (A : ℕ → Bool) (n : ℕ) (i : Name) (h : Bool) (ss : States) → ((t : ℕ) → t < N → R .at (stateVar n) t ≡ some (vEnum (foundAt G i h ss A t))) → Region R N G A n i h ss (foundAt G i h ss A)
-unfolding chosenAt
+unfolding chosenAt stateOf
 one R N G A n i h ss p = record { state = p; words = found-latest G i h ss A }
 
 mutual

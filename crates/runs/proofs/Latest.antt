@@ -5,9 +5,9 @@ use mathlib.Core.Option.{some}
 use mathlib.Core.Path.{_≡_, refl}
 use Rattle.pack.specs.Names.{Name}
 use Rattle.machine_rules.specs.Resolved.{States}
-use Rattle.runs.specs.Chart.{Guards, anew, choose, find, keep}
-use Rattle.runs.specs.Run.{previous}
-use Rattle.runs.specs.Words.{latest, wasActive}
+use Rattle.run_rules.specs.Chart.{Guards, anew, choose, find, keep}
+use Rattle.run_rules.specs.Run.{previous}
+use Rattle.run_rules.specs.Words.{latest, wasActive}
 use Rattle.runs.proofs.Streams.{foundAt, keptAt}
 
 module _ (G : Guards) (i : Name) (h : Bool) (ss : States) (A : ℕ → Bool) where

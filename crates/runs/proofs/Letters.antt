@@ -15,7 +15,7 @@ use Rattle.pack.specs.Read.{nameByte}
 use Rattle.pack.proofs.Tables.{all-append}
 use Rattle.machine_rules.specs.MadeNames.{activeVar, enumName, nextVar, smPrefix, stateVar}
 use Rattle.activation_rules.specs.MadeNames.{Scope, actPrefix, branch, clockVar, flagVar, lastInfix, lastVar, madeName, noneVar, other, sampleVar, tag, valueVar}
-use Rattle.runs.proofs.Booleans.{&&-true}
+use Rattle.run_rules.proofs.Booleans.{&&-true}
 
 abbrev pub Lettered : Name → Type 0
 Lettered n = All (λ b. nameByte b ≡ true) n

@@ -1,5 +1,3 @@
-pub mod Booleans
-pub mod Prefixes
 pub mod ClocksAlike
 pub mod Accepting
 pub mod NotRefused
@@ -7,6 +5,7 @@ pub mod Streams
 pub mod Latest
 pub mod RegionRuns
 pub mod TreeRuns
+pub mod KeptRuns
 pub mod OutputRuns
 pub mod MachineRuns
 pub mod InWords
@@ -36,13 +35,17 @@ pub mod Demand
 pub mod FromDrawn
 pub mod BothLowered
 pub mod InBuffers
-pub mod Tested
-pub mod PremisesTested
-pub mod RunTables
 pub mod Computing
 pub mod Using
 pub mod Nested
+pub mod Shared
 pub mod Owned
+pub mod Refined
 pub mod Branches
+pub mod Uninitialised
+pub mod Called
+pub mod Visits
+pub mod Coloured
+pub mod FirstTrue
 pub mod Both
 pub mod Charts

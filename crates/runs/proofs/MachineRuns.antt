@@ -1,26 +1,29 @@
 -- Demand 3 for machines: in every run of the lowered equations, the regions' states and the outputs are the plain chart's.
-use Prim.Native.Nat.{ℕ, zero, suc, _<_}
+use Prim.Native.Nat.{ℕ, zero, suc, _+_, _<_}
+use lib.ListN.{length}
 use mathlib.Core.List.{List, [], _∷_, _++_}
 use mathlib.Core.Bool.{true, false, _&&_}
 use mathlib.Core.Option.{some}
-use mathlib.Core.Path.{_≡_, _∙_}
+use mathlib.Core.Path.{_≡_, refl, _∙_}
 use Rattle.pack.specs.Names.{Name, member}
 use Rattle.pack.specs.Syntax.{Equation, Expr, Port}
 use Rattle.machine_rules.specs.Resolved.{Machine}
 use Rattle.machine_rules.specs.Checks.{allNamesS}
 use Rattle.machine_rules.specs.Lower.{activeIn, coversS, defaultOf, equationsOf, equationsS, namesOf, outputEquations, topEquations}
 use Rattle.machine_rules.specs.MadeNames.{activeVar, nextVar, smPrefix, stateVar}
-use Rattle.runs.specs.Chart.{Guards}
+use Rattle.run_rules.specs.Chart.{Guards, topOf}
 use Rattle.runs.specs.Claim.{Picks}
-use Rattle.runs.specs.Premises.{MachinePremises, onEveryCycle, presents, startsWith}
-use Rattle.runs.specs.Run.{Run, agrees, satisfies, vEnum}
-use Rattle.runs.specs.Words.{always, within}
+use Rattle.run_rules.specs.Premises.{MachinePremises, onEveryCycle, presents, startsWith}
+use Rattle.run_rules.specs.Run.{Run, agrees, satisfies, vEnum}
+use Rattle.run_rules.specs.Words.{always, within}
 use Rattle.runs.proofs.Accepting.{accepted, coversAll, distinct, validS}
-use Rattle.runs.proofs.Booleans.{&&-true}
+use Rattle.run_rules.proofs.Booleans.{&&-true}
+use Rattle.runs.proofs.ChartStreams.{keptsR, keptsS}
 use Rattle.runs.proofs.ClocksAlike.{on-base}
+use Rattle.runs.proofs.KeptRuns.{keepS, kept-join, keptNumbered}
 use Rattle.runs.proofs.OutputRuns.{valueS-picks}
-use Rattle.runs.proofs.Prefixes.{starts-append}
-use Rattle.runs.proofs.RegionRuns.{found-member, isName-eval, known, top-state}
+use Rattle.run_rules.proofs.Prefixes.{starts-append}
+use Rattle.runs.proofs.RegionRuns.{found-member, isName-eval, known, top-next, top-state}
 use Rattle.runs.proofs.Streams.{chart, chartS, picked, topFound}
 use Rattle.runs.proofs.TreeRuns.{holds, holds-split, holdsAt, known-own, madeFree, numbered, tells, treeS}
 
@@ -31,6 +34,7 @@ outputsPicked R N G m (p ∷ ps) = ((t : ℕ) → t < N → Picks R t (picked G 
 
 pub record RunIsChart {O : Type 0} (R : Run O) (N : ℕ) (G : Guards) (m : Machine) : Type 0 where
   pub found : numbered R N 0 (chart G m)
+  pub kept : keptNumbered R N 0 (keptsR G always (topOf m))
   pub outputs : outputsPicked R N G m (m .outputs)
 
 module _ {O : Type 0} (R : Run O) (N : ℕ) where
@@ -94,6 +98,14 @@ module _ {O : Type 0} (R : Run O) (N : ℕ) (G : Guards) (m : Machine) (ok : acc
   regions-are : numbered R N 1 (chartS G always (topFound G m) (m .states))
   regions-are = treeS R N G made-free (m .states) (namesOf (m .states)) all-known (P .guards) (checks .1) true 0 1 always (topFound G m) top-tells (parts .1)
 
+  kept-are : keptNumbered R N 0 (keptsR G always (topOf m))
+  unfolding topOf topEquations topFound keptsS
+  kept-are = (
+    (λ t lt. (top-next R N G 0 (m .initial) (m .states) (made-free 0) (known-own R (m .states) all-known) (P .guards) (checks .0) (checks .1) (parts .0 .1 .0) t lt (top-is t lt), tt)),
+    kept-join R N 1 (1 + length (keptsS G always (topFound G m) (m .states))) (keptsS G always (topFound G m) (m .states)) [] refl
+        (keepS R N G made-free (m .states) (namesOf (m .states)) all-known (P .guards) (checks .1) true 0 1 always (topFound G m) top-tells (parts .1)) tt,
+  )
+
   outputs-are : (ps : List Port) → coversAll (m .states) ps ≡ true → holds R N (outputEquations m ps) → outputsPicked R N G m ps
   unfolding coversAll outputEquations picked topFound
   outputs-are [] co h = tt
@@ -108,4 +120,4 @@ module _ {O : Type 0} (R : Run O) (N : ℕ) (G : Guards) (m : Machine) (ok : acc
 
   pub run-is-chart : RunIsChart R N G m
   unfolding chart
-  run-is-chart = record { found = (top-is, regions-are); outputs = outputs-are (m .outputs) (checks .2) (parts .2) }
+  run-is-chart = record { found = (top-is, regions-are); kept = kept-are; outputs = outputs-are (m .outputs) (checks .2) (parts .2) }

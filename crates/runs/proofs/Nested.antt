@@ -7,34 +7,18 @@ use mathlib.Core.Path.{_≡_, refl}
 use Rattle.wire.specs.Decimal.{decimal, digits}
 use Rattle.pack.specs.Names.{Name}
 use Rattle.pack.specs.Syntax.{Drawing, Package, dCons, dNil, eConst, eVar, lBool, qCons, qNil, tBool}
-use Rattle.machine_rules.specs.Resolved.{States, rCons, rNil, sCons, sNil}
 use Rattle.machine_rules.specs.Checks.{allNamesS}
 use Rattle.machine_rules.specs.MadeNames.{activeVar, nextVar, smPrefix, stateVar}
 use Rattle.machine_rules.specs.Resolve.{asMachine}
-use Rattle.runs.specs.AsDrawn.{DrawnMachine, enumValues, noneStarts, valuesIn}
 use Rattle.runs.specs.Claim.{MachineRun}
-use Rattle.runs.specs.Premises.{MachinePremises, startsWith}
-use Rattle.runs.specs.Run.{Run, ifValue}
+use Rattle.run_rules.specs.AsDrawn.{enumValues, valuesIn}
+use Rattle.run_rules.specs.Run.{Run, ifValue}
 use Rattle.runs.proofs.Computing.{machineBlock, machinePremises, machinesNumber, reading, satisfying, small, walking}
-use Rattle.runs.proofs.FromDrawn.{machine-drawn}
-use Rattle.runs.proofs.PremisesTested.{fed, machine-tested}
-use Rattle.runs.proofs.RunTables.{Column, cellAt, inStates, look, tableRun, truths}
+use Rattle.run_rules.proofs.ChartFacts as chart
+use Rattle.run_rules.proofs.ChartFacts.{Off, On, P, Q, swap}
+use Rattle.run_rules.proofs.PremisesTested.{fed}
+use Rattle.run_rules.proofs.RunTables.{Column, cellAt, inStates, look, openRun, tableRun, truths}
 use Rattle.runs.proofs.Using.{MachineInstance, machine-instance}
-
-abbrev pub On : Name
-On = 65 ∷ []
-
-abbrev pub Off : Name
-Off = 66 ∷ []
-
-abbrev pub P : Name
-P = 80 ∷ []
-
-abbrev pub Q : Name
-Q = 81 ∷ []
-
-abbrev pub swap : Name
-swap = 115 ∷ 119 ∷ 97 ∷ 112 ∷ []
 
 -- P to Q always; On and Off change places with `swap`
 unfoldable pub nested : Bool → Drawing
@@ -54,11 +38,6 @@ nested h =
 unfoldable pub held : Bool → Package
 held h = record { names = (77 ∷ []) ∷ swap ∷ On ∷ Off ∷ P ∷ Q ∷ []; enums = []; nodes = []; machines = nested h ∷ []; activations = []; origins = [] }
 
-unfoldable pub states : Bool → States
-states h =
-    sCons On [] (record { guard = eVar swap; target = Off } ∷ []) (rCons P h (sCons P [] (record { guard = eConst (lBool true); target = Q } ∷ []) rNil (sCons Q [] [] rNil sNil)) rNil)
-    (sCons Off [] (record { guard = eVar swap; target = On } ∷ []) rNil sNil)
-
 -- the inner region is active in cycles 0, 1 and 3; `last` is its state in cycle 3
 unfoldable pub table : Name → List Column
 table last =
@@ -73,35 +52,25 @@ table last =
 unfoldable pub run : Name → Run ℕ
 run last = tableRun (On ∷ P ∷ Q ∷ Off ∷ []) (table last)
 
-without : MachineInstance (held false) (nested false) (states false) 4 (run P) 4
-unfolding held nested states run table tableRun look cellAt truths inStates ifValue stateVar nextVar activeVar smPrefix decimal digits allNamesS asMachine small reading machinesNumber walking machinePremises satisfying machineBlock
-without = record { only = refl; bytes = refl; reads = refl; answers = refl; walks = refl; states = λ x. refl; premises = refl; satisfied = refl }
+without : MachineInstance (held false) (nested false) (chart.nested false) 4 (run P) 4
+unfolding held nested chart.nested run table tableRun openRun look cellAt truths inStates ifValue stateVar nextVar activeVar smPrefix decimal digits allNamesS asMachine small reading machinesNumber walking machinePremises satisfying machineBlock enumValues valuesIn
+without = record { others = []; first = refl; bytes = refl; reads = refl; answers = refl; walks = refl; enums = λ x. refl; premises = refl; satisfied = refl }
 
-pub without-runs : MachineRun (run P) 4 (fed (run P)) (asMachine (nested false) (states false))
-without-runs = machine-instance (held false) (nested false) (states false) 4 (run P) 4 without
+pub without-runs : MachineRun (run P) 4 (fed (run P)) (asMachine (nested false) (chart.nested false))
+without-runs = machine-instance (held false) (nested false) (chart.nested false) 4 (run P) 4 without
 
--- the same by the premises as they are drawn
-drawn : DrawnMachine (run P) 4 (fed (run P)) (held false) (asMachine (nested false) (states false))
-unfolding held nested states run tableRun allNamesS asMachine valuesIn enumValues noneStarts startsWith smPrefix machinePremises
-drawn =
-    let q : MachinePremises (run P) 4 (fed (run P)) (asMachine (nested false) (states false)) = machine-tested (run P) 4 (asMachine (nested false) (states false)) (λ x. refl) (without .premises) in
-    record { enums = λ x. refl; free = refl; base = q .base; guards = q .guards; sides = q .sides }
+with-history : MachineInstance (held true) (nested true) (chart.nested true) 4 (run Q) 4
+unfolding held nested chart.nested run table tableRun openRun look cellAt truths inStates ifValue stateVar nextVar activeVar smPrefix decimal digits allNamesS asMachine small reading machinesNumber walking machinePremises satisfying machineBlock enumValues valuesIn
+with-history = record { others = []; first = refl; bytes = refl; reads = refl; answers = refl; walks = refl; enums = λ x. refl; premises = refl; satisfied = refl }
 
-pub drawn-premises : MachinePremises (run P) 4 (fed (run P)) (asMachine (nested false) (states false))
-drawn-premises = machine-drawn (run P) 4 (fed (run P)) (held false) (asMachine (nested false) (states false)) drawn
-
-with-history : MachineInstance (held true) (nested true) (states true) 4 (run Q) 4
-unfolding held nested states run table tableRun look cellAt truths inStates ifValue stateVar nextVar activeVar smPrefix decimal digits allNamesS asMachine small reading machinesNumber walking machinePremises satisfying machineBlock
-with-history = record { only = refl; bytes = refl; reads = refl; answers = refl; walks = refl; states = λ x. refl; premises = refl; satisfied = refl }
-
-pub with-history-runs : MachineRun (run Q) 4 (fed (run Q)) (asMachine (nested true) (states true))
-with-history-runs = machine-instance (held true) (nested true) (states true) 4 (run Q) 4 with-history
+pub with-history-runs : MachineRun (run Q) 4 (fed (run Q)) (asMachine (nested true) (chart.nested true))
+with-history-runs = machine-instance (held true) (nested true) (chart.nested true) 4 (run Q) 4 with-history
 
 -- the run in which the inner region ends in the other state satisfies neither
-without-not : satisfying (run Q) 4 (machineBlock (held false) (nested false)) ≡ false
-unfolding held nested run table tableRun look cellAt truths inStates ifValue stateVar nextVar activeVar smPrefix decimal digits satisfying machineBlock
+without-not : satisfying (run Q) 4 (machineBlock (held false) (nested false) (chart.nested false)) ≡ false
+unfolding held nested chart.nested run table tableRun openRun look cellAt truths inStates ifValue stateVar nextVar activeVar smPrefix decimal digits asMachine satisfying machineBlock
 without-not = refl
 
-with-not : satisfying (run P) 4 (machineBlock (held true) (nested true)) ≡ false
-unfolding held nested run table tableRun look cellAt truths inStates ifValue stateVar nextVar activeVar smPrefix decimal digits satisfying machineBlock
+with-not : satisfying (run P) 4 (machineBlock (held true) (nested true) (chart.nested true)) ≡ false
+unfolding held nested chart.nested run table tableRun openRun look cellAt truths inStates ifValue stateVar nextVar activeVar smPrefix decimal digits asMachine satisfying machineBlock
 with-not = refl

@@ -14,7 +14,7 @@ use Rattle.machine_rules.specs.Refusals.{duplicateState, unassigned, unknownIni
 use Rattle.activation_rules.specs.Checks.{branchNames, branchless, checks, elseName, inBranches, inScopes, misuse, outputless, unlessAssigned}
 use Rattle.activation_rules.specs.Refusals.{duplicateBranch, noBranches, outputUnassigned}
 use Rattle.runs.proofs.Accepting.{accepted, actAccepted, allAssign, allTargets, assigns, coversAll, distinct, nonempty, outputsAssigned, validR, validS}
-use Rattle.runs.proofs.Booleans.{and-both, true-false}
+use Rattle.run_rules.proofs.Booleans.{and-both, true-false}
 use Rattle.machines.proofs.Accepted.{first-none, refusal-none}
 
 -- no name stands twice

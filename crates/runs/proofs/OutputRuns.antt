@@ -12,13 +12,13 @@ use Rattle.machine_rules.specs.Resolved.{Regions, States, rCons, rNil, sCons, s
 use Rattle.machine_rules.specs.Checks.{allNamesR, allNamesS}
 use Rattle.machine_rules.specs.Lower.{coversR, coversS, fromOption, isName, isOnly, isSome, namesOf, orElse, ownValue, sizeR, sizeS, valueR, valueS}
 use Rattle.machine_rules.specs.MadeNames.{stateVar}
-use Rattle.runs.specs.Chart.{Guards}
+use Rattle.run_rules.specs.Chart.{Guards}
 use Rattle.runs.specs.Claim.{Picks}
-use Rattle.runs.specs.Premises.{HasValue, sidesE, sidesR, sidesS}
-use Rattle.runs.specs.Run.{Run, Value, eval, every, vEnum}
-use Rattle.runs.specs.Words.{within}
+use Rattle.run_rules.specs.Premises.{HasValue, sidesE, sidesR, sidesS}
+use Rattle.run_rules.specs.Run.{Run, Value, eval, every, vEnum}
+use Rattle.run_rules.specs.Words.{within}
 use Rattle.runs.proofs.Accepting.{validR, validS}
-use Rattle.runs.proofs.Booleans.{&&-true, or-split, ≡→T}
+use Rattle.run_rules.proofs.Booleans.{&&-true, or-split, ≡→T}
 use Rattle.runs.proofs.RegionRuns.{found-member, isName-eval, known, orElse-eval, orElse-some}
 use Rattle.runs.proofs.Streams.{chartR, chartS, foundAt, pickR, pickS}
 use Rattle.runs.proofs.TreeRuns.{known-name, known-others, known-regions, known-rest, known-states, lengthR, lengthS, madeFree, numbered, validR-parts, validS-parts}

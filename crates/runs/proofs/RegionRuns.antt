@@ -11,11 +11,11 @@ use Rattle.machine_rules.specs.Resolved.{Regions, States, sCons, sNil}
 use Rattle.pack.proofs.Tables.{eqName-refl}
 use Rattle.machine_rules.specs.Lower.{held, isName, justEntered, namesOf, nextChain, orElse, stateRhs, transitionsOf}
 use Rattle.machine_rules.specs.MadeNames.{activeVar, nextVar, stateVar}
-use Rattle.runs.specs.Chart.{Guards, Kept, anew, choose, find, firstTrue, keep}
-use Rattle.runs.specs.Premises.{guardsS, guardsT}
-use Rattle.runs.specs.Run.{Clock, Run, Value, arrowAt, binary, binaryValue, bools, equals, eval, every, ifOf, literal, notValue, preAt, previous, unary, vBool, vEnum}
+use Rattle.run_rules.specs.Chart.{Guards, Kept, anew, choose, find, firstTrue, keep}
+use Rattle.run_rules.specs.Premises.{guardsS, guardsT}
+use Rattle.run_rules.specs.Run.{Clock, Run, Value, arrowAt, binary, binaryValue, bools, equals, eval, every, ifOf, literal, notValue, preAt, previous, unary, vBool, vEnum}
 use Rattle.runs.proofs.Accepting.{allTargets, validR, validS}
-use Rattle.runs.proofs.Booleans.{&&-true, cond-case, or-right, ≡→T}
+use Rattle.run_rules.proofs.Booleans.{&&-true, cond-case, or-right, ≡→T}
 use Rattle.runs.proofs.ClocksAlike.{equal, eval-var, if-some}
 use Rattle.runs.proofs.Streams.{foundAt, keptAt}
 
@@ -181,7 +181,7 @@ module _ {O : Type 0} (R : Run O) (N : ℕ) (G : Guards) (n : ℕ) (i : Name) (s
   abbrev StateIs : Bool → (ℕ → Bool) → ℕ → Type 0
   StateIs h A t = R .at (stateVar n) t ≡ some (vEnum (foundAt G i h ss A t))
 
-  top-next : equal R N (nextVar n) (nextChain (stateVar n) ss) → (t : ℕ) → t < N → StateIs false every t → NextIs false every t
+  pub top-next : equal R N (nextVar n) (nextChain (stateVar n) ss) → (t : ℕ) → t < N → StateIs false every t → NextIs false every t
   unfolding keptAt keep foundAt
   top-next hn t lt e = hn t lt ∙ chain-at false every t lt e
 
@@ -204,7 +204,7 @@ module _ {O : Type 0} (R : Run O) (N : ℕ) (G : Guards) (n : ℕ) (i : Name) (s
   module _ (h : Bool) (A : ℕ → Bool) (ha : (t : ℕ) → t < N → R .at (activeVar n) t ≡ some (vBool (A t)))
       (hs : equal R N (stateVar n) (stateRhs n i h))
       (hn : equal R N (nextVar n) (eIf (eVar (activeVar n)) (nextChain (stateVar n) ss) (eVar (stateVar n)))) where
-    next-is : (t : ℕ) → t < N → StateIs h A t → NextIs h A t
+    pub next-is : (t : ℕ) → t < N → StateIs h A t → NextIs h A t
     unfolding keptAt keep foundAt eval
     next-is t lt e =
         hn t lt

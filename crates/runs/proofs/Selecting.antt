@@ -11,8 +11,8 @@ use Rattle.pack.specs.Names.{Name}
 use Rattle.pack.specs.Syntax.{Expr}
 use Rattle.machine_rules.specs.Resolved.{Machine, Regions, States, rCons, rNil, sCons, sNil}
 use Rattle.machine_rules.specs.Lower.{ownValue, sizeR, sizeS}
-use Rattle.runs.specs.Chart.{Guards, foundIn, selectR, selectS, selected}
-use Rattle.runs.specs.Words.{always, within}
+use Rattle.run_rules.specs.Chart.{Guards, foundIn, selectR, selectS, selected}
+use Rattle.run_rules.specs.Words.{always, within}
 use Rattle.runs.proofs.ChartStreams.{atEach, each-append, each-length, found-is}
 use Rattle.runs.proofs.Streams.{chart, chartR, chartS, foundAt, pickR, pickS, picked, topFound}
 use Rattle.runs.proofs.TreeRuns.{lengthR, lengthS}

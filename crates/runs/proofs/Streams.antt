@@ -7,8 +7,8 @@ use Rattle.pack.specs.Names.{Name, eqName}
 use Rattle.pack.specs.Syntax.{Expr}
 use Rattle.machine_rules.specs.Resolved.{Machine, Regions, States, rCons, rNil, sCons, sNil}
 use Rattle.machine_rules.specs.Lower.{coversS, ownValue}
-use Rattle.runs.specs.Chart.{Guards, Kept, find, keep}
-use Rattle.runs.specs.Words.{always, within}
+use Rattle.run_rules.specs.Chart.{Guards, Kept, find, keep}
+use Rattle.run_rules.specs.Words.{always, within}
 
 -- a region with this initial state, history and states, active in the cycles A
 unfoldable pub keptAt : Guards → Name → Bool → States → (ℕ → Bool) → ℕ → Kept

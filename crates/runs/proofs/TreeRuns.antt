@@ -13,15 +13,15 @@ use Rattle.pack.proofs.Tables.{eqName-refl}
 use Rattle.machine_rules.specs.Checks.{allNamesR, allNamesS}
 use Rattle.machine_rules.specs.Lower.{activeIn, equationsR, equationsS, namesOf, regionEquations, sizeR, sizeS}
 use Rattle.machine_rules.specs.MadeNames.{activeVar, nextVar, stateVar}
-use Rattle.runs.specs.Chart.{Guards}
-use Rattle.runs.specs.Premises.{guardsR, guardsS}
-use Rattle.runs.specs.Run.{Run, binary, binaryValue, bools, eval, every, vBool, vEnum}
-use Rattle.runs.specs.Words.{within}
+use Rattle.run_rules.specs.Chart.{Guards}
+use Rattle.run_rules.specs.Premises.{guardsR, guardsS}
+use Rattle.run_rules.specs.Run.{Run, binary, binaryValue, bools, eval, every, vBool, vEnum}
+use Rattle.run_rules.specs.Words.{within}
 use Rattle.runs.proofs.Accepting.{allTargets, validR, validS}
-use Rattle.runs.proofs.Booleans.{&&-true, or-left, or-right, or-split, ≡→T}
+use Rattle.run_rules.proofs.Booleans.{&&-true, or-left, or-right, or-split, ≡→T}
 use Rattle.runs.proofs.ClocksAlike.{equal}
-use Rattle.runs.proofs.RegionRuns.{isName-eval, known, state-is}
-use Rattle.runs.proofs.Streams.{chartR, chartS, foundAt}
+use Rattle.runs.proofs.RegionRuns.{isName-eval, known, next-is, state-is}
+use Rattle.runs.proofs.Streams.{chartR, chartS, foundAt, keptAt}
 
 -- lists of names
 pub member-left : (x : Name) (k l : List Name) → member x k ≡ true → member x (k ++ l) ≡ true
@@ -102,10 +102,12 @@ nested-tells R N mf n A f ha hs s e t lt = rw (mf n .2, ha t lt, isName-eval R (
 pub region-is : {O : Type 0} (R : Run O) (N : ℕ) (G : Guards) → madeFree R → (n : ℕ) (active : Expr) (A : ℕ → Bool) (i : Name) (h : Bool) (ss : States) → known R (namesOf ss) → guardsS R N G ss
     → member i (namesOf ss) ≡ true → validS (namesOf ss) ss ≡ true → tells R N active A → holds R N (regionEquations n active i h ss)
     → ((t : ℕ) → t < N → R .at (activeVar n) t ≡ some (vBool (A t))) × ((t : ℕ) → t < N → R .at (stateVar n) t ≡ some (vEnum (foundAt G i h ss A t)))
+    × ((t : ℕ) → t < N → R .at (nextVar n) t ≡ some (vEnum ((keptAt G i h ss A (suc t)) .state)))
 unfolding regionEquations
 region-is R N G mf n active A i h ss kn gs mi va hin hh =
     let ha : (t : ℕ) → t < N → R .at (activeVar n) t ≡ some (vBool (A t)) = λ t lt. hh .0 t lt ∙ hin t lt in
-    (ha, state-is R N G n i ss (mf n) kn gs mi va h A ha (hh .1 .0) (hh .1 .1 .0))
+    let hs = state-is R N G n i ss (mf n) kn gs mi va h A ha (hh .1 .0) (hh .1 .1 .0) in
+    (ha, hs, λ t lt. next-is R N G n i ss (mf n) kn gs mi va h A ha (hh .1 .0) (hh .1 .1 .0) t lt (hs t lt))
 
 module _ {O : Type 0} (R : Run O) (s : Name) (es : List Equation) (ts : List Transition) (rs : Regions) (rest : States) (kn : known R (allNamesS (sCons s es ts rs rest))) where
   pub known-name : R .enums s ≡ true

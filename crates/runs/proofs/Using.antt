@@ -15,7 +15,6 @@ use Rattle.machine_rules.specs.Resolved.{States}
 use Rattle.pack.specs.Write.{encode}
 use Rattle.pack.proofs.WrittenBack.{small-bytes}
 use Rattle.machine_rules.specs.Call.{lowerMachines}
-use Rattle.machine_rules.specs.Checks.{allNamesS}
 use Rattle.machines.specs.Filled.{Answers}
 use Rattle.machine_rules.specs.Machines.{madeMachines, nodeNamed}
 use Rattle.machine_rules.specs.Resolve.{asMachine, resolvedStates, went}
@@ -24,18 +23,20 @@ use Rattle.activation_rules.specs.Call.{lowerActivations}
 use Rattle.activation_rules.specs.Holders.{held, hold}
 use Rattle.activation_rules.specs.Sought.{expressions, found}
 use Rattle.activation_rules.specs.Types.{variables}
-use Rattle.runs.specs.Chart.{Guards}
+use Rattle.run_rules.specs.Chart.{Guards}
 use Rattle.runs.specs.Claim.{ActClaim, ActivationsLowered, MachineClaim, MachineRun, MachinesLowered, mayRead}
-use Rattle.runs.specs.Premises.{ActPremises, MachinePremises}
-use Rattle.runs.specs.Run.{Run, satisfies}
-use Rattle.runs.specs.Scopes.{Conditions, OutputsGiven}
+use Rattle.run_rules.specs.Premises.{ActPremises, MachinePremises}
+use Rattle.run_rules.specs.Run.{Run, satisfies}
+use Rattle.run_rules.specs.Scopes.{Conditions, OutputsGiven}
 use Rattle.runs.specs.Standing.{actStanding, activationsBefore, machineStanding, machinesBefore}
 use Rattle.runs.proofs.Computing.{actBlock, actPremises, activationsNumber, holding, machineBlock, machinePremises, machinesNumber, ownerOf, reading, satisfying, small, walking}
 use Rattle.runs.proofs.Demand.{demand-three}
+use Rattle.runs.proofs.FromDrawn.{machine-drawn}
+use Rattle.run_rules.specs.AsDrawn.{valuesIn}
 use Rattle.runs.proofs.InBuffers.{activation-bytes-run, machine-bytes-run}
-use Rattle.runs.proofs.PremisesTested.{act-tested, fed, machine-tested}
+use Rattle.run_rules.proofs.PremisesTested.{act-tested, fed, machine-tested}
 use Rattle.runs.proofs.ReadsBack.{whole-same}
-use Rattle.runs.proofs.Tested.{satisfies-tested}
+use Rattle.run_rules.proofs.Tested.{satisfies-tested}
 
 same-states : (x y : States) (m n : ℕ) → went x m ≡ went y n → x ≡ y
 same-states x y m n e = cc
@@ -46,7 +47,7 @@ same-held ps qs hs gs e = cc
 -- the machine d of a package p whose pack is lowered
 module _ (s : List ℕ) (output report : ℕ) (by : Bytes s) (p : Package) (r : read s ≡ whole p) where
   pub machine-used : numberOf (lowerMachines s output report) ≡ 0 → (pre : List Drawing) (d : Drawing) (post : List Drawing) → p .machines ≡ pre ++ (d ∷ post) → (ss : States) (n : ℕ) → resolvedStates (p .machines) d ≡ went ss n
-      → {O : Type 0} (R : Run O) (N : ℕ) (G : Guards) → MachinePremises R N G (asMachine d ss) → satisfies R N (machineStanding (d .owner) (machinesBefore p pre) (madeMachines p .nodes) (madeMachines p .origins)) → MachineRun R N G (asMachine d ss)
+      → {O : Type 0} (R : Run O) (N : ℕ) (G : Guards) → MachinePremises R N G (asMachine d ss) → satisfies R N (machineStanding (d .owner) (asMachine d ss) (machinesBefore p pre) (madeMachines p .nodes) (madeMachines p .origins)) → MachineRun R N G (asMachine d ss)
   machine-used e pre d post at ss n w {O} R N G P sat =
       let L = demand-three .machines O s output report by e .lowered in
       let q : L .held ≡ p = whole-same (L .held) p (sym (L .reads) ∙ r) in
@@ -54,8 +55,8 @@ module _ (s : List ℕ) (output report : ℕ) (by : Bytes s) (p : Package) (r : 
       let k : c .states ≡ ss = same-states (c .states) ss (c .count) n (sym (c .resolved) ∙ w) in
       let nodes : madeMachines p .nodes ≡ L .got .nodes = ap (λ (x : Package). madeMachines x .nodes) (sym q) ∙ sym (L .nodes) in
       let origins : madeMachines p .origins ≡ L .got .origins = ap (λ (x : Package). madeMachines x .origins) (sym q) ∙ sym (L .origins) in
-      let here = subst (λ (x : List Origin). satisfies R N (machineStanding (d .owner) (machinesBefore p pre) (L .got .nodes) x)) origins (subst (λ (x : List Node). satisfies R N (machineStanding (d .owner) (machinesBefore p pre) x (madeMachines p .origins))) nodes sat) in
-      subst (λ (x : States). MachineRun R N G (asMachine d x)) k (c .runs R N G (subst (λ (x : States). MachinePremises R N G (asMachine d x)) (sym k) P) here)
+      let here = subst (λ (x : List Origin). satisfies R N (machineStanding (d .owner) (asMachine d ss) (machinesBefore p pre) (L .got .nodes) x)) origins (subst (λ (x : List Node). satisfies R N (machineStanding (d .owner) (asMachine d ss) (machinesBefore p pre) x (madeMachines p .origins))) nodes sat) in
+      subst (λ (x : States). MachinePremises R N G (asMachine d x) → satisfies R N (machineStanding (d .owner) (asMachine d x) (machinesBefore p pre) (L .got .nodes) (L .got .origins)) → MachineRun R N G (asMachine d x)) k (c .runs R N G) P here
 
   -- the activation A, with its owner and the holders' locals
   pub act-used : numberOf (lowerActivations s output report) ≡ 0 → (pre : List Activation) (A : Activation) (post : List Activation) → p .activations ≡ pre ++ (A ∷ post)
@@ -73,24 +74,25 @@ module _ (s : List ℕ) (output report : ℕ) (by : Bytes s) (p : Package) (r : 
       let here = subst (λ (x : List Origin). satisfies R N (actStanding (activationsBefore p pre) (L .got .nodes) x)) origins (subst (λ (x : List Node). satisfies R N (actStanding (activationsBefore p pre) x (madeActivations p .origins))) nodes sat) in
       subst (λ (x : List Port). OutputsGiven R N C A (mayRead A n x) (A .outputs)) l (subst (λ (x : Node). OutputsGiven R N C A (mayRead A x (c .ports)) (A .outputs)) k (c .runs R N C P here))
 
--- what is computed of a run of a package's only machine
+-- what is computed of a run of a package's first machine
 pub record MachineInstance (p : Package) (d : Drawing) (ss : States) (n : ℕ) (R : Run ℕ) (N : ℕ) : Type 0 where
-  pub only : p .machines ≡ d ∷ []
+  pub others : List Drawing
+  pub first : p .machines ≡ d ∷ others
   pub bytes : small p ≡ true
   pub reads : reading p ≡ whole p
   pub answers : machinesNumber p ≡ 0
   pub walks : walking p d ≡ went ss n
-  pub states : (x : Name) → R .enums x ≡ member x (allNamesS ss)
-  pub premises : machinePremises R N (asMachine d ss) ≡ true
-  pub satisfied : satisfying R N (machineBlock p d) ≡ true
+  pub enums : (x : Name) → R .enums x ≡ member x (valuesIn p (asMachine d ss))
+  pub premises : machinePremises R N p (asMachine d ss) ≡ true
+  pub satisfied : satisfying R N (machineBlock p d ss) ≡ true
 
 pub machine-instance : (p : Package) (d : Drawing) (ss : States) (n : ℕ) (R : Run ℕ) (N : ℕ) → MachineInstance p d ss n R N → MachineRun R N (fed R) (asMachine d ss)
 unfolding small reading machinesNumber walking machinePremises satisfying machineBlock asMachine
 machine-instance p d ss n R N i =
-    machine-used (encode p) maxBytes maxBytes (small-bytes (encode p) (i .bytes)) p (i .reads) (i .answers) [] d [] (i .only) ss n (i .walks) R N (fed R)
-    (machine-tested R N (asMachine d ss) (i .states) (i .premises)) (satisfies-tested R N (machineStanding (d .owner) (machinesBefore p []) (madeMachines p .nodes) (madeMachines p .origins)) (i .satisfied))
+    machine-used (encode p) maxBytes maxBytes (small-bytes (encode p) (i .bytes)) p (i .reads) (i .answers) [] d (i .others) (i .first) ss n (i .walks) R N (fed R)
+    (machine-drawn R N (fed R) p (asMachine d ss) (machine-tested R N p (asMachine d ss) (i .enums) (i .premises))) (satisfies-tested R N (machineStanding (d .owner) (asMachine d ss) (machinesBefore p []) (madeMachines p .nodes) (madeMachines p .origins)) (i .satisfied))
 
--- and of its only activation
+-- and of a package's only activation
 pub record ActInstance (p : Package) (A : Activation) (n : Node) (ps : List Port) (hs : List Equation) (R : Run ℕ) (N : ℕ) : Type 0 where
   pub only : p .activations ≡ A ∷ []
   pub bytes : small p ≡ true

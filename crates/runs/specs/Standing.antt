@@ -43,10 +43,11 @@ machinesBefore p pre = lowerEach (p .machines) pre (start p)
 unfoldable pub activationsBefore : Package → List Activation → Made
 activationsBefore p pre = activateEach pre (start p)
 
--- the equations that stand for a machine after k was made: the block that its origin names; without owner, all equations of its node
-unfoldable pub machineStanding : Option Name → Made → List Node → List Origin → List Equation
-machineStanding none k nodes origins = equationsFrom (entry (length (k .nodes)) nodes)
-machineStanding (some o) k nodes origins = blockOf (entry (length (k .origins)) origins) nodes
+-- the equations that stand for a machine after k was made: the block that its origin names; without owner, the first equations of its
+-- node, as many as are its own
+unfoldable pub machineStanding : Option Name → Machine → Made → List Node → List Origin → List Equation
+machineStanding none m k nodes origins = take (length (equationsOf m)) (equationsFrom (entry (length (k .nodes)) nodes))
+machineStanding (some o) m k nodes origins = blockOf (entry (length (k .origins)) origins) nodes
 
 -- the equations that stand for an activation: the block that its origin names
 unfoldable pub actStanding : Made → List Node → List Origin → List Equation

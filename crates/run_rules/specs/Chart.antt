@@ -8,7 +8,6 @@ use Rattle.pack.specs.Names.{Name, eqName}
 use Rattle.pack.specs.Syntax.{Expr, Transition}
 use Rattle.machine_rules.specs.Resolved.{Machine, Regions, States, rCons, rNil, sCons, sNil}
 use Rattle.machine_rules.specs.Lower.{coversS, ownValue, sizeR, sizeS}
-use Rattle.runs.specs.Run.{history}
 
 -- each guard's value in each cycle
 abbrev pub Guards : Type 0

@@ -14,9 +14,9 @@ use Rattle.machine_rules.specs.Lower.{equationsOf}
 use Rattle.machine_rules.specs.Checks.{allNamesS}
 use Rattle.activation_rules.specs.MadeNames.{actPrefix}
 use Rattle.activation_rules.specs.Unlast.{conditionsOf}
-use Rattle.runs.specs.Run.{Run, Value, clockOf, eval, every, vBool}
-use Rattle.runs.specs.Chart.{Guards}
-use Rattle.runs.specs.Scopes.{Conditions}
+use Rattle.run_rules.specs.Run.{Run, Value, clockOf, eval, every, vBool}
+use Rattle.run_rules.specs.Chart.{Guards}
+use Rattle.run_rules.specs.Scopes.{Conditions}
 
 -- whether a name begins with a prefix
 unfoldable pub startsWith : Name → Name → Bool

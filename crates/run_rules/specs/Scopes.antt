@@ -2,7 +2,7 @@
 use mathlib.Core.Path.{_≡_}
 use mathlib.Core.List.{List, [], _∷_}
 use mathlib.Core.Bool.{Bool, true, false, cond}
-use mathlib.Core.Option.{Option, none, some}
+use mathlib.Core.Option.{Option}
 use Prim.Native.Nat.{ℕ, suc, _<_}
 use lib.ListN.{length}
 use lib.Dec.{eqb}
@@ -12,7 +12,7 @@ use Rattle.machine_rules.specs.Lower.{isOnly}
 use Rattle.activation_rules.specs.MadeNames.{Scope, branch, other}
 use Rattle.activation_rules.specs.Unlast.{conditionsOf, unlast}
 use Rattle.activation_rules.specs.Scopes.{rewritten}
-use Rattle.runs.specs.Run.{Clock, Run, eval}
+use Rattle.run_rules.specs.Run.{Clock, Run, Value, eval}
 
 -- each condition's value in each cycle; a call of `last` in it is its holder
 abbrev pub Conditions : Type 0
@@ -43,17 +43,24 @@ eqScope other other = true
 unfoldable pub scopeClock : Conditions → Activation → Scope → Clock
 scopeClock C A s u = eqScope (scopeIn C A u) s
 
--- what a scope's equations give for an output: the first that has it as its single left name, its right side as `activation.rs` rewrites it
-unfoldable pub givenBy : Name → ℕ → List Name → Scope → Name → List Equation → Option Expr
-givenBy a n vars s o [] = none
-givenBy a n vars s o (e ∷ es) = cond (isOnly o (e .lhs)) (some (rewritten a n vars s e)) (givenBy a n vars s o es)
+-- what a scope's equations give for an output: of each that has it as its single left name, the right side as `activation.rs` rewrites it
+unfoldable pub givenBy : Name → ℕ → List Name → Scope → Name → List Equation → List Expr
+givenBy a n vars s o [] = []
+givenBy a n vars s o (e ∷ es) = cond (isOnly o (e .lhs)) (rewritten a n vars s e ∷ givenBy a n vars s o es) (givenBy a n vars s o es)
 
--- In a cycle the output equals what the scope of the cycle gives for it, on the clock of that scope; `vars` are what its scopes may read.
+-- each of some right sides has the value w on a clock in a cycle
+abbrev pub AllGive : {O : Type 0} → Run O → Clock → ℕ → Option (Value O) → List Expr → Type 0
+AllGive R c t w [] = Unit {0}
+AllGive R c t w (e ∷ es) = (w ≡ eval R e c t) × AllGive R c t w es
+
+-- In a cycle the output equals what the scope of the cycle gives for it, on the clock of that scope: each of the equations for it, of which
+-- there is at least one. `vars` are what its scopes may read.
 abbrev pub OutputGiven : {O : Type 0} → Run O → Conditions → Activation → List Name → Name → ℕ → Type 0
 OutputGiven R C A vars o t =
     (e : Expr)
-    × (givenBy (A .name) (length (conditionsOf (A .name) (A .branches))) vars (scopeIn C A t) o (chosen C (A .name) t (A .branches) (A .otherwise)) ≡ some e)
-    × (R .at o t ≡ eval R e (scopeClock C A (scopeIn C A t)) t)
+    × (es : List Expr)
+    × (givenBy (A .name) (length (conditionsOf (A .name) (A .branches))) vars (scopeIn C A t) o (chosen C (A .name) t (A .branches) (A .otherwise)) ≡ e ∷ es)
+    × AllGive R (scopeClock C A (scopeIn C A t)) t (R .at o t) (e ∷ es)
 
 -- each output, in every cycle before N
 abbrev pub OutputsGiven : {O : Type 0} → Run O → ℕ → Conditions → Activation → List Name → List Port → Type 0

@@ -5,9 +5,9 @@ use mathlib.Core.Path.{_≡_, refl, ap₂}
 use borrow.Author.Tests.{eq-eqb, not-true}
 use Rattle.pack.specs.Names.{Name, eqName, member}
 use Rattle.pack.proofs.Tables.{eqName-true}
-use Rattle.runs.specs.AsDrawn.{noneStarts}
-use Rattle.runs.specs.Premises.{startsWith}
-use Rattle.runs.proofs.Booleans.{&&-true, true-false}
+use Rattle.run_rules.specs.AsDrawn.{noneStarts}
+use Rattle.run_rules.specs.Premises.{startsWith}
+use Rattle.run_rules.proofs.Booleans.{&&-true, true-false}
 
 pub starts-append : (p s : Name) → startsWith p (p ++ s) ≡ true
 unfolding startsWith

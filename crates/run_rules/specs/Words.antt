@@ -7,8 +7,8 @@ use Rattle.pack.specs.Names.{Name, eqName}
 use Rattle.machine_rules.specs.Resolved.{Machine, Regions, States, rCons, rNil, sCons, sNil}
 use Rattle.machine_rules.specs.MadeNames.{stateVar}
 use Rattle.machine_rules.specs.Lower.{sizeR, sizeS}
-use Rattle.runs.specs.Run.{Run, previous, vEnum}
-use Rattle.runs.specs.Chart.{Guards, choose}
+use Rattle.run_rules.specs.Run.{Run, previous, vEnum}
+use Rattle.run_rules.specs.Chart.{Guards, choose}
 
 -- the top region is active in every cycle
 abbrev pub always : ℕ → Bool
@@ -28,12 +28,16 @@ unfoldable pub latest : Option ℕ → Name → (ℕ → Name) → Name
 latest none initial chosen = initial
 latest (some u) initial chosen = chosen u
 
--- In the run the region n, active in the cycles A, has the states f. A state is what was chosen when the region was last active before the
--- cycle, by the first true guard of the state it had then. It is the initial one where there was no such cycle, and where a region without
--- history becomes active.
+-- The state of a region that is active in the cycles A and has the states f: what was chosen when it was last active before the cycle, by the
+-- first true guard of the state it had then. It is the initial one where there was no such cycle, and where a region without history becomes
+-- active.
+unfoldable pub stateOf : Guards → (ℕ → Bool) → Name → Bool → States → (ℕ → Name) → ℕ → Name
+stateOf G A i h ss f t = cond (not h && (A t && not (wasActive A t))) i (latest (previous A t) i (λ u. choose (λ g. G g u) ss (f u)))
+
+-- In the run the region n, active in the cycles A, has the states f, and they are those of the sentence.
 pub record Region {O : Type 0} (R : Run O) (N : ℕ) (G : Guards) (A : ℕ → Bool) (n : ℕ) (i : Name) (h : Bool) (ss : States) (f : ℕ → Name) : Type 0 where
   pub state : (t : ℕ) → t < N → R .at (stateVar n) t ≡ some (vEnum (f t))
-  pub words : (t : ℕ) → f t ≡ cond (not h && (A t && not (wasActive A t))) i (latest (previous A t) i (λ u. choose (λ g. G g u) ss (f u)))
+  pub words : (t : ℕ) → f t ≡ stateOf G A i h ss f t
 
 -- all regions, in preorder from the id n on
 abbrev mutual

@@ -1,22 +1,21 @@
 -- Tests by which a run of numbers is seen to meet the premises.
 use Prim.Native.Nat.{ℕ, _<_}
-use mathlib.Core.List.{List, [], _∷_}
+use mathlib.Core.List.{List, [], _∷_, _++_}
 use mathlib.Core.Bool.{Bool, true, false, _&&_}
 use mathlib.Core.Option.{Option, none, some}
-use mathlib.Core.Path.{_≡_, refl, _∙_}
-use Rattle.pack.specs.Names.{Name, member}
-use Rattle.pack.specs.Syntax.{Activation, Equation, Expr, Port, Transition}
+use mathlib.Core.Path.{_≡_, refl, sym, _∙_}
+use Rattle.pack.specs.Names.{Name, eqName, member}
+use Rattle.pack.specs.Syntax.{Activation, Equation, Expr, Package, Port, Transition}
 use Rattle.machine_rules.specs.Resolved.{Machine, Regions, States, rCons, rNil, sCons, sNil}
 use Rattle.machine_rules.specs.Checks.{allNamesS}
 use Rattle.machine_rules.specs.Lower.{equationsOf}
 use Rattle.machine_rules.specs.MadeNames.{smPrefix}
 use Rattle.activation_rules.specs.Unlast.{conditionsOf}
-use Rattle.runs.specs.AsDrawn.{noneStarts}
-use Rattle.runs.specs.Premises.{ActPremises, HasValue, MachinePremises, conditionsAre, guardsR, guardsS, guardsT, onEveryCycle, portsPresent, presents, sidesE, sidesR, sidesS}
-use Rattle.runs.specs.Run.{Run, Value, clockOf, eval, every, isPresent, vBool, vEnum, vOther}
-use Rattle.runs.proofs.Booleans.{&&-true, three, ≡→T}
-use Rattle.runs.proofs.Prefixes.{not-member}
-use Rattle.runs.proofs.Tested.{up-to, upTo}
+use Rattle.run_rules.specs.AsDrawn.{DrawnMachine, enumValues, noneStarts, valuesIn}
+use Rattle.run_rules.specs.Premises.{ActPremises, HasValue, conditionsAre, guardsR, guardsS, guardsT, onEveryCycle, portsPresent, presents, sidesE, sidesR, sidesS}
+use Rattle.run_rules.specs.Run.{Run, Value, clockOf, eval, every, vBool, vEnum, vOther}
+use Rattle.run_rules.proofs.Booleans.{&&-true, or-right, three, ≡→T}
+use Rattle.run_rules.proofs.Tested.{isPresent, up-to, upTo}
 
 -- truth values that the chart is fed: an expression's in the run
 unfoldable pub truth : Option (Value ℕ) → Bool
@@ -125,19 +124,25 @@ mutual
       let b = regions-tested R N rest (p .1) in
       ((a .0, b .0), (a .1, b .1))
 
--- a machine's premises, of a run whose enum values are the states
-unfoldable pub machineTest : Run ℕ → ℕ → Machine → Bool
-machineTest R N m = noneStarts smPrefix (allNamesS (m .states)) && (baseTest R N (equationsOf m) && stateTest R N (m .states))
+member-later : (x : Name) (k l : List Name) → member x l ≡ true → member x (k ++ l) ≡ true
+unfolding member
+member-later x [] l h = h
+member-later x (y ∷ k) l h = or-right (eqName x y) (member x (k ++ l)) (member-later x k l h)
 
-pub machine-tested : (R : Run ℕ) (N : ℕ) (m : Machine) → ((x : Name) → R .enums x ≡ member x (allNamesS (m .states))) → machineTest R N m ≡ true → MachinePremises R N (fed R) m
-unfolding machineTest
-machine-tested R N m enums h =
-    let p = three (noneStarts smPrefix (allNamesS (m .states))) (baseTest R N (equationsOf m)) (stateTest R N (m .states)) h in
-    let q = states-tested R N (m .states) (p .2) in
+-- a machine's premises as drawn, of a run whose enum values are those of the package and the resolved states
+unfoldable pub machineTest : Run ℕ → ℕ → Package → Machine → Bool
+machineTest R N p m = noneStarts smPrefix (valuesIn p m) && (baseTest R N (equationsOf m) && stateTest R N (m .states))
+
+pub machine-tested : (R : Run ℕ) (N : ℕ) (p : Package) (m : Machine) → ((x : Name) → R .enums x ≡ member x (valuesIn p m)) → machineTest R N p m ≡ true → DrawnMachine R N (fed R) p m
+unfolding machineTest valuesIn
+machine-tested R N p m enums h =
+    let t = three (noneStarts smPrefix (valuesIn p m)) (baseTest R N (equationsOf m)) (stateTest R N (m .states)) h in
+    let q = states-tested R N (m .states) (t .2) in
     record {
-      states = λ x k. enums x ∙ k;
-      free = λ x s. enums x ∙ not-member smPrefix x (allNamesS (m .states)) s (p .0);
-      base = base-tested R N (equationsOf m) (p .1);
+      states = λ x k. enums x ∙ member-later x (enumValues (p .enums)) (allNamesS (m .states)) k;
+      enums = λ x k. sym (enums x) ∙ k;
+      free = t .0;
+      base = base-tested R N (equationsOf m) (t .1);
       guards = q .0;
       sides = q .1;
     }

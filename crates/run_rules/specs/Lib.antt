@@ -1,0 +1,6 @@
+pub mod Run
+pub mod Chart
+pub mod Words
+pub mod Scopes
+pub mod Premises
+pub mod AsDrawn
