@@ -156,6 +156,15 @@ fn unknown() -> Example {
     s.done("a refinement of a refinement that is not there: UnknownRefine with the state's own name, for both")
 }
 
+fn cycle_below() -> Example {
+    let mut s = Sketch::new();
+    let a = s.refining("A", "N");
+    s.machine("M", "A", vec![a]);
+    let b = s.refining("B", "N");
+    s.machine("N", "B", vec![b]);
+    s.done("a cycle that the top machine is not on: RefineCycle with the top machine and the refined one")
+}
+
 fn limits() -> Example {
     let mut s = Sketch::new();
     let top = inline(&mut s, 8, Some("M"));
@@ -182,6 +191,35 @@ fn qualified() -> Example {
         s.machine(name, "A", vec![a]);
     }
     s.done("a qualified name of 256 bytes, and one of 255: TooLarge of the first")
+}
+
+fn long_target() -> Example {
+    let mut s = Sketch::new();
+    let a = s.refining("A", "N");
+    s.machine("M", "A", vec![a]);
+    let gone = s.to("g", &"a".repeat(254));
+    let b = State { transitions: vec![gone], ..s.state("B") };
+    s.machine("N", "B", vec![b]);
+    s.done("of qualified names only a target has 256 bytes: TooLarge, before UnknownTarget, which N has itself")
+}
+
+fn long_initials() -> Example {
+    let mut s = Sketch::new();
+    for (name, inner) in [("M", "N"), ("K", "L")] {
+        let a = s.refining("A", inner);
+        s.machine(name, "A", vec![a]);
+    }
+    let long = "a".repeat(254);
+    let inside = s.states(["C"]);
+    let r = s.region(&long, false, inside);
+    let b = State { regions: vec![r], ..s.state("B") };
+    s.machine("N", "B", vec![b]);
+    let b = s.states(["B"]);
+    s.machine("L", &long, b);
+    s.done(
+        "only a region's initial has 256 bytes, and only a sub-machine's: TooLarge, before UnknownInitial, which N and L \
+         have themselves",
+    )
 }
 
 fn many() -> Example {
@@ -322,6 +360,14 @@ fn long_name() -> Example {
     Example { room: 0, ..s.done("a made name of 256 bytes comes before a buffer that is shorter") }
 }
 
+fn long_name_beside_refused() -> Example {
+    let mut s = Sketch::new();
+    let one = s.states(["A"]);
+    s.machine(&"M".repeat(246), "A", one);
+    s.machine("K", "A", vec![]);
+    s.done("a machine refused comes before another's made name of 256 bytes: NoStates")
+}
+
 fn small() -> Sketch {
     let mut s = Sketch::new();
     let one = s.states(["A"]);
@@ -338,9 +384,12 @@ pub fn machines() -> Vec<Example> {
         uncovered(),
         unknown(),
         example("a circle of three: RefineCycle, each with its own name", circle()),
+        cycle_below(),
         limits(),
         absent_at_the_limit(),
         qualified(),
+        long_target(),
+        long_initials(),
         many(),
         later(),
         values(),
@@ -351,6 +400,7 @@ pub fn machines() -> Vec<Example> {
         interned(),
         deep_pack(),
         long_name(),
+        long_name_beside_refused(),
         Example { room: 4, says: "a report of 5 bytes, and room for 4", ..stateless() },
         Example { room: 5, says: "and room for 5", ..stateless() },
         Example { room: 100, ..small().done("a pack of 101 bytes, and room for 100") },
@@ -380,10 +430,132 @@ fn initials() -> Package {
     chart.done()
 }
 
+/// `last` of a constant in one activation, of a variable and two values in another.
+fn misused() -> Package {
+    let mut chart = Activated::new();
+    let (v, last) = (chart.var("v"), chart.b.name("last"));
+    let [one, two] = [1, 2].map(|i| Tok::Const(Lit::Int(i)));
+    let mut second = Activation { name: chart.b.name("C"), ..chart.a.clone() };
+    chart.a.otherwise[0].rhs = chart.expr(vec![Tok::Call(last, 1), one.clone()]);
+    second.otherwise[0].rhs = chart.expr(vec![Tok::Call(last, 3), v, one, two]);
+    let mut p = chart.done();
+    p.activations.push(second);
+    p
+}
+
+/// A branch with an equation without left names.
+fn nameless() -> Package {
+    let mut chart = Activated::new();
+    let rhs = chart.a.otherwise[0].rhs;
+    chart.a.branches[0].equations.push(Equation { lhs: vec![], rhs });
+    chart.done()
+}
+
+/// `last` of v with 1 in the first branch; of w, and of v with 2, in the second condition.
+fn conditions_first() -> Package {
+    let mut chart = Activated::new();
+    let (v, w, name) = (chart.var("v"), chart.var("w"), chart.b.name("D"));
+    let [one, two] = [1, 2].map(|i| chart.call(&[v.clone(), Tok::Const(Lit::Int(i))]));
+    let held = chart.call(&[w]);
+    let equations = chart.a.branches[0].equations.clone();
+    chart.a.branches[0].equations[0].rhs = chart.expr(one);
+    let condition = chart.expr([vec![Tok::Binary(4)], held, two].concat());
+    chart.a.branches.push(Branch { name, condition, equations });
+    chart.done()
+}
+
+/// o, an integer of the owner and a Boolean of the activation, read and held.
+fn owners_type() -> Package {
+    let mut chart = Activated::new();
+    let o = chart.var("o");
+    chart.a.outputs[0].ty = Type::plain(0);
+    let last = chart.call(&[o.clone()]);
+    chart.a.branches[0].equations[0].rhs = chart.expr(last);
+    chart.a.otherwise[0].rhs = chart.expr(vec![o]);
+    chart.done()
+}
+
+/// Values of o, an integer of the owner, a Boolean and a character of the activation; of w, which is no output; of z,
+/// which is no variable.
+fn value_types() -> Package {
+    let mut chart = Activated::new();
+    let [w, z] = ["w", "z"].map(|n| chart.b.name(n));
+    chart.a.outputs[0].ty = Type::plain(0);
+    chart.a.outputs.push(Port { ty: Type::plain(11), ..chart.a.outputs[0].clone() });
+    let rhs = chart.a.otherwise[0].rhs;
+    chart.a.otherwise.extend([w, z].map(|name| Equation { lhs: vec![name], rhs }));
+    chart.done()
+}
+
+/// v, read by the first and the third equation of a scope.
+fn sampled_once() -> Package {
+    let mut chart = Activated::new();
+    let [w, z] = ["w", "z"].map(|n| chart.b.name(n));
+    let (v, zero) = (chart.var("v"), chart.a.otherwise[0].rhs);
+    let read = chart.expr(vec![v]);
+    chart.a.otherwise[0].rhs = read;
+    chart.a.otherwise.extend([(w, zero), (z, read)].map(|(name, rhs)| Equation { lhs: vec![name], rhs }));
+    chart.done()
+}
+
+/// A struct of a cast and an array: over v and `last` of w and v in the branch, over constants in the else scope.
+fn composed() -> Package {
+    let mut chart = Activated::new();
+    let [r, f, g] = ["R", "f", "g"].map(|n| chart.b.name(n));
+    let (v, w) = (chart.var("v"), chart.var("w"));
+    let lasts = [w, v.clone()].map(|x| chart.call(&[x]));
+    let [one, two] = [1, 2].map(|i| Tok::Const(Lit::Int(i)));
+    let mut of = |cast: &[Tok], first: &[Tok], second: Tok| {
+        let structure = Tok::Struct(Box::new((r, vec![f, g])));
+        let cast = [&[Tok::Cast(Box::new(Type::plain(1)))], cast].concat();
+        chart.b.p.expr([&[structure], &cast[..], &[Tok::Array(2)], first, &[second]].concat())
+    };
+    let branch = of(&lasts[0], &lasts[1], v);
+    let other = of(&[one.clone()], &[one], two);
+    chart.a.branches[0].equations[0].rhs = branch;
+    chart.a.otherwise[0].rhs = other;
+    chart.done()
+}
+
+/// `last` without initial values: of a Boolean, of numbers of 32 and 64 bits with a point, of a character.
+fn defaults() -> Package {
+    let mut chart = Activated::new();
+    let inputs = [("f", 9), ("g", 10), ("k", 11)].map(|(n, ty)| Port { name: chart.b.name(n), ty: Type::plain(ty) });
+    chart.b.p.nodes[0].inputs.extend(inputs);
+    let [c, f, g, k] = ["c", "f", "g", "k"].map(|n| {
+        let v = chart.var(n);
+        chart.call(&[v])
+    });
+    chart.a.branches[0].condition = chart.expr(c);
+    chart.a.branches[0].equations[0].rhs = chart.expr([vec![Tok::Tuple(2)], f, g].concat());
+    chart.a.otherwise[0].rhs = chart.expr(k);
+    chart.done()
+}
+
 /// Examples of lowering activations, as rows of the table that has others.
 pub fn activations() -> Vec<Example> {
     vec![
         example("last(v), last(v, 1), last(v, 2): one holder, which begins with 1", initials()),
         example("two branches, on c and on d: the second is taken where d holds and c does not", two_branches()),
+        example("last(1), and last(v, 1, 2): LastArgs, twice", misused()),
+        example("an equation without left names in a branch: EmptyLeft", nameless()),
+        example(
+            "last is sought in all conditions, then in branches: w's holder comes first, and v's begins with 2",
+            conditions_first(),
+        ),
+        example(
+            "an output of the activation that the owner has in another type: samples and holders have the owner's",
+            owners_type(),
+        ),
+        example(
+            "a value's type: that of the activation's first output of its name, else the owner's, else Bool",
+            value_types(),
+        ),
+        example("what the first and the third equation of a scope read is sampled once", sampled_once()),
+        example(
+            "structs, casts and arrays are entered by reads, by rewriting and by the sampling of constants",
+            composed(),
+        ),
+        example("no initial: a Boolean begins with false, numbers and characters with 0", defaults()),
     ]
 }

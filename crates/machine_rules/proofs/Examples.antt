@@ -75,6 +75,16 @@ examples =
       outcome = reports
           (3 ∷ 0 ∷ 7 ∷ 2 ∷ 82 ∷ 48 ∷ 2 ∷ 82 ∷ 48 ∷ 7 ∷ 2 ∷ 82 ∷ 49 ∷ 2 ∷ 82 ∷ 49 ∷ 7 ∷ 2 ∷ 82 ∷ 50 ∷ 2 ∷ 82 ∷ 50 ∷ []);
     }
+    -- a cycle that the top machine is not on: RefineCycle with the top machine and the refined one
+    ∷ record {
+      pack =
+          4 ∷ 0 ∷ 1 ∷ 78 ∷ 1 ∷ 65 ∷ 1 ∷ 77 ∷ 1 ∷ 66 ∷ 0 ∷ 0 ∷ 0 ∷ 0 ∷ 2 ∷ 0 ∷ 2 ∷ 0 ∷ 255 ∷ 255 ∷ 0 ∷ 0 ∷ 0 ∷ 0 ∷ 0 ∷ 0 ∷ 1 ∷ 0 ∷ 1 ∷ 0
+          ∷ 1 ∷ 0 ∷ 0 ∷ 0 ∷ 0 ∷ 0 ∷ 0 ∷ 0 ∷ 0 ∷ 0 ∷ 0 ∷ 0 ∷ 255 ∷ 255 ∷ 0 ∷ 0 ∷ 0 ∷ 0 ∷ 0 ∷ 0 ∷ 3 ∷ 0 ∷ 1 ∷ 0 ∷ 3 ∷ 0 ∷ 0 ∷ 0 ∷ 0 ∷ 0
+          ∷ 0 ∷ 0 ∷ 0 ∷ 0 ∷ 0 ∷ 0 ∷ 0 ∷ 0 ∷ [];
+      room = maxBytes;
+      outcome = reports
+          (2 ∷ 0 ∷ 7 ∷ 1 ∷ 77 ∷ 1 ∷ 78 ∷ 7 ∷ 1 ∷ 78 ∷ 1 ∷ 78 ∷ []);
+    }
     -- a cycle at level 8, and the same regions one level deeper: RefineCycle, TooLarge
     ∷ record {
       pack =
@@ -113,6 +123,28 @@ examples =
       room = maxBytes;
       outcome = reports
           (1 ∷ 0 ∷ 17 ∷ 1 ∷ 77 ∷ []);
+    }
+    -- of qualified names only a target has 256 bytes: TooLarge, before UnknownTarget, which N has itself
+    ∷ record {
+      pack =
+          6 ∷ 0 ∷ 1 ∷ 78 ∷ 1 ∷ 65 ∷ 1 ∷ 77 ∷ 1 ∷ 103 ∷ 254 ∷ (replicate 254 97 ++ (1 ∷ 66 ∷ 0 ∷ 0 ∷ 0 ∷ 0 ∷ 2 ∷ 0 ∷ 2 ∷ 0 ∷ 255 ∷ 255 ∷ 0 ∷ 0 ∷ 0 ∷ 0 ∷ 0 ∷ 0 ∷ 1
+          ∷ 0 ∷ 1 ∷ 0 ∷ 1 ∷ 0 ∷ 0 ∷ 0 ∷ 0 ∷ 0 ∷ 0 ∷ 0 ∷ 0 ∷ 0 ∷ 0 ∷ 0 ∷ 255 ∷ 255 ∷ 0 ∷ 0 ∷ 0 ∷ 0 ∷ 0 ∷ 0 ∷ 5 ∷ 0 ∷ 1 ∷ 0 ∷ 5 ∷ 0 ∷ 0
+          ∷ 0 ∷ 1 ∷ 0 ∷ 1 ∷ 3 ∷ 0 ∷ 4 ∷ 0 ∷ 0 ∷ 0 ∷ 255 ∷ 255 ∷ 0 ∷ 0 ∷ 0 ∷ 0 ∷ []));
+      room = maxBytes;
+      outcome = reports
+          (2 ∷ 0 ∷ 17 ∷ 1 ∷ 77 ∷ 3 ∷ 1 ∷ 78 ∷ 1 ∷ 66 ∷ 254 ∷ (replicate 254 97 ++ ([])));
+    }
+    -- only a region's initial has 256 bytes, and only a sub-machine's: TooLarge, before UnknownInitial, which N and L have themselves
+    ∷ record {
+      pack =
+          8 ∷ 0 ∷ 1 ∷ 78 ∷ 1 ∷ 65 ∷ 1 ∷ 77 ∷ 1 ∷ 76 ∷ 1 ∷ 75 ∷ 1 ∷ 67 ∷ 254 ∷ (replicate 254 97 ++ (1 ∷ 66 ∷ 0 ∷ 0 ∷ 0 ∷ 0 ∷ 4 ∷ 0 ∷ 2 ∷ 0 ∷ 255 ∷ 255 ∷ 0 ∷ 0 ∷ 0
+          ∷ 0 ∷ 0 ∷ 0 ∷ 1 ∷ 0 ∷ 1 ∷ 0 ∷ 1 ∷ 0 ∷ 0 ∷ 0 ∷ 0 ∷ 0 ∷ 0 ∷ 0 ∷ 0 ∷ 0 ∷ 4 ∷ 0 ∷ 255 ∷ 255 ∷ 0 ∷ 0 ∷ 0 ∷ 0 ∷ 0 ∷ 0 ∷ 1 ∷ 0 ∷ 1
+          ∷ 0 ∷ 1 ∷ 0 ∷ 0 ∷ 0 ∷ 0 ∷ 0 ∷ 0 ∷ 0 ∷ 3 ∷ 0 ∷ 0 ∷ 0 ∷ 255 ∷ 255 ∷ 0 ∷ 0 ∷ 0 ∷ 0 ∷ 0 ∷ 0 ∷ 7 ∷ 0 ∷ 1 ∷ 0 ∷ 7 ∷ 0 ∷ 0 ∷ 0 ∷ 0
+          ∷ 0 ∷ 1 ∷ 0 ∷ 6 ∷ 0 ∷ 0 ∷ 1 ∷ 0 ∷ 5 ∷ 0 ∷ 0 ∷ 0 ∷ 0 ∷ 0 ∷ 0 ∷ 0 ∷ 255 ∷ 255 ∷ 255 ∷ 255 ∷ 3 ∷ 0 ∷ 255 ∷ 255 ∷ 0 ∷ 0 ∷ 0 ∷ 0 ∷ 0 ∷ 0
+          ∷ 6 ∷ 0 ∷ 1 ∷ 0 ∷ 7 ∷ 0 ∷ 0 ∷ 0 ∷ 0 ∷ 0 ∷ 0 ∷ 0 ∷ 255 ∷ 255 ∷ 0 ∷ 0 ∷ 0 ∷ 0 ∷ []));
+      room = maxBytes;
+      outcome = reports
+          (4 ∷ 0 ∷ 17 ∷ 1 ∷ 77 ∷ 17 ∷ 1 ∷ 75 ∷ 2 ∷ 1 ∷ 78 ∷ 254 ∷ (replicate 254 97 ++ (2 ∷ 1 ∷ 76 ∷ 254 ∷ (replicate 254 97 ++ ([])))));
     }
     -- 512 states, of which one stands twice, and 513: DuplicateState, TooLarge
     ∷ record {
@@ -320,6 +352,15 @@ examples =
           ∷ 0 ∷ 0 ∷ 0 ∷ 255 ∷ 255 ∷ 0 ∷ 0 ∷ 0 ∷ 0 ∷ []));
       room = 0;
       outcome = answers 8 0;
+    }
+    -- a machine refused comes before another's made name of 256 bytes: NoStates
+    ∷ record {
+      pack =
+          3 ∷ 0 ∷ 1 ∷ 65 ∷ 246 ∷ (replicate 246 77 ++ (1 ∷ 75 ∷ 0 ∷ 0 ∷ 0 ∷ 0 ∷ 2 ∷ 0 ∷ 1 ∷ 0 ∷ 255 ∷ 255 ∷ 0 ∷ 0 ∷ 0 ∷ 0 ∷ 0 ∷ 0 ∷ 0 ∷ 0 ∷ 1 ∷ 0 ∷ 0 ∷ 0 ∷ 0
+          ∷ 0 ∷ 0 ∷ 0 ∷ 0 ∷ 0 ∷ 255 ∷ 255 ∷ 2 ∷ 0 ∷ 255 ∷ 255 ∷ 0 ∷ 0 ∷ 0 ∷ 0 ∷ 0 ∷ 0 ∷ 0 ∷ 0 ∷ 0 ∷ 0 ∷ 0 ∷ 0 ∷ 0 ∷ 0 ∷ []));
+      room = maxBytes;
+      outcome = reports
+          (1 ∷ 0 ∷ 1 ∷ 1 ∷ 75 ∷ []);
     }
     -- a report of 5 bytes, and room for 4
     ∷ record {
