@@ -4,6 +4,17 @@ use activations::call::lower_activations;
 use machines::call::lower_state_machines;
 use pack::finish::Outcome;
 use pack::record::Pack;
+ghost use mathlib.Core.Path.{_≡_};
+ghost use Rattle.pack.specs.Limits.{maxBytes};
+ghost use Rattle.machine_rules.specs.Call.{lowerMachines};
+ghost use Rattle.activation_rules.specs.Call.{lowerActivations};
+ghost use Rattle.lower.specs.Calls.{callsAfter, returnedFor};
+
+// The calls that were made, with the number and the value that each returned.
+enum Calls {
+    First(Outcome),
+    Both(Outcome, Outcome),
+}
 
 // Writes a call's line.
 fn print_line(call: &[u8], answer: Outcome) {
@@ -15,23 +26,38 @@ fn print_line(call: &[u8], answer: Outcome) {
     io::write_all(1, b"\n");
 }
 
-// The second call.
-fn lower_second(pack: &[u8]) {
+// The second call, on what the first one wrote.
+fn lower_second(pack: &[u8]) -> Outcome
+    ensures { λ r. ⌜ r ≡ returnedFor (lowerActivations (now (pack .entry)) maxBytes maxBytes) ⌝ }
+{
     let mut output = [0u8; Pack::BYTES];
     let mut report = [0u8; Pack::BYTES];
-    let answer = lower_activations(pack, &mut output, &mut report);
-    print_line(b"activations", answer);
+    lower_activations(pack, &mut output, &mut report)
 }
 
 // The first call, and where it is not refused the second on what it wrote.
-fn lower_first(pack: &[u8]) {
+fn lower_both(pack: &[u8]) -> Calls
+    ensures { λ r. ⌜ r ≡ callsAfter (lowerMachines (now (pack .entry)) maxBytes maxBytes) ⌝ }
+{
     let mut output = [0u8; Pack::BYTES];
     let mut report = [0u8; Pack::BYTES];
-    let answer = lower_state_machines(pack, &mut output, &mut report);
-    print_line(b"machines", answer);
-    if answer.number == 0 {
-        let n = answer.value as usize;
-        lower_second(&output[..n]);
+    let first = lower_state_machines(pack, &mut output, &mut report);
+    if first.number != 0 {
+        return Calls::First(first);
+    }
+    let n = first.value as usize;
+    let second = lower_second(&output[..n]);
+    Calls::Both(first, second)
+}
+
+// Writes a line for each call. What is written no contract can say.
+fn print_calls(calls: Calls) {
+    match calls {
+        Calls::First(first) => print_line(b"machines", first),
+        Calls::Both(first, second) => {
+            print_line(b"machines", first);
+            print_line(b"activations", second);
+        }
     }
 }
 
@@ -39,5 +65,5 @@ fn lower_first(pack: &[u8]) {
 fn main() {
     let mut input = [0u8; 65537];
     let n = io::read_full(0, &mut input);
-    lower_first(&input[..n]);
+    print_calls(lower_both(&input[..n]));
 }
