@@ -37,7 +37,7 @@ use Rattle.activations.specs.Ids.{IsId, heldId, holderId, nameOf, namesO
 use Rattle.activations.specs.Asked.{Asked}
 use Rattle.activations.specs.UnlastAt.{copyItems}
 use Rattle.activations.specs.NumbersAt.{lastIdT}
-use Rattle.activations.specs.RewriteAt.{chosenItems, clockedItems, renameItems, renameT}
+use Rattle.activations.specs.RewriteAt.{chosenItems, clockedItems, otherItems, renameItems, renameT}
 use Rattle.activations.proofs.Views.{View, toCome, vArray, vArrow, vBad, vBinary, vCall, vCast, vConst, vField, vIf, vIndex, vIterate, vLast, vMerge, vPre, vStruct, vTuple, vUnary, vVar, vWhen}
 use Rattle.activations.proofs.Walking.{walks-by}
 use Rattle.activations.proofs.HeadCopies.{Kept, head-copied, head-lies, items-split, kept-come}
@@ -132,7 +132,7 @@ module _ (ns : List Name) (fresh : Fresh [] ns) (legal : All LegalName ns) (few 
 
     -- what is copied
     copied : (p : ℕ) (m : Met) (z : State) → Bare m → step m p z ≡ puts (sliceOf s p (onwardT m - p)) z
-    unfolding step writeStep renameItems copyItems render putItem onwardT Bare
+    unfolding step writeStep renameItems otherItems copyItems render putItem onwardT Bare
     copied p (mt.Last v i q) z h = absurd h
     copied p (mt.Bad u q) z h = refl
     copied p (mt.Const q) z h = refl
@@ -168,7 +168,7 @@ module _ (ns : List Name) (fresh : Fresh [] ns) (legal : All LegalName ns) (few 
 
     -- a name renamed
     last-follows : (p : ℕ) (e : Expr) (var init next : ℕ) (z : State) → View ns s e (mt.Last var init next) → Asked P e → written e z ≡ step (mt.Last var init next) p z
-    unfolding written step writeStep renameItems rename exprItems render putItem
+    unfolding written step writeStep renameItems otherItems rename exprItems render putItem
     last-follows p e var init next z (vLast {f = f} {v = v} {xs = xs} {i = i} t l m d) h =
         let u = asked-last P ns s e var init next (vLast t l m d) h in
         ap (λ (y : Expr). render (tabled ns) (exprItems (rename becomes y)) z) (last-call a f xs v i t)
@@ -176,7 +176,7 @@ module _ (ns : List Name) (fresh : Fresh [] ns) (legal : All LegalName ns) (few 
         ∙ ap (λ (y : ℕ). render (tabled ns) (chosenItems (tabled ns) s spots (length ns) made a n k ids y) (puts (1 ∷ []) z)) (sym (rowed var l u))
 
     var-follows : (p : ℕ) (e : Expr) (i next : ℕ) (z : State) → View ns s e (mt.Var i next) → written e z ≡ through written (toCome (mt.Var i next) e) (step (mt.Var i next) p z)
-    unfolding written step writeStep renameItems rename unlast exprItems render putItem through toCome kids
+    unfolding written step writeStep renameItems otherItems rename unlast exprItems render putItem through toCome kids
     var-follows p e i next z (vVar l m) = sym (chosen-is i _ (puts (1 ∷ []) z) (oldId l) (name-of-old ns a i l ∙ m))
 
     -- a clock renamed: the bytes around it stay
@@ -202,7 +202,7 @@ module _ (ns : List Name) (fresh : Fresh [] ns) (legal : All LegalName ns) (few 
         ap (λ (y : ℕ). sliceOf s p (y - p)) f ∙ lies-bytes ns s p (headItems e) (onwardT (metAt ns s last p)) (head-lies ns fresh few-names s by last L p e q d (subst Kept g tt))
 
     clock-follows : (p : ℕ) (e : Expr) (q i u next : ℕ) (z : State) → exprIn ns s p ≡ value e q → mt.Clocked i u next ≡ metAt ns s last p → View ns s e (mt.Clocked i u next) → written e z ≡ through written (toCome (mt.Clocked i u next) e) (step (mt.Clocked i u next) p z)
-    unfolding written step writeStep renameItems rename unlast exprItems render putItem through toCome kids puts
+    unfolding written step writeStep renameItems otherItems rename unlast exprItems render putItem through toCome kids puts
     clock-follows p e q i u next z d g (vWhen {a = b} {x = x} {b = o} l m) =
         let w = when-bytes b x o (sliceOf s p (next - p)) (bytes-at p e q i u next d g) in
         ap (λ (y : State). render (tabled ns) (exprItems (rename becomes (unlast a b))) y) (sym (clock-as i x (sliceOf s p (next - p)) (14 ∷ []) (flagByte o ∷ []) z (oldId l) (name-of-old ns a i l ∙ m) (w .0) (w .1)))

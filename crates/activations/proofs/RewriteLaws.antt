@@ -27,7 +27,7 @@ use Rattle.activations.specs.Walks.{orStep, walked, writeStep}
 use Rattle.activations.specs.ByNumber.{ontoItems}
 use Rattle.activations.specs.UnlastAt.{copyItems, metItems, unlastT}
 use Rattle.activations.specs.NumbersAt.{idItems, lastIdT, sampleNameT, sampleT}
-use Rattle.activations.specs.RewriteAt.{chosenItems, clockedItems, hasConstT, overT, pinItems, pinT, pinnedT, renameItems, renameT, renamedFrom, renamedT}
+use Rattle.activations.specs.RewriteAt.{chosenItems, clockedItems, hasConstT, otherItems, overT, pinItems, pinT, pinnedT, renameItems, renameT, renamedFrom, renamedT}
 use Rattle.activations.proofs.Moving.{ended}
 use Rattle.activations.proofs.UnlastLaws.{copied-to}
 
@@ -117,30 +117,40 @@ module _ (old s spots : List ℕ) (names : ℕ) (made : Bool) (a : Name) (n k : 
       l ∙ (λ q. puts (j q) (i q)) ∙ ap (λ (w : State). puts (sliceOf h 3 1) (render old (chosenItems old s spots names made a n k ids x) w)) (g ∙ ap (λ (b : List ℕ). puts b z) e)
       ∙ sym (render-append old (chosenItems old s spots names made a n k ids x) (raw (sliceOf h 3 1) ∷ []) (puts (sliceOf h 0 1) z))
 
+  pub other-var : (m : Met) (x q p : ℕ) (y z : State) → m ≡ mt.Var x q → y ≡ render old (raw (1 ∷ []) ∷ chosenItems old s spots names made a n k ids x) z → y ≡ render old (otherItems old s spots names made a n k ids m p) z
+  unfolding otherItems
+  other-var m x q p y z e g = g ∙ ap (λ (w : Met). render old (otherItems old s spots names made a n k ids w p) z) (sym e)
+
+  pub other-clock : (m : Met) (x u q p j : ℕ) (h : List ℕ) (y z : State) → m ≡ mt.Clocked x u q → j ≡ onwardT m → h ≡ sliceOf s p (j - p) → y ≡ render old (clockedItems old s spots names made a n k ids x h) z → y ≡ render old (otherItems old s spots names made a n k ids m p) z
+  unfolding otherItems onwardT
+  other-clock m x u q p j h y z e f g i =
+      i ∙ ap (λ (l : List ℕ). render old (clockedItems old s spots names made a n k ids x l) z) (g ∙ ap (λ (w : ℕ). sliceOf s p (w - p)) (f ∙ ap onwardT e))
+      ∙ ap (λ (w : Met). render old (otherItems old s spots names made a n k ids w p) z) (sym e)
+
+  pub other-copied : (m : Met) (p q : ℕ) (h : List ℕ) (x z : State) → OneOf (0 ∷ 1 ∷ 2 ∷ 5 ∷ 6 ∷ []) (tagOf Met-enum.the-type m) → q ≡ onwardT m → h ≡ sliceOf s p (q - p) → x ≡ puts h z → x ≡ render old (otherItems old s spots names made a n k ids m p) z
+  unfolding otherItems onwardT
+  other-copied (mt.Last v i e) p q h x z t f g j = copied-to old s p e h x z (g ∙ ap (λ y. sliceOf s p (y - p)) f) j
+  other-copied (mt.Bad u e) p q h x z t f g j = copied-to old s p e h x z (g ∙ ap (λ y. sliceOf s p (y - p)) f) j
+  other-copied (mt.Const e) p q h x z t f g j = copied-to old s p e h x z (g ∙ ap (λ y. sliceOf s p (y - p)) f) j
+  other-copied (mt.Var i e) p q h x z t f g j = absurd (⊎-elim (λ d. omega arith) (λ d. ⊎-elim (λ d. omega arith) (λ d. ⊎-elim (λ d. omega arith) (λ d. ⊎-elim (λ d. omega arith) (λ d. omega arith) d) d) d) t)
+  other-copied (mt.Clocked c u e) p q h x z t f g j = absurd (⊎-elim (λ d. omega arith) (λ d. ⊎-elim (λ d. omega arith) (λ d. ⊎-elim (λ d. omega arith) (λ d. ⊎-elim (λ d. omega arith) (λ d. omega arith) d) d) d) t)
+  other-copied (mt.Other u e) p q h x z t f g j = copied-to old s p e h x z (g ∙ ap (λ y. sliceOf s p (y - p)) f) j
+  other-copied mt.Nothing p q h x z t f g j = copied-to old s p 0 h x z (g ∙ ap (λ y. sliceOf s p (y - p)) f) j
+
   module _ (held : List ℕ) (rows : ℕ) where
     pub rename-last : (m : Met) (v i q p x : ℕ) (y z : State) → m ≡ mt.Last v i q → x ≡ lastIdT held rows v → y ≡ render old (raw (1 ∷ []) ∷ chosenItems old s spots names made a n k ids x) z → y ≡ render old (renameItems old s spots names made a n k ids held rows m p) z
     unfolding renameItems
     rename-last m v i q p x y z e f g = g ∙ ap (λ (j : ℕ). render old (raw (1 ∷ []) ∷ chosenItems old s spots names made a n k ids j) z) f ∙ ap (λ (w : Met). render old (renameItems old s spots names made a n k ids held rows w p) z) (sym e)
 
-    pub rename-var : (m : Met) (x q p : ℕ) (y z : State) → m ≡ mt.Var x q → y ≡ render old (raw (1 ∷ []) ∷ chosenItems old s spots names made a n k ids x) z → y ≡ render old (renameItems old s spots names made a n k ids held rows m p) z
+    pub rename-other : (m : Met) (p : ℕ) (x z : State) → OneOf (1 ∷ 2 ∷ 3 ∷ 4 ∷ 5 ∷ 6 ∷ []) (tagOf Met-enum.the-type m) → x ≡ render old (otherItems old s spots names made a n k ids m p) z → x ≡ render old (renameItems old s spots names made a n k ids held rows m p) z
     unfolding renameItems
-    rename-var m x q p y z e g = g ∙ ap (λ (w : Met). render old (renameItems old s spots names made a n k ids held rows w p) z) (sym e)
-
-    pub rename-clock : (m : Met) (x u q p j : ℕ) (h : List ℕ) (y z : State) → m ≡ mt.Clocked x u q → j ≡ onwardT m → h ≡ sliceOf s p (j - p) → y ≡ render old (clockedItems old s spots names made a n k ids x h) z → y ≡ render old (renameItems old s spots names made a n k ids held rows m p) z
-    unfolding renameItems onwardT
-    rename-clock m x u q p j h y z e f g i =
-        i ∙ ap (λ (l : List ℕ). render old (clockedItems old s spots names made a n k ids x l) z) (g ∙ ap (λ (w : ℕ). sliceOf s p (w - p)) (f ∙ ap onwardT e))
-        ∙ ap (λ (w : Met). render old (renameItems old s spots names made a n k ids held rows w p) z) (sym e)
-
-    pub rename-other : (m : Met) (p q : ℕ) (h : List ℕ) (x z : State) → OneOf (1 ∷ 2 ∷ 5 ∷ 6 ∷ []) (tagOf Met-enum.the-type m) → q ≡ onwardT m → h ≡ sliceOf s p (q - p) → x ≡ puts h z → x ≡ render old (renameItems old s spots names made a n k ids held rows m p) z
-    unfolding renameItems onwardT
-    rename-other (mt.Last v i e) p q h x z t f g j = absurd (⊎-elim (λ d. omega arith) (λ d. ⊎-elim (λ d. omega arith) (λ d. ⊎-elim (λ d. omega arith) (λ d. omega arith) d) d) t)
-    rename-other (mt.Bad u e) p q h x z t f g j = copied-to old s p e h x z (g ∙ ap (λ y. sliceOf s p (y - p)) f) j
-    rename-other (mt.Const e) p q h x z t f g j = copied-to old s p e h x z (g ∙ ap (λ y. sliceOf s p (y - p)) f) j
-    rename-other (mt.Var i e) p q h x z t f g j = absurd (⊎-elim (λ d. omega arith) (λ d. ⊎-elim (λ d. omega arith) (λ d. ⊎-elim (λ d. omega arith) (λ d. omega arith) d) d) t)
-    rename-other (mt.Clocked c u e) p q h x z t f g j = absurd (⊎-elim (λ d. omega arith) (λ d. ⊎-elim (λ d. omega arith) (λ d. ⊎-elim (λ d. omega arith) (λ d. omega arith) d) d) t)
-    rename-other (mt.Other u e) p q h x z t f g j = copied-to old s p e h x z (g ∙ ap (λ y. sliceOf s p (y - p)) f) j
-    rename-other mt.Nothing p q h x z t f g j = copied-to old s p 0 h x z (g ∙ ap (λ y. sliceOf s p (y - p)) f) j
+    rename-other (mt.Last v i q) p x z h e = absurd (⊎-elim (λ d. omega arith) (λ d. ⊎-elim (λ d. omega arith) (λ d. ⊎-elim (λ d. omega arith) (λ d. ⊎-elim (λ d. omega arith) (λ d. ⊎-elim (λ d. omega arith) (λ d. omega arith) d) d) d) d) h)
+    rename-other (mt.Bad u q) p x z h e = e
+    rename-other (mt.Const q) p x z h e = e
+    rename-other (mt.Var i q) p x z h e = e
+    rename-other (mt.Clocked c u q) p x z h e = e
+    rename-other (mt.Other u q) p x z h e = e
+    rename-other mt.Nothing p x z h e = e
 
     module _ (ns : List Name) (last : ℕ) where
       pub rename-done : (c p at : ℕ) (z y : State) → c ≤ 0 → walked ns s last (writeStep old (renameItems old s spots names made a n k ids held rows)) c p z ≡ walked ns s last (writeStep old (renameItems old s spots names made a n k ids held rows)) 1 at y → z ≡ renameT old s spots names made a n k ids held rows ns last at y

@@ -62,17 +62,27 @@ module _ (old s spots : List ℕ) (names : ℕ) (made : Bool) (a : Name) (n k : 
   unfoldable pub clockedItems : ℕ → List ℕ → List Item
   clockedItems c h = raw (sliceOf h 0 1) ∷ (chosenItems c ++ (raw (sliceOf h 3 1) ∷ []))
 
+  -- a node that stands at p, its name renamed where it is no call of `last`
+  unfoldable pub otherItems : Met → ℕ → List Item
+  otherItems (mt.Last v i q) p = copyItems s p q
+  otherItems (mt.Bad u q) p = copyItems s p q
+  otherItems (mt.Const q) p = copyItems s p q
+  otherItems (mt.Var i q) p = raw (1 ∷ []) ∷ chosenItems i
+  otherItems (mt.Clocked c u q) p = clockedItems c (sliceOf s p (q - p))
+  otherItems (mt.Other u q) p = copyItems s p q
+  otherItems mt.Nothing p = copyItems s p 0
+
   -- the holders' rows
   module _ (held : List ℕ) (rows : ℕ) where
     -- a node that stands at p, its name renamed
     unfoldable pub renameItems : Met → ℕ → List Item
     renameItems (mt.Last v i q) p = raw (1 ∷ []) ∷ chosenItems (lastIdT held rows v)
-    renameItems (mt.Bad u q) p = copyItems s p q
-    renameItems (mt.Const q) p = copyItems s p q
-    renameItems (mt.Var i q) p = raw (1 ∷ []) ∷ chosenItems i
-    renameItems (mt.Clocked c u q) p = clockedItems c (sliceOf s p (q - p))
-    renameItems (mt.Other u q) p = copyItems s p q
-    renameItems mt.Nothing p = copyItems s p 0
+    renameItems (mt.Bad u q) p = otherItems (mt.Bad u q) p
+    renameItems (mt.Const q) p = otherItems (mt.Const q) p
+    renameItems (mt.Var i q) p = otherItems (mt.Var i q) p
+    renameItems (mt.Clocked c u q) p = otherItems (mt.Clocked c u q) p
+    renameItems (mt.Other u q) p = otherItems (mt.Other u q) p
+    renameItems mt.Nothing p = otherItems mt.Nothing p
 
     -- the expression at an offset
     unfoldable pub renameT : List Name → ℕ → ℕ → State → State

@@ -27,7 +27,7 @@ ghost use Rattle.wire.specs.Writer.{stateOf};
 ghost use Rattle.pack.specs.Names.{Name};
 ghost use Rattle.pack.specs.Write.{raw};
 ghost use Rattle.pack.specs.Intern.{render};
-ghost use Rattle.activations.specs.RewriteAt.{chosenItems, clockedItems, hasConstT, overT, pinItems, pinT, pinnedT, renameItems, renameT, renamedT};
+ghost use Rattle.activations.specs.RewriteAt.{chosenItems, clockedItems, hasConstT, otherItems, overT, pinItems, pinT, pinnedT, renameItems, renameT, renamedT};
 
 // The number whose sample stands for x, 65536 where x stays. One read after the other: a sample that is read later is sampled in
 // its turn.
@@ -127,7 +127,40 @@ fn put_clocked(
     put_bytes(f, out, d)
 }
 
-// The node m that stands at `at`, its name renamed.
+// The node m that stands at `at`, which is no call of `last`, its name renamed: a variable's or a clock's.
+fn put_other_renamed(
+    old: &[u8],
+    s: &[u8],
+    spots: &[u16],
+    b: Base,
+    a: &[u8],
+    n: usize,
+    k: usize,
+    ids: &[u16],
+    m: Met,
+    at: usize,
+    out: &mut [u8],
+    made: &mut [u8],
+    w: Writer,
+) -> Writer
+    ensures { λ r. ⌜ stateOf (now (out .exit)) (now (made .exit)) r ≡ render (now (old .entry)) (otherItems (now (old .entry)) (now (s .entry)) (now (spots .entry)) (b .names) (b .made) (now (a .entry)) n k (now (ids .entry)) m at) (stateOf (now (out .entry)) (now (made .entry)) w) ⌝ }
+{
+    let q = onward(m);
+    let h = between(s, at, q);
+    match m {
+        Met::Var { name, next: _ } => {
+            put_renamed_var(old, s, spots, b, a, n, k, ids, name, out, made, w)
+        }
+        Met::Clocked {
+            clock,
+            under: _,
+            next: _,
+        } => put_clocked(old, s, spots, b, a, n, k, ids, clock, h, out, made, w),
+        _ => put_bytes(h, out, w),
+    }
+}
+
+// The node m that stands at `at`, its name renamed: a call of `last` becomes what stands for its holder.
 fn put_met_renamed(
     old: &[u8],
     s: &[u8],
@@ -148,27 +181,16 @@ fn put_met_renamed(
     requires { ⌜ rows < 65536 ⌝ }
     ensures { λ r. ⌜ stateOf (now (out .exit)) (now (made .exit)) r ≡ render (now (old .entry)) (renameItems (now (old .entry)) (now (s .entry)) (now (spots .entry)) (b .names) (b .made) (now (a .entry)) n k (now (ids .entry)) (now (held .entry)) rows m at) (stateOf (now (out .entry)) (now (made .entry)) w) ⌝ }
 {
-    let q = onward(m);
-    let h = between(s, at, q);
-    match m {
-        Met::Last {
-            var,
-            init: _,
-            next: _,
-        } => {
-            let x = last_id(held, rows, var);
-            put_renamed_var(old, s, spots, b, a, n, k, ids, x, out, made, w)
-        }
-        Met::Var { name, next: _ } => {
-            put_renamed_var(old, s, spots, b, a, n, k, ids, name, out, made, w)
-        }
-        Met::Clocked {
-            clock,
-            under: _,
-            next: _,
-        } => put_clocked(old, s, spots, b, a, n, k, ids, clock, h, out, made, w),
-        _ => put_bytes(h, out, w),
-    }
+    let Met::Last {
+        var,
+        init: _,
+        next: _,
+    } = m
+    else {
+        return put_other_renamed(old, s, spots, b, a, n, k, ids, m, at, out, made, w);
+    };
+    let x = last_id(held, rows, var);
+    put_renamed_var(old, s, spots, b, a, n, k, ids, x, out, made, w)
 }
 
 // The right side at an offset, its names renamed.
