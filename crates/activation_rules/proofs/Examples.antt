@@ -618,5 +618,5 @@ examples =
     ∷ []
 
 pub examples-hold : given examples ≡ stated examples
-unfolding given stated examples maxBytes
+unfolding given stated examples
 examples-hold = refl

@@ -8,7 +8,6 @@ use lib.ListN.{length, drop}
 use lib.Dec.{ltb}
 use borrow.Author.Tests.{ltb-false}
 use Rattle.wire.specs.Writer.{State, full, st}
-use Rattle.pack.specs.Limits.{maxBytes}
 use Rattle.pack.specs.Outcome.{Gives, Outcome, answered, answers, numberOf, packOf, returned, sized, valueOf, writes}
 use Rattle.pack.specs.Table.{textsFrom}
 use Rattle.machines.specs.declared.refusal.Judged.{Judged}
@@ -22,7 +21,7 @@ pub entry-fits : (s spots lets : List ℕ) (m : ℕ) (j : Judged) (r : ℕ) → 
 entry-fits s spots lets m j r a b e = let x = entry-most s spots lets m j r e in omega arith
 
 sized-fits : (room : ℕ) (b : List ℕ) → InTable (sized room b)
-unfolding sized numberOf valueOf maxBytes
+unfolding sized numberOf valueOf
 sized-fits room b = go (ltb 65536 (length b)) refl (ltb room (length b))
   where
     go : (x : Bool) → ltb 65536 (length b) ≡ x → (y : Bool) → InTable (cond x (answers 8 0) (cond y (answers 9 (length b)) (writes b)))

@@ -5,9 +5,11 @@ use mathlib.Core.List.{List}
 use mathlib.Core.Path.{_≡_}
 use lib.ListN.{length}
 use Rattle.wire.specs.Answer.{counted, value}
+use Rattle.wire.specs.Bytes.{wordRange}
 use Rattle.pack.specs.Names.{Name}
 use Rattle.pack.specs.Syntax.{Activation, Enum, Node}
 use Rattle.pack.specs.Read.{activationIn, enumIn}
+use Rattle.pack.specs.Limits.{maxBytes}
 use Rattle.machines.specs.Shown.{PackOf}
 use Rattle.activations.specs.declared.base.Base.{Base}
 use Rattle.activations.specs.declared.parts.Act.{Act}
@@ -21,8 +23,8 @@ use Rattle.activations.specs.FirstsAt.{FirstsAre}
 -- the names ns, the enums es
 pub record Basis (ns : List Name) (es : List Enum) (old s spots : List ℕ) (b : Base) : Type 0 where
   pub pack : PackOf ns s old spots
-  pub short : length s ≤ 65536
-  pub few : length ns + length ns < 65536
+  pub short : length s ≤ maxBytes
+  pub few : length ns + length ns < wordRange
   pub names : b .names ≡ length ns
   pub last : LastIs ns (b .last)
   pub made : MadeIs ns (b .made)
@@ -43,7 +45,7 @@ Types ns s n later = TypesAre ns s later (lastTyped (variables n))
 -- the tables are as long as a pack asks: two words a name, three for each of 8,192 rows, one for each name that is read
 pub record Scratch (later env outs held reads seen : List ℕ) : Type 0 where
   pub forTypes : 32768 ≤ length later
-  pub forNumbers : length env ≡ 65536
+  pub forNumbers : length env ≡ wordRange
   pub forOutputs : 32768 ≤ length outs
   pub forRows : 24576 ≤ length held
   pub forReads : 21848 ≤ length reads

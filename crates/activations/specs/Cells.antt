@@ -2,11 +2,12 @@
 use Prim.Native.Nat.{ℕ, _%_}
 use mathlib.Core.List.{List}
 use lib.ListN.{getD, set}
+use Rattle.wire.specs.Bytes.{wordRange}
 use Rattle.machines.specs.Settling.{fillT}
 
 -- a word of 16 bits at i, where there is one
 unfoldable pub putT : List ℕ → ℕ → ℕ → List ℕ
-putT t i v = set t i (v % 65536)
+putT t i v = set t i (v % wordRange)
 
 -- zero in the first n; those of another table in the first n
 unfoldable pub clearT : ℕ → List ℕ → List ℕ

@@ -5,6 +5,7 @@ use mathlib.Core.Option.{none, some}
 use mathlib.Core.Path.{_≡_}
 use lib.ListN.{length, getD}
 use Rattle.wire.specs.Answer.{value}
+use Rattle.wire.specs.Bytes.{wordRange}
 use Rattle.pack.specs.Names.{Name}
 use Rattle.pack.specs.Legal.{place}
 use Rattle.pack.specs.Syntax.{Activation, Enum, Node}
@@ -20,7 +21,7 @@ use Rattle.activations.specs.Joining.{fateIn, ownerOf}
 -- what was judged of an activation of the name a: its refusal, or how many locals it makes
 unfoldable pub FateIs : List Name → Name → Refused → ℕ → Lowered → Type 0
 FateIs ns a r n (refuse x) = refusalBy ns a r ≡ some x
-FateIs ns a r n (make ls es) = (refusalBy ns a r ≡ none) × (n ≡ length ls % 65536)
+FateIs ns a r n (make ls es) = (refusalBy ns a r ≡ none) × (n ≡ length ls % wordRange)
 
 -- the node n was read there
 pub record NodeRead (ns : List Name) (s : List ℕ) (at : ℕ) (n : Node) : Type 0 where

@@ -5,6 +5,7 @@ use mathlib.Core.Bool.{Bool, false, cond}
 use lib.Dec.{eqb}
 use Rattle.wire.specs.Writer.{puts, st}
 use Rattle.pack.specs.Names.{Name}
+use Rattle.pack.specs.Limits.{maxName}
 use Rattle.machines.specs.Emits.{packName}
 use Rattle.activations.specs.declared.base.Base.{Base}
 use Rattle.activations.specs.Cells.{putT}
@@ -17,7 +18,7 @@ use Rattle.activations.specs.SoughtAt.{wordT}
 
 -- the number of the holder of a name, v more than the number of names where it is no old one
 unfoldable pub holderNumber : List ℕ → Base → Name → ℕ → ℕ
-holderNumber old b n v = oldOr (b .names) (placeBuilt (placeIn old) (b .names) (b .made) (puts n (st 255 0 [] []))) (b .names + v)
+holderNumber old b n v = oldOr (b .names) (placeBuilt (placeIn old) (b .names) (b .made) (puts n (st maxName 0 [] []))) (b .names + v)
 
 module _ (old s : List ℕ) (b : Base) (spots : List ℕ) (a : Name) where
   -- the number of the holder of v

@@ -6,6 +6,7 @@ use mathlib.Core.Path.{_≡_}
 use lib.ListN.{length}
 use lib.Dec.{ltb}
 use Rattle.wire.specs.Writer.{full}
+use Rattle.wire.specs.Bytes.{wordRange}
 use Rattle.pack.specs.Names.{Name}
 use Rattle.pack.specs.Legal.{place}
 use Rattle.pack.specs.Syntax.{Activation, Enum, Node}
@@ -39,7 +40,7 @@ LeftAs n later z = (n ≡ z .count) × (later ≡ z .later)
 pub record JudgedIn (ns : List Name) (es : List Enum) (s : List ℕ) (A : Activation) (n : Node) (r : Refused) (locals : ℕ) (later : List ℕ) : Type 0 where
   pub fate : FateIs ns (A .name) r locals (lowered es A n)
   pub types : Types ns s (added (lowered es A n) n) later
-  pub words : (r .kind < 65536) × (r .second < 65536) × (r .third < 65536) × (locals < 65536)
+  pub words : (r .kind < wordRange) × (r .second < wordRange) × (r .third < wordRange) × (locals < wordRange)
 
 -- the same of the row i, where the judgement is put
 pub record RowJudged (ns : List Name) (es : List Enum) (s : List ℕ) (A : Activation) (n : Node) (i : ℕ) (acts acts′ later : List ℕ) : Type 0 where

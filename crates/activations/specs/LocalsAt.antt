@@ -5,8 +5,10 @@ use mathlib.Core.Bool.{Bool, cond}
 use lib.ListN.{length, getD}
 use lib.Dec.{ltb}
 use Rattle.wire.specs.Writer.{State, puts, st, stateOf}
+use Rattle.wire.specs.Bytes.{wordRange}
 use Rattle.pack.specs.Names.{Name}
 use Rattle.pack.specs.Intern.{putBuilt}
+use Rattle.pack.specs.Limits.{maxName}
 use Rattle.machines.specs.Sure.{numberIn, with}
 use Rattle.machines.specs.Marks.{among}
 use Rattle.machines.specs.Emits.{packName}
@@ -36,15 +38,15 @@ leftOf l o m p = record { later = l; state = stateOf o m (p .w); count = p .coun
 
 -- one local more, by 16 bits
 unfoldable pub moreT : ℕ → ℕ
-moreT n = (n % 65536 + 1) % 65536
+moreT n = (n % wordRange + 1) % wordRange
 
 -- a type's code for the name of index x, where it is an old one
 unfoldable pub leaveT : ℕ → ℕ → ℕ → List ℕ → List ℕ
 leaveT names x c t = cond (ltb x names) (putT t x c) t
 
--- a name as a writer of 255 bytes holds it
+-- a name as a writer of a name's limit holds it
 unfoldable pub built : Name → State
-built x = puts x (st 255 0 [] [])
+built x = puts x (st maxName 0 [] [])
 
 -- a pack's names and bytes, the old names' bytes, whether some are made
 module _ (ns : List Name) (s old : List ℕ) (made : Bool) where

@@ -12,6 +12,7 @@ use Rattle.pack.specs.declared.exprs.Decoded.the-variants as dc
 use Rattle.pack.specs.Forms.{exprHead}
 use Rattle.pack.specs.Nodes.{decoded}
 use Rattle.pack.specs.Read.{exprIn}
+use Rattle.pack.specs.Limits.{maxBytes}
 use Rattle.machines.specs.Stands.{endOf}
 use Rattle.activations.specs.declared.met.Met.{Met}
 use Rattle.activations.specs.declared.met.Met.the-variants as mt
@@ -72,9 +73,9 @@ module _ (ns : List Name) (s : List ℕ) where
     unfoldable pub metAt : ℕ → Met
     metAt at = onNode (decoded (exprHead (length ns) s at)) (metNode at)
 
--- one expression less and `under` more; no pack has more than 65,536 to come
+-- one expression less and `under` more; no pack has more to come than bytes
 unfoldable pub grownT : ℕ → ℕ → ℕ
-grownT n under = cond (ltb 65536 n) 0 (cond (ltb 65536 under) 0 (n - 1 + under))
+grownT n under = cond (ltb maxBytes n) 0 (cond (ltb maxBytes under) 0 (n - 1 + under))
 
 -- how many expressions are to come after a node, where n were with it
 unfoldable pub openT : Met → ℕ → ℕ

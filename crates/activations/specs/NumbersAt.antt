@@ -1,17 +1,22 @@
--- Names by number, as the code writes and finds them. 65536 is the number of none: no cell of a table has it.
+-- Names by number, as the code writes and finds them. The number of none is one that no cell of a table has.
 use Prim.Native.Nat.{ℕ, zero, suc, _+_, _-_}
 use mathlib.Core.List.{List, [], _∷_}
 use mathlib.Core.Bool.{Bool, cond}
 use lib.ListN.{getD}
 use lib.Dec.{eqb, ltb}
-use Rattle.wire.specs.Bytes.{two}
+use Rattle.wire.specs.Bytes.{two, wordRange}
 use Rattle.wire.specs.Writer.{puts, st}
 use Rattle.pack.specs.Names.{Name}
 use Rattle.pack.specs.Write.{Item, nm, raw}
+use Rattle.pack.specs.Limits.{maxName}
 use Rattle.machines.specs.Emits.{packName}
 use Rattle.activation_rules.specs.MadeNames.{lastVar, sampleVar, scopeAt}
 use Rattle.activations.specs.Lookups.{placeBuilt, placeIn}
 use Rattle.activations.specs.Ids.{oldOr}
+
+-- the number of none
+abbrev pub noNumber : ℕ
+noNumber = wordRange
 
 -- a pack's bytes, where each name stands in it, how many there are; an activation's name
 module _ (s spots : List ℕ) (names : ℕ) (a : Name) where
@@ -29,11 +34,11 @@ module _ (s spots : List ℕ) (names : ℕ) (a : Name) where
 
   -- the number of the sample, where its name is an old one
   unfoldable pub sampleT : List ℕ → Bool → ℕ → ℕ → ℕ → ℕ
-  sampleT old made n k x = oldOr names (placeBuilt (placeIn old) names made (puts (sampleNameT n k x) (st 255 0 [] []))) 65536
+  sampleT old made n k x = oldOr names (placeBuilt (placeIn old) names made (puts (sampleNameT n k x) (st maxName 0 [] []))) noNumber
 
 -- the holder's number in the row of v, in n rows of three words from h on
 unfoldable pub lastRowT : List ℕ → ℕ → ℕ → ℕ → ℕ
-lastRowT held v zero h = 65536
+lastRowT held v zero h = noNumber
 lastRowT held v (suc n) h = cond (eqb (getD held h 0) v) (getD held (h + 2) 0) (lastRowT held v n (h + 3))
 
 -- the same in all rows

@@ -2,6 +2,7 @@
 use Prim.Native.Nat.{ℕ, _+_, _%_}
 use mathlib.Core.List.{List}
 use lib.ListN.{getD, length, replicate}
+use Rattle.wire.specs.Bytes.{wordRange}
 use Rattle.pack.specs.Names.{Name}
 use Rattle.machines.specs.Settling.{fillT, findT, nodeEnd, nth}
 use Rattle.machines.specs.Sure.{numberIn, with}
@@ -13,7 +14,7 @@ use Rattle.activations.specs.ActTable.{judgedT}
 
 -- the nodes, whose count stands at `at`
 unfoldable pub placeNodesT : List Name → List ℕ → ℕ → List ℕ → List ℕ
-placeNodesT ns s at nodes = with (numberIn s at) λ n p. fillT (λ i. nth (nodeEnd ns s) p i % 65536) n 0 nodes
+placeNodesT ns s at nodes = with (numberIn s at) λ n p. fillT (λ i. nth (nodeEnd ns s) p i % wordRange) n 0 nodes
 
 -- the indexes of the names of n nodes; the first node of the name x, n where there is none
 unfoldable pub ownersT : List ℕ → List ℕ → ℕ → List ℕ

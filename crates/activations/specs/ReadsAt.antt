@@ -4,6 +4,7 @@ use mathlib.Core.List.{List, [], _∷_, _++_}
 use mathlib.Core.Bool.{cond}
 use lib.ListN.{length}
 use lib.Dec.{eqb, ltb}
+use Rattle.wire.specs.Bytes.{wordRange}
 use Rattle.pack.specs.Names.{Name}
 use Rattle.machines.specs.Marks.{among}
 use Rattle.activations.specs.declared.met.Met.{Met}
@@ -11,11 +12,11 @@ use Rattle.activations.specs.declared.met.Met.the-variants as mt
 use Rattle.activations.specs.Walks.{walked}
 use Rattle.activations.specs.Places.{rightSideIn}
 use Rattle.activations.specs.TypeCodes.{typedT}
-use Rattle.activations.specs.NumbersAt.{lastIdT}
+use Rattle.activations.specs.NumbersAt.{lastIdT, noNumber}
 
 -- a number more, where it is not there yet; there is room for 21,848
 unfoldable pub pushT : ℕ → List ℕ → List ℕ
-pushT x l = cond (among x l) l (cond (ltb (length l) 21848) (l ++ (x % 65536 ∷ [])) l)
+pushT x l = cond (among x l) l (cond (ltb (length l) 21848) (l ++ (x % wordRange ∷ [])) l)
 
 -- those of a list in order
 unfoldable pub joinT : List ℕ → List ℕ → List ℕ
@@ -31,12 +32,12 @@ module _ (held : List ℕ) (rows : ℕ) where
   -- the number that a node reads, where calls of `last` are replaced
   unfoldable pub readBy : Met → ℕ
   readBy (mt.Last v i q) = lastIdT held rows v
-  readBy (mt.Bad u q) = 65536
-  readBy (mt.Const q) = 65536
+  readBy (mt.Bad u q) = noNumber
+  readBy (mt.Const q) = noNumber
   readBy (mt.Var i q) = i
   readBy (mt.Clocked c u q) = c
-  readBy (mt.Other u q) = 65536
-  readBy mt.Nothing = 65536
+  readBy (mt.Other u q) = noNumber
+  readBy mt.Nothing = noNumber
 
   module _ (env outs : List ℕ) (names : ℕ) where
     -- what a node adds

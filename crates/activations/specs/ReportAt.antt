@@ -3,6 +3,7 @@ use Prim.Native.Nat.{ℕ}
 use mathlib.Core.List.{List, []}
 use mathlib.Core.Bool.{cond}
 use lib.Dec.{eqb, ltb}
+use Rattle.pack.specs.Limits.{absent}
 use Rattle.machines.specs.declared.refusal.Called.{Called}
 use Rattle.machines.specs.declared.refusal.Judged.{Judged}
 use Rattle.machines.specs.Entries.{entryBytes}
@@ -14,7 +15,7 @@ use Rattle.activations.specs.ActTable.{refusalT, spotT}
 
 -- a name by its number, where there are so many names: that number is none, past it is `else`
 abbrev pub elseCalled : Called
-elseCalled = record { letter = 0; letters = 4; name = 65535 }
+elseCalled = record { letter = 0; letters = 4; name = absent }
 
 unfoldable pub calledT : ℕ → ℕ → Called
 calledT names x = cond (ltb x names) (named x) (cond (eqb x names) noName elseCalled)

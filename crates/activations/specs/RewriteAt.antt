@@ -15,7 +15,7 @@ use Rattle.activations.specs.Met.{isConst}
 use Rattle.activations.specs.Walks.{orStep, walked, writeStep}
 use Rattle.activations.specs.ByNumber.{ontoItems}
 use Rattle.activations.specs.UnlastAt.{copyItems, metItems, unlastT}
-use Rattle.activations.specs.NumbersAt.{idItems, lastIdT, sampleNameT, sampleT}
+use Rattle.activations.specs.NumbersAt.{idItems, lastIdT, noNumber, sampleNameT, sampleT}
 
 -- what was read, one number after the other: the last whose sample took its own place, y where none did; f is the sample's number
 unfoldable pub renamedFrom : (ℕ → ℕ) → List ℕ → ℕ → ℕ → ℕ
@@ -50,13 +50,13 @@ module _ (old s spots : List ℕ) (a : Name) (n k : ℕ) (ns : List Name) (last 
 
 -- how many names there are, whether some are made; the numbers that are read
 module _ (old s spots : List ℕ) (names : ℕ) (made : Bool) (a : Name) (n k : ℕ) (ids : List ℕ) where
-  -- the number whose sample stands for x, 65536 where x stays
+  -- the number whose sample stands for x, `noNumber` where x stays
   unfoldable pub renamedT : ℕ → ℕ
-  renamedT x = renamedFrom (sampleT s spots names a old made n k) ids x 65536
+  renamedT x = renamedFrom (sampleT s spots names a old made n k) ids x noNumber
 
   -- what is written for x
   unfoldable pub chosenItems : ℕ → List Item
-  chosenItems x = cond (eqb (renamedT x) 65536) (idItems s spots names a x) (nm (sampleNameT s spots names a n k (renamedT x)) ∷ [])
+  chosenItems x = cond (eqb (renamedT x) noNumber) (idItems s spots names a x) (nm (sampleNameT s spots names a n k (renamedT x)) ∷ [])
 
   -- a node with a clock, whose bytes are h
   unfoldable pub clockedItems : ℕ → List ℕ → List Item

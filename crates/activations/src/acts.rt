@@ -12,7 +12,9 @@ ghost use mathlib.Core.List.{List};
 ghost use mathlib.Core.Path.{_≡_};
 ghost use Prim.Native.Nat.{_+_, _<_, _≤_};
 ghost use lib.ListN.{length};
+ghost use Rattle.wire.specs.Bytes.{wordRange};
 ghost use Rattle.pack.specs.Names.{Name};
+ghost use Rattle.pack.specs.Limits.{maxBytes};
 ghost use Rattle.activations.specs.Cells.{putT};
 ghost use Rattle.activations.specs.Places.{actAt};
 ghost use Rattle.activations.specs.ActTable.{goalT, judgedT, madeT, refusalT, spotT};
@@ -37,14 +39,14 @@ pub fn act_spot(acts: &[u16], i: usize) -> usize
 
 // The node that it goes to.
 pub fn act_node(acts: &[u16], i: usize) -> usize
-    ensures { λ r. ⌜ (r < 65536) × (r ≡ goalT (now (acts .entry)) i) ⌝ }
+    ensures { λ r. ⌜ (r < wordRange) × (r ≡ goalT (now (acts .entry)) i) ⌝ }
 {
     word(acts, NODE, i)
 }
 
 // How many locals it makes.
 pub fn act_locals(acts: &[u16], i: usize) -> usize
-    ensures { λ r. ⌜ (r < 65536) × (r ≡ madeT (now (acts .entry)) i) ⌝ }
+    ensures { λ r. ⌜ (r < wordRange) × (r ≡ madeT (now (acts .entry)) i) ⌝ }
 {
     word(acts, LOCALS, i)
 }
@@ -61,8 +63,8 @@ pub fn judged(acts: &[u16], i: usize) -> Refused
 
 // Its parts.
 pub fn act_of(s: &[u8], names: usize, acts: &[u16], i: usize) -> Act
-    requires { ⌜ length (now s) ≤ 65536 ⌝ }
-    ensures few { λ r. ⌜ r .n < 65536 ⌝ }
+    requires { ⌜ length (now s) ≤ maxBytes ⌝ }
+    ensures few { λ r. ⌜ r .n < wordRange ⌝ }
     ensures parts { λ r. ⌜ ((ns : List Name) → length ns ≡ names → r ≡ actAt ns (now (s .entry)) (spotT (now (acts .entry)) i)) ⌝ }
 {
     let at = act_spot(acts, i);

@@ -9,7 +9,9 @@ ghost use mathlib.Core.List.{List};
 ghost use mathlib.Core.Path.{_≡_};
 ghost use Prim.Native.Nat.{_≤_};
 ghost use lib.ListN.{length};
+ghost use Rattle.wire.specs.Bytes.{wordRange};
 ghost use Rattle.pack.specs.Names.{Name};
+ghost use Rattle.pack.specs.Limits.{maxBytes};
 ghost use Rattle.activations.specs.BegunAt.{beginningOf, begunT};
 
 // What is refused (kind 0, 15 or 16) of which variable; how many holders there are.
@@ -32,7 +34,7 @@ pub fn begin(
     outs: &mut [u16],
     held: &mut [u16],
 ) -> Begun
-    requires { ⌜ (length (now s) ≤ 65536) × (b .names ≤ 65536) ⌝ }
+    requires { ⌜ (length (now s) ≤ maxBytes) × (b .names ≤ wordRange) ⌝ }
     ensures few { λ r. ⌜ r .rows ≤ 8192 ⌝ }
     ensures begun { λ r. ⌜ ((ns : List Name) → length ns ≡ b .names → beginningOf (now (env .exit)) (now (outs .exit)) (now (held .exit)) r ≡ begunT ns (now (old .entry)) (now (s .entry)) b (now (spots .entry)) (now (a .entry)) act (now (later .entry)) (now (env .entry)) (now (outs .entry)) (now (held .entry))) ⌝ }
 {

@@ -15,10 +15,12 @@ ghost use mathlib.Core.Path.{_≡_};
 ghost use Prim.Native.Nat.{_≤_};
 ghost use lib.ListN.{length};
 ghost use Rattle.wire.specs.Writer.{stateOf};
+ghost use Rattle.wire.specs.Bytes.{wordRange};
 ghost use Rattle.pack.specs.Names.{Name};
 ghost use Rattle.pack.specs.Syntax.{Activation, Enum, Node};
 ghost use Rattle.pack.specs.Write.{each, equationItems, portItems};
 ghost use Rattle.pack.specs.Intern.{render};
+ghost use Rattle.pack.specs.Limits.{maxBytes};
 ghost use Rattle.machines.specs.Sections.{nodeNames};
 ghost use Rattle.activation_rules.specs.Lower.{lowered};
 ghost use Rattle.activations.specs.Places.{actAt};
@@ -46,7 +48,7 @@ fn put_row_locals(
     made: &mut [u8],
     w: Writer,
 ) -> Writer
-    requires { ⌜ (length (now s) ≤ 65536) × (b .names ≤ 65536) × Scratch (now later) (now env) (now outs) (now held) (now reads) (now seen) ⌝ }
+    requires { ⌜ (length (now s) ≤ maxBytes) × (b .names ≤ wordRange) × Scratch (now later) (now env) (now outs) (now held) (now reads) (now seen) ⌝ }
     ensures past { λ r. ⌜ ((goalT (now (acts .entry)) i ≡ k → ⊥) → (stateOf (now (out .exit)) (now (made .exit)) r ≡ stateOf (now (out .entry)) (now (made .entry)) w) × (now (later .exit) ≡ now (later .entry))) ⌝ }
     ensures written { λ r. ⌜ (goalT (now (acts .entry)) i ≡ k → (ns : List Name) (es : List Enum) (A : Activation) (n : Node) → Basis ns es (now (old .entry)) (now (s .entry)) (now (spots .entry)) b → ReadAt ns (now (s .entry)) (spotT (now (acts .entry)) i) A (actAt ns (now (s .entry)) (spotT (now (acts .entry)) i)) → Types ns (now (s .entry)) n (now (later .entry)) → IsMade (lowered es A n) → RowWritten ns es (now (s .entry)) (now (old .entry)) A n (each portItems (portsOf (lowered es A n))) (stateOf (now (out .entry)) (now (made .entry)) w) (stateOf (now (out .exit)) (now (made .exit)) r) (now (later .exit))) ⌝ }
 {
@@ -98,7 +100,7 @@ fn put_row_equations(
     made: &mut [u8],
     w: Writer,
 ) -> Writer
-    requires { ⌜ (length (now s) ≤ 65536) × (b .names ≤ 65536) × Scratch (now later) (now env) (now outs) (now held) (now reads) (now seen) ⌝ }
+    requires { ⌜ (length (now s) ≤ maxBytes) × (b .names ≤ wordRange) × Scratch (now later) (now env) (now outs) (now held) (now reads) (now seen) ⌝ }
     ensures past { λ r. ⌜ ((goalT (now (acts .entry)) i ≡ k → ⊥) → (stateOf (now (out .exit)) (now (made .exit)) r ≡ stateOf (now (out .entry)) (now (made .entry)) w) × (now (later .exit) ≡ now (later .entry))) ⌝ }
     ensures written { λ r. ⌜ (goalT (now (acts .entry)) i ≡ k → (ns : List Name) (es : List Enum) (A : Activation) (n : Node) → Basis ns es (now (old .entry)) (now (s .entry)) (now (spots .entry)) b → ReadAt ns (now (s .entry)) (spotT (now (acts .entry)) i) A (actAt ns (now (s .entry)) (spotT (now (acts .entry)) i)) → Types ns (now (s .entry)) n (now (later .entry)) → IsMade (lowered es A n) → RowWritten ns es (now (s .entry)) (now (old .entry)) A n (each equationItems (equationsOf (lowered es A n))) (stateOf (now (out .entry)) (now (made .entry)) w) (stateOf (now (out .exit)) (now (made .exit)) r) (now (later .exit))) ⌝ }
 {
@@ -163,7 +165,7 @@ pub fn put_brought_locals(
     made: &mut [u8],
     w: Writer,
 ) -> Writer
-    requires { ⌜ (length (now s) ≤ 65536) × (b .names ≤ 65536) × (count ≤ 6656) × Scratch (now later) (now env) (now outs) (now held) (now reads) (now seen) ⌝ }
+    requires { ⌜ (length (now s) ≤ maxBytes) × (b .names ≤ wordRange) × (count ≤ 6656) × Scratch (now later) (now env) (now outs) (now held) (now reads) (now seen) ⌝ }
     ensures { λ r. ⌜ ((ns : List Name) (es : List Enum) (N : List Node) (As : List Activation) (m : Node) → Basis ns es (now (old .entry)) (now (s .entry)) (now (spots .entry)) b → Drawn ns (now (s .entry)) es N As (now (acts .entry)) → length As ≡ count → AllMade es N As k m → Types ns (now (s .entry)) m (now (later .entry)) → stateOf (now (out .exit)) (now (made .exit)) r ≡ render (now (old .entry)) (each portItems (brought es (nodeNames N) portsOf k As m)) (stateOf (now (out .entry)) (now (made .entry)) w)) ⌝ }
 {
     let mut v = w;
@@ -213,7 +215,7 @@ pub fn put_brought_equations(
     made: &mut [u8],
     w: Writer,
 ) -> Writer
-    requires { ⌜ (length (now s) ≤ 65536) × (b .names ≤ 65536) × (count ≤ 6656) × Scratch (now later) (now env) (now outs) (now held) (now reads) (now seen) ⌝ }
+    requires { ⌜ (length (now s) ≤ maxBytes) × (b .names ≤ wordRange) × (count ≤ 6656) × Scratch (now later) (now env) (now outs) (now held) (now reads) (now seen) ⌝ }
     ensures { λ r. ⌜ ((ns : List Name) (es : List Enum) (N : List Node) (As : List Activation) (m : Node) → Basis ns es (now (old .entry)) (now (s .entry)) (now (spots .entry)) b → Drawn ns (now (s .entry)) es N As (now (acts .entry)) → length As ≡ count → AllMade es N As k m → Types ns (now (s .entry)) m (now (later .entry)) → stateOf (now (out .exit)) (now (made .exit)) r ≡ render (now (old .entry)) (each equationItems (brought es (nodeNames N) equationsOf k As m)) (stateOf (now (out .entry)) (now (made .entry)) w)) ⌝ }
 {
     let mut v = w;

@@ -1,16 +1,17 @@
 // The nodes to which activations go: the others stay as they are.
 use crate::acts::act_node;
+use machines::busy::NO_NODE;
 use machines::busy::nearer;
 ghost use mathlib.Core.Path.{_≡_};
-ghost use Rattle.machines.specs.Busy.{busyT, nextBusyT};
+ghost use Rattle.machines.specs.Busy.{busyT, nextBusyT, noNode};
 ghost use Rattle.activations.specs.ActTable.{goalT};
 
-// The first node from k on to which one of n activations goes, 65,536 where there is none.
+// The first node from k on to which one of n activations goes, `NO_NODE` where there is none.
 fn busy(acts: &[u16], n: usize, k: usize) -> usize
-    ensures { λ r. ⌜ r ≡ busyT (goalT (now (acts .entry))) k n 0 65536 ⌝ }
+    ensures { λ r. ⌜ r ≡ busyT (goalT (now (acts .entry))) k n 0 noNode ⌝ }
 {
     let mut i = 0;
-    let mut b = 65536;
+    let mut b = NO_NODE;
     while i < n {
         let a = act_node(acts, i);
         b = nearer(k, a, b);

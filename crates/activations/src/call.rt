@@ -22,14 +22,17 @@ use pack::finish::finish;
 use pack::intern::lay_names;
 use pack::record::Pack;
 use pack::table::ROOM;
+use wire::number::WORD_RANGE;
 ghost use mathlib.Core.Path.{_≡_};
 ghost use Prim.Native.Nat.{_-_, _<_, _≤_};
 ghost use lib.ListN.{length};
+ghost use Rattle.wire.specs.Bytes.{wordRange};
 ghost use Rattle.pack.specs.Syntax.{Package};
 ghost use Rattle.pack.specs.Table.{tabled};
 ghost use Rattle.pack.specs.Intern.{table};
 ghost use Rattle.pack.specs.Outcome.{Gives, outputOf, reportOf, returned, written};
 ghost use Rattle.pack.specs.Verdict.{Stands};
+ghost use Rattle.pack.specs.Limits.{maxBytes};
 ghost use Rattle.machines.specs.Laid.{sliceOf};
 ghost use Rattle.machines.specs.Filled.{Answers, OpenedAs};
 ghost use Rattle.activation_rules.specs.Activations.{madeActivations, withoutActivations};
@@ -71,7 +74,7 @@ fn write_all(
     later: &mut [u16],
     output: &mut [u8],
 ) -> Outcome
-    requires { ⌜ (length (now s) ≤ 65536) × (b .names ≤ 65536) × (n ≤ 6656) × Scratch (now later) (now env) (now outs) (now held) (now reads) (now seen) ⌝ }
+    requires { ⌜ (length (now s) ≤ maxBytes) × (b .names ≤ wordRange) × (n ≤ 6656) × Scratch (now later) (now env) (now outs) (now held) (now reads) (now seen) ⌝ }
     ensures answers { λ r. ⌜ ((p : Package) → Stands (now (s .entry)) x p → Basis (p .names) (p .enums) (now (old .entry)) (now (s .entry)) (now (spots .entry)) b → Settled (p .names) (now (s .entry)) (p .enums) (p .nodes) (p .activations) (now (nodes .entry)) (now (acts .entry)) m n → Gives (written (length (now (output .entry))) (withoutActivations p (madeActivations p))) (r .number) (r .value) (now (output .entry)) (now (output .exit))) ⌝ }
     ensures fits { λ r. ⌜ (r .number ≤ 9) × (r .value < 4294967296) ⌝ }
 {
@@ -116,7 +119,7 @@ fn lower_opened(
     output: &mut [u8],
     report: &mut [u8],
 ) -> Outcome
-    requires { ⌜ (length (now s) ≤ 65536) × OpenedAs (now s) x × Blank (now spots) (now nodes) (now acts) × Scratch (now later) (now env) (now outs) (now held) (now reads) (now seen) × (now old ≡ tabled (table (sliceOf (now s) 2 (x .enums - 2)))) ⌝ }
+    requires { ⌜ (length (now s) ≤ maxBytes) × OpenedAs (now s) x × Blank (now spots) (now nodes) (now acts) × Scratch (now later) (now env) (now outs) (now held) (now reads) (now seen) × (now old ≡ tabled (table (sliceOf (now s) 2 (x .enums - 2)))) ⌝ }
     ensures answers { λ r. ⌜ ((p : Package) → Stands (now (s .entry)) x p → Answers (activationsOf (length (now (output .entry))) (length (now (report .entry))) p) (r .number) (r .value) (now (output .entry)) (now (output .exit)) (now (report .entry)) (now (report .exit))) ⌝ }
     ensures fits { λ r. ⌜ (r .number ≤ 9) × (r .value < 4294967296) ⌝ }
 {
@@ -166,17 +169,17 @@ fn lower_opened(
     )
 }
 
-// The scratch of a call: a pack of 65,536 bytes has at most 32,767 names, 5,957 nodes and 6,553 activations. Past the names'
+// The scratch of a call: a pack as long as may be has at most 32,767 names, 5,957 nodes and 6,553 activations. Past the names'
 // places there is room for what 17,408 enums start from.
 fn lower_whole(s: &[u8], x: Pack, output: &mut [u8], report: &mut [u8]) -> Outcome
-    requires { ⌜ (length (now s) ≤ 65536) × OpenedAs (now s) x ⌝ }
+    requires { ⌜ (length (now s) ≤ maxBytes) × OpenedAs (now s) x ⌝ }
     ensures answers { λ r. ⌜ ((p : Package) → Stands (now (s .entry)) x p → Answers (activationsOf (length (now (output .entry))) (length (now (report .entry))) p) (r .number) (r .value) (now (output .entry)) (now (output .exit)) (now (report .entry)) (now (report .exit))) ⌝ }
     ensures fits { λ r. ⌜ (r .number ≤ 9) × (r .value < 4294967296) ⌝ }
 {
     let mut spots = [0u16; SPOTS];
     let mut nodes = [0u16; 6656];
     let mut acts = [0u16; 39936];
-    let mut env = [0u16; 65536];
+    let mut env = [0u16; WORD_RANGE];
     let mut outs = [0u16; 32768];
     let mut held = [0u16; 24576];
     let mut reads = [0u16; 21848];
@@ -205,7 +208,7 @@ fn lower_whole(s: &[u8], x: Pack, output: &mut [u8], report: &mut [u8]) -> Outco
 // The same, kept apart: a function that calls itself is not inlined, so that the tables of a call and those of the check do not
 // stand on the stack at once. No pack is longer than the check allows.
 fn lower_apart(s: &[u8], x: Pack, output: &mut [u8], report: &mut [u8]) -> Outcome
-    requires { ⌜ (length (now s) ≤ 65536) × OpenedAs (now s) x ⌝ }
+    requires { ⌜ (length (now s) ≤ maxBytes) × OpenedAs (now s) x ⌝ }
     ensures answers { λ r. ⌜ ((p : Package) → Stands (now (s .entry)) x p → Answers (activationsOf (length (now (output .entry))) (length (now (report .entry))) p) (r .number) (r .value) (now (output .entry)) (now (output .exit)) (now (report .entry)) (now (report .exit))) ⌝ }
     ensures fits { λ r. ⌜ (r .number ≤ 9) × (r .value < 4294967296) ⌝ }
 {
@@ -221,7 +224,7 @@ fn lower_apart(s: &[u8], x: Pack, output: &mut [u8], report: &mut [u8]) -> Outco
 
 // A pack that was opened. One without activations stays as it is, and needs no scratch.
 fn lower_checked(s: &[u8], x: Pack, output: &mut [u8], report: &mut [u8]) -> Outcome
-    requires { ⌜ (length (now s) ≤ 65536) × OpenedAs (now s) x ⌝ }
+    requires { ⌜ (length (now s) ≤ maxBytes) × OpenedAs (now s) x ⌝ }
     ensures answers { λ r. ⌜ Answers (lowerActivations (now (s .entry)) (length (now (output .entry))) (length (now (report .entry)))) (r .number) (r .value) (now (output .entry)) (now (output .exit)) (now (report .entry)) (now (report .exit)) ⌝ }
     ensures fits { λ r. ⌜ (r .number ≤ 9) × (r .value < 4294967296) ⌝ }
 {

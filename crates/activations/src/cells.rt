@@ -1,14 +1,16 @@
 // Tables of 16-bit words, wide enough for a pack's offsets and indexes. All is total: 0 past the end, and nothing is written there.
+use wire::number::WORD_RANGE;
 use wire::writer::capped;
 ghost use mathlib.Core.Path.{_≡_};
 ghost use Prim.Native.Nat.{_+_, _-_, _<_, _≤_};
 ghost use lib.ListN.{getD, length};
+ghost use Rattle.wire.specs.Bytes.{wordRange};
 ghost use Rattle.machines.specs.Settling.{fillT};
 ghost use Rattle.activations.specs.Cells.{putT, clearT, copyT};
 
 // The word k words after p.
 pub fn word(t: &[u16], p: usize, k: usize) -> usize
-    ensures { λ r. ⌜ (r < 65536) × (r ≡ getD (now (t .entry)) (p + k) 0) ⌝ }
+    ensures { λ r. ⌜ (r < wordRange) × (r ≡ getD (now (t .entry)) (p + k) 0) ⌝ }
 {
     if p < t.len() {
         if k < t.len() - p {
@@ -26,7 +28,7 @@ pub fn put_word(t: &mut [u16], p: usize, k: usize, v: usize)
         return;
     }
     if k < t.len() - p {
-        t[p + k] = (v % 65536) as u16;
+        t[p + k] = (v % WORD_RANGE) as u16;
     }
 }
 

@@ -19,11 +19,12 @@ ghost use mathlib.Core.Path.{_≡_};
 ghost use Prim.Native.Nat.{_≤_, _<_, _^_};
 ghost use lib.ListN.{length};
 ghost use Rattle.pack.specs.Names.{Name};
+ghost use Rattle.pack.specs.Limits.{maxBytes};
 ghost use Rattle.activations.specs.ChecksAt.{assignBranchesT, assignScopeT, assignT, assignedT, checksT, inScopesT, leftlessScopeT, leftlessT, repeatedIn, scopeNameT};
 
 // The name of a branch that one before it has, the number of names where there is none.
 fn repeated(s: &[u8], names: usize, seen: &mut [u16], at: usize) -> usize
-    requires { ⌜ length (now s) ≤ 65536 ⌝ }
+    requires { ⌜ length (now s) ≤ maxBytes ⌝ }
     ensures { λ r. ⌜ ((ns : List Name) → length ns ≡ names → r ≡ repeatedIn ns (now (s .entry)) at (now (seen .entry))) ⌝ }
 {
     clear(seen, names);
@@ -58,7 +59,7 @@ fn assign(s: &[u8], seen: &mut [u16], k: usize, p: usize)
 
 // The scope k, whose count of equations stands at `at`.
 fn assign_scope(s: &[u8], names: usize, seen: &mut [u16], k: usize, at: usize)
-    requires { ⌜ (length (now s) ≤ 65536) × (k < 2 ^ 63) ⌝ }
+    requires { ⌜ (length (now s) ≤ maxBytes) × (k < 2 ^ 63) ⌝ }
     ensures { λ r. ⌜ ((ns : List Name) → length ns ≡ names → now (seen .exit) ≡ assignScopeT ns (now (s .entry)) k at (now (seen .entry))) ⌝ }
 {
     let c = number(s, at);
@@ -73,7 +74,7 @@ fn assign_scope(s: &[u8], names: usize, seen: &mut [u16], k: usize, at: usize)
 
 // The scopes of the branches, whose count stands at `at`.
 fn assign_branches(s: &[u8], names: usize, seen: &mut [u16], at: usize)
-    requires { ⌜ length (now s) ≤ 65536 ⌝ }
+    requires { ⌜ length (now s) ≤ maxBytes ⌝ }
     ensures { λ r. ⌜ ((ns : List Name) → length ns ≡ names → now (seen .exit) ≡ assignBranchesT ns (now (s .entry)) at (now (seen .entry))) ⌝ }
 {
     let c = number(s, at);
@@ -91,7 +92,7 @@ fn assign_branches(s: &[u8], names: usize, seen: &mut [u16], at: usize)
 
 // For each name the first scope that does not assign it; branches count from 0, and the else scope follows them.
 fn assign_all(s: &[u8], names: usize, seen: &mut [u16], a: Act)
-    requires { ⌜ (length (now s) ≤ 65536) × (a .n < 2 ^ 63) ⌝ }
+    requires { ⌜ (length (now s) ≤ maxBytes) × (a .n < 2 ^ 63) ⌝ }
     ensures { λ r. ⌜ ((ns : List Name) → length ns ≡ names → now (seen .exit) ≡ assignedT ns (now (s .entry)) a (now (seen .entry))) ⌝ }
 {
     clear(seen, names);
@@ -101,7 +102,7 @@ fn assign_all(s: &[u8], names: usize, seen: &mut [u16], a: Act)
 
 // The name of the scope k; that of the else scope is one more than the number of names.
 fn scope_name(s: &[u8], names: usize, a: Act, k: usize) -> usize
-    requires { ⌜ (length (now s) ≤ 65536) × (names < 2 ^ 63) ⌝ }
+    requires { ⌜ (length (now s) ≤ maxBytes) × (names < 2 ^ 63) ⌝ }
     ensures { λ r. ⌜ ((ns : List Name) → length ns ≡ names → r ≡ scopeNameT ns (now (s .entry)) a k) ⌝ }
 {
     if a.n <= k {
@@ -120,7 +121,7 @@ fn scope_name(s: &[u8], names: usize, a: Act, k: usize) -> usize
 
 // The first output that some scope does not assign, with the first such scope.
 fn in_scopes(s: &[u8], names: usize, seen: &mut [u16], a: Act) -> Refused
-    requires { ⌜ (length (now s) ≤ 65536) × (a .n < 2 ^ 63) × (names < 2 ^ 63) ⌝ }
+    requires { ⌜ (length (now s) ≤ maxBytes) × (a .n < 2 ^ 63) × (names < 2 ^ 63) ⌝ }
     ensures { λ r. ⌜ ((ns : List Name) → length ns ≡ names → r ≡ inScopesT ns (now (s .entry)) a (now (seen .entry))) ⌝ }
 {
     assign_all(s, names, seen, a);
@@ -142,7 +143,7 @@ fn in_scopes(s: &[u8], names: usize, seen: &mut [u16], a: Act) -> Refused
 
 // Whether a scope has an equation without left names.
 fn leftless_scope(s: &[u8], names: usize, at: usize) -> bool
-    requires { ⌜ length (now s) ≤ 65536 ⌝ }
+    requires { ⌜ length (now s) ≤ maxBytes ⌝ }
     ensures { λ r. ⌜ ((ns : List Name) → length ns ≡ names → r ≡ leftlessScopeT ns (now (s .entry)) at) ⌝ }
 {
     let c = number(s, at);
@@ -161,7 +162,7 @@ fn leftless_scope(s: &[u8], names: usize, at: usize) -> bool
 
 // Whether a scope of an activation has one.
 pub fn leftless(s: &[u8], names: usize, a: Act) -> bool
-    requires { ⌜ length (now s) ≤ 65536 ⌝ }
+    requires { ⌜ length (now s) ≤ maxBytes ⌝ }
     ensures { λ r. ⌜ ((ns : List Name) → length ns ≡ names → r ≡ leftlessT ns (now (s .entry)) a) ⌝ }
 {
     let c = number(s, a.branches);
@@ -180,7 +181,7 @@ pub fn leftless(s: &[u8], names: usize, a: Act) -> bool
 
 // Those of an activation in order, up to `last` being sought. Two tables, since what one check leaves is nothing to the next.
 pub fn checks(s: &[u8], b: Base, marks: &mut [u16], seen: &mut [u16], a: Act) -> Refused
-    requires { ⌜ (length (now s) ≤ 65536) × (a .n < 2 ^ 63) × (b .names < 2 ^ 63) ⌝ }
+    requires { ⌜ (length (now s) ≤ maxBytes) × (a .n < 2 ^ 63) × (b .names < 2 ^ 63) ⌝ }
     ensures { λ r. ⌜ ((ns : List Name) → length ns ≡ b .names → r ≡ checksT ns (now (s .entry)) (b .last) a (now (marks .entry)) (now (seen .entry))) ⌝ }
 {
     if a.n == 0 {

@@ -5,6 +5,7 @@ use crate::acts::act_spot;
 use machines::sure::number;
 ghost use mathlib.Core.Path.{_≡_};
 ghost use Prim.Native.Nat.{_<_, _≤_};
+ghost use Rattle.wire.specs.Bytes.{wordRange};
 ghost use Rattle.machines.specs.Brought.{totalT};
 ghost use Rattle.activations.specs.CountsAt.{bringsEquationsT, bringsLocalsT, equationCountT};
 
@@ -22,7 +23,7 @@ pub fn equation_count(s: &[u8], acts: &[u16], i: usize) -> usize
 
 // How many locals it brings to the node k.
 fn brings_locals(acts: &[u16], k: usize, i: usize) -> usize
-    ensures { λ r. ⌜ (r < 65536) × (r ≡ bringsLocalsT (now (acts .entry)) k i) ⌝ }
+    ensures { λ r. ⌜ (r < wordRange) × (r ≡ bringsLocalsT (now (acts .entry)) k i) ⌝ }
 {
     let g = act_node(acts, i);
     if g == k {
@@ -44,7 +45,7 @@ fn brings_equations(s: &[u8], acts: &[u16], k: usize, i: usize) -> usize
 
 // How many locals the first n activations bring to the node k.
 pub fn brought_locals(acts: &[u16], n: usize, k: usize) -> usize
-    requires { ⌜ n ≤ 65536 ⌝ }
+    requires { ⌜ n ≤ wordRange ⌝ }
     ensures { λ r. ⌜ (r ≤ 4294967296) × (r ≡ totalT (bringsLocalsT (now (acts .entry)) k) n 0) ⌝ }
 {
     let mut i = 0;
@@ -58,7 +59,7 @@ pub fn brought_locals(acts: &[u16], n: usize, k: usize) -> usize
 
 // How many equations.
 pub fn brought_equations(s: &[u8], acts: &[u16], n: usize, k: usize) -> usize
-    requires { ⌜ n ≤ 65536 ⌝ }
+    requires { ⌜ n ≤ wordRange ⌝ }
     ensures { λ r. ⌜ (r ≤ 8589934592) × (r ≡ totalT (bringsEquationsT (now (s .entry)) (now (acts .entry)) k) n 0) ⌝ }
 {
     let mut i = 0;

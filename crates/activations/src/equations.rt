@@ -14,6 +14,7 @@ ghost use lib.ListN.{length};
 ghost use Rattle.wire.specs.Writer.{stateOf};
 ghost use Rattle.pack.specs.Names.{Name};
 ghost use Rattle.pack.specs.Syntax.{Expr};
+ghost use Rattle.pack.specs.Limits.{maxBytes};
 ghost use Rattle.activations.specs.EquationsAt.{actEquationsT};
 
 pub fn put_act_equations(
@@ -33,7 +34,7 @@ pub fn put_act_equations(
     made: &mut [u8],
     w: Writer,
 ) -> Writer
-    requires { ⌜ (length (now s) ≤ 65536) × (rows ≤ 8192) × (act .n < 2 ^ 63) × (21848 ≤ length (now reads)) × (21848 ≤ length (now seen)) ⌝ }
+    requires { ⌜ (length (now s) ≤ maxBytes) × (rows ≤ 8192) × (act .n < 2 ^ 63) × (21848 ≤ length (now reads)) × (21848 ≤ length (now seen)) ⌝ }
     ensures { λ r. ⌜ ((ns : List Name) → length ns ≡ b .names → (cs : List Expr) → length cs ≡ act .n → stateOf (now (out .exit)) (now (made .exit)) r ≡ actEquationsT ns (now (old .entry)) (now (s .entry)) b (now (spots .entry)) (now (a .entry)) (now (held .entry)) rows (now (env .entry)) (now (outs .entry)) act cs (stateOf (now (out .entry)) (now (made .entry)) w)) ⌝ }
 {
     let c = put_holders(old, s, b, spots, a, env, held, rows, out, made, w);

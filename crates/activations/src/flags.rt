@@ -16,6 +16,7 @@ ghost use lib.ListN.{length};
 ghost use Rattle.wire.specs.Writer.{stateOf};
 ghost use Rattle.pack.specs.Names.{Name};
 ghost use Rattle.pack.specs.Intern.{render};
+ghost use Rattle.pack.specs.Limits.{maxBytes};
 ghost use Rattle.activations.specs.FlagsAt.{branchFlagsT, flagT, flagsT, priorItems, untakenT};
 
 // What stands before the condition of the branch k: that none before it is taken.
@@ -43,7 +44,7 @@ fn put_flag(
     made: &mut [u8],
     w: Writer,
 ) -> Writer
-    requires { ⌜ (length (now s) ≤ 65536) × (k < 2 ^ 63) ⌝ }
+    requires { ⌜ (length (now s) ≤ maxBytes) × (k < 2 ^ 63) ⌝ }
     ensures { λ r. ⌜ ((ns : List Name) → length ns ≡ b .names → stateOf (now (out .exit)) (now (made .exit)) r ≡ flagT ns (now (s .entry)) (b .last) (now (old .entry)) (now (spots .entry)) (now (a .entry)) k at (stateOf (now (out .entry)) (now (made .entry)) w)) ⌝ }
 {
     let c = put_left(old, a, Var::Flag, k, out, made, w);
@@ -65,7 +66,7 @@ fn put_untaken(
     made: &mut [u8],
     w: Writer,
 ) -> Writer
-    requires { ⌜ (length (now s) ≤ 65536) × (k < 2 ^ 63) ⌝ }
+    requires { ⌜ (length (now s) ≤ maxBytes) × (k < 2 ^ 63) ⌝ }
     ensures { λ r. ⌜ ((ns : List Name) → length ns ≡ b .names → stateOf (now (out .exit)) (now (made .exit)) r ≡ untakenT ns (now (s .entry)) (b .last) (now (old .entry)) (now (spots .entry)) (now (a .entry)) n k at (stateOf (now (out .entry)) (now (made .entry)) w)) ⌝ }
 {
     if n <= 1 {
@@ -91,7 +92,7 @@ fn put_branch_flags(
     made: &mut [u8],
     w: Writer,
 ) -> Writer
-    requires { ⌜ (length (now s) ≤ 65536) × (k < 2 ^ 63) ⌝ }
+    requires { ⌜ (length (now s) ≤ maxBytes) × (k < 2 ^ 63) ⌝ }
     ensures { λ r. ⌜ ((ns : List Name) → length ns ≡ b .names → stateOf (now (out .exit)) (now (made .exit)) r ≡ branchFlagsT ns (now (s .entry)) (b .last) (now (old .entry)) (now (spots .entry)) (now (a .entry)) n k p (stateOf (now (out .entry)) (now (made .entry)) w)) ⌝ }
 {
     let i = number(s, p);
@@ -111,7 +112,7 @@ pub fn put_flags(
     made: &mut [u8],
     w: Writer,
 ) -> Writer
-    requires { ⌜ length (now s) ≤ 65536 ⌝ }
+    requires { ⌜ length (now s) ≤ maxBytes ⌝ }
     ensures { λ r. ⌜ ((ns : List Name) → length ns ≡ b .names → stateOf (now (out .exit)) (now (made .exit)) r ≡ flagsT ns (now (s .entry)) (b .last) (now (old .entry)) (now (spots .entry)) (now (a .entry)) at (stateOf (now (out .entry)) (now (made .entry)) w)) ⌝ }
 {
     let c = number(s, at);

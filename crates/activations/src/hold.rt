@@ -11,6 +11,7 @@ ghost use mathlib.Core.List.{List};
 ghost use mathlib.Core.Path.{_≡_};
 ghost use Prim.Native.Nat.{_≤_};
 ghost use lib.ListN.{length};
+ghost use Rattle.wire.specs.Bytes.{wordRange};
 ghost use Rattle.pack.specs.Names.{Name};
 ghost use Rattle.activations.specs.HoldAt.{holdOf, holderT, needsT, knownT, holdRow, holdFrom};
 
@@ -44,7 +45,7 @@ fn known(
     v: usize,
     c: usize,
 )
-    requires { ⌜ (b .names ≤ 65536) × (v ≤ 65536) × (h ≤ 8192) ⌝ }
+    requires { ⌜ (b .names ≤ wordRange) × (v ≤ wordRange) × (h ≤ 8192) ⌝ }
     ensures { λ _. ⌜ holdOf (now (env .exit)) (now (held .exit)) 0 v ≡ knownT h v c (holderT (now (old .entry)) (now (s .entry)) b (now (spots .entry)) (now (a .entry)) v) (now (env .entry)) (now (held .entry)) ⌝ }
 {
     let id = holder_id(old, s, b, spots, a, v);
@@ -64,7 +65,7 @@ fn hold_row(
     held: &mut [u16],
     h: usize,
 ) -> Held
-    requires { ⌜ (b .names ≤ 65536) × (h ≤ 8192) ⌝ }
+    requires { ⌜ (b .names ≤ wordRange) × (h ≤ 8192) ⌝ }
     ensures { λ r. ⌜ ((ns : List Name) → length ns ≡ b .names → holdOf (now (env .exit)) (now (held .exit)) (r .kind) (r .var) ≡ holdRow ns (now (old .entry)) (now (s .entry)) b (now (spots .entry)) (now (a .entry)) (now (outs .entry)) h (now (env .entry)) (now (held .entry))) ⌝ }
 {
     let v = word(held, 3 * h, 0);
@@ -92,7 +93,7 @@ pub fn hold(
     held: &mut [u16],
     n: usize,
 ) -> Held
-    requires { ⌜ (b .names ≤ 65536) × (n ≤ 8192) ⌝ }
+    requires { ⌜ (b .names ≤ wordRange) × (n ≤ 8192) ⌝ }
     ensures { λ r. ⌜ ((ns : List Name) → length ns ≡ b .names → holdOf (now (env .exit)) (now (held .exit)) (r .kind) (r .var) ≡ holdFrom ns (now (old .entry)) (now (s .entry)) b (now (spots .entry)) (now (a .entry)) (now (outs .entry)) n 0 (now (env .entry)) (now (held .entry))) ⌝ }
 {
     let mut h = 0;

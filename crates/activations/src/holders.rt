@@ -21,6 +21,7 @@ ghost use Rattle.wire.specs.Writer.{stateOf, puts};
 ghost use Rattle.pack.specs.Names.{Name};
 ghost use Rattle.pack.specs.Write.{litBytes};
 ghost use Rattle.pack.specs.Intern.{render};
+ghost use Rattle.pack.specs.Limits.{maxBytes};
 ghost use Rattle.machines.specs.Brought.{eachT};
 ghost use Rattle.activations.specs.TypesAt.{zeroOf};
 ghost use Rattle.activations.specs.HoldersAt.{startBytes, initBytes, holderItems, rowItems};
@@ -65,7 +66,7 @@ fn put_init(
     out: &mut [u8],
     w: Writer,
 ) -> Writer
-    requires { ⌜ length (now s) ≤ 65536 ⌝ }
+    requires { ⌜ length (now s) ≤ maxBytes ⌝ }
     ensures { λ r. ⌜ ((ns : List Name) → length ns ≡ b .names → (m : List ℕ) → stateOf (now (out .exit)) m r ≡ puts (initBytes ns (now (s .entry)) b (now (spots .entry)) init c) (stateOf (now (out .entry)) m w)) ⌝ }
 {
     if init == 0 {
@@ -90,7 +91,7 @@ fn put_holder(
     made: &mut [u8],
     w: Writer,
 ) -> Writer
-    requires { ⌜ length (now s) ≤ 65536 ⌝ }
+    requires { ⌜ length (now s) ≤ maxBytes ⌝ }
     ensures { λ r. ⌜ ((ns : List Name) → length ns ≡ b .names → stateOf (now (out .exit)) (now (made .exit)) r ≡ render (now (old .entry)) (holderItems (now (s .entry)) (now (spots .entry)) (now (a .entry)) v (initBytes ns (now (s .entry)) b (now (spots .entry)) init c)) (stateOf (now (out .entry)) (now (made .entry)) w)) ⌝ }
 {
     let n = pack_name(s, spots, v);
@@ -116,7 +117,7 @@ pub fn put_holders(
     made: &mut [u8],
     w: Writer,
 ) -> Writer
-    requires { ⌜ (length (now s) ≤ 65536) × (count ≤ 8192) ⌝ }
+    requires { ⌜ (length (now s) ≤ maxBytes) × (count ≤ 8192) ⌝ }
     ensures { λ r. ⌜ ((ns : List Name) → length ns ≡ b .names → stateOf (now (out .exit)) (now (made .exit)) r ≡ render (now (old .entry)) (eachT (rowItems ns (now (s .entry)) b (now (spots .entry)) (now (a .entry)) (now (env .entry)) (now (held .entry))) count 0) (stateOf (now (out .entry)) (now (made .entry)) w)) ⌝ }
 {
     let mut u = w;

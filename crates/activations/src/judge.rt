@@ -16,8 +16,10 @@ ghost use mathlib.Core.List.{List};
 ghost use mathlib.Core.Path.{_≡_};
 ghost use Prim.Native.Nat.{ℕ, _≤_, _<_, _^_};
 ghost use lib.ListN.{length};
+ghost use Rattle.wire.specs.Bytes.{wordRange};
 ghost use Rattle.pack.specs.Names.{Name};
 ghost use Rattle.pack.specs.Syntax.{Activation, Enum, Node};
+ghost use Rattle.pack.specs.Limits.{maxBytes};
 ghost use Rattle.activations.specs.LocalsAt.{actLocalsT};
 ghost use Rattle.activations.specs.Basis.{Basis, ReadAt, Scratch, Types};
 ghost use Rattle.activations.specs.Judging.{JudgedIn, LeftAs, quiet, refusedIn, withinT};
@@ -30,7 +32,7 @@ pub struct Judged {
 
 // A name's number, which fits 16 bits.
 fn within(names: usize, x: usize) -> usize
-    requires { ⌜ names ≤ 65536 ⌝ }
+    requires { ⌜ names ≤ wordRange ⌝ }
     ensures { λ r. ⌜ r ≡ withinT names x ⌝ }
 {
     if names < x { names + 1 } else { x }
@@ -38,7 +40,7 @@ fn within(names: usize, x: usize) -> usize
 
 // A refused activation: it makes no locals.
 fn refuse(names: usize, kind: usize, second: usize, third: usize) -> Judged
-    requires { ⌜ names ≤ 65536 ⌝ }
+    requires { ⌜ names ≤ wordRange ⌝ }
     ensures { λ r. ⌜ (r .refused ≡ refusedIn names kind second third) × (r .locals ≡ 0) ⌝ }
 {
     let x = within(names, second);
@@ -65,7 +67,7 @@ pub fn leave_locals(
     seen: &mut [u16],
     later: &mut [u16],
 ) -> usize
-    requires { ⌜ (length (now s) ≤ 65536) × (rows < 65536) × (21848 ≤ length (now reads)) × (21848 ≤ length (now seen)) × (act .n < 2 ^ 63) ⌝ }
+    requires { ⌜ (length (now s) ≤ maxBytes) × (rows < wordRange) × (21848 ≤ length (now reads)) × (21848 ≤ length (now seen)) × (act .n < 2 ^ 63) ⌝ }
     ensures { λ r. ⌜ ((ns : List Name) → length ns ≡ b .names → LeftAs r (now (later .exit)) (actLocalsT ns (now (s .entry)) (now (old .entry)) (b .made) (now (a .entry)) (now (spots .entry)) (now (env .entry)) (now (outs .entry)) (b .last) (now (held .entry)) rows act (quiet (now (later .entry))))) ⌝ }
 {
     let mut out = [0u8; 1];
@@ -109,7 +111,7 @@ pub fn judge_act(
     seen: &mut [u16],
     later: &mut [u16],
 ) -> Judged
-    requires { ⌜ (length (now s) ≤ 65536) × (b .names ≤ 65536) × (act .n < 2 ^ 63) × Scratch (now later) (now env) (now outs) (now held) (now reads) (now seen) ⌝ }
+    requires { ⌜ (length (now s) ≤ maxBytes) × (b .names ≤ wordRange) × (act .n < 2 ^ 63) × Scratch (now later) (now env) (now outs) (now held) (now reads) (now seen) ⌝ }
     ensures { λ r. ⌜ ((ns : List Name) (es : List Enum) (at : ℕ) (A : Activation) (n : Node) → Basis ns es (now (old .entry)) (now (s .entry)) (now (spots .entry)) b → ReadAt ns (now (s .entry)) at A act → Types ns (now (s .entry)) n (now (later .entry)) → JudgedIn ns es (now (s .entry)) A n (r .refused) (r .locals) (now (later .exit))) ⌝ }
 {
     let c = checks(s, b, env, outs, act);

@@ -10,8 +10,10 @@ ghost use mathlib.Core.List.{List};
 ghost use mathlib.Core.Path.{_≡_};
 ghost use Prim.Native.Nat.{_≤_};
 ghost use lib.ListN.{length};
+ghost use Rattle.wire.specs.Bytes.{wordRange};
 ghost use Rattle.pack.specs.Names.{Name};
 ghost use Rattle.pack.specs.Syntax.{Activation, Enum, Node};
+ghost use Rattle.pack.specs.Limits.{maxBytes};
 ghost use Rattle.activations.specs.Places.{actAt};
 ghost use Rattle.activations.specs.ActTable.{goalT, spotT};
 ghost use Rattle.activations.specs.Basis.{Basis, ReadAt, Scratch, Types};
@@ -34,7 +36,7 @@ fn judge_row(
     acts: &mut [u16],
     i: usize,
 )
-    requires { ⌜ (length (now s) ≤ 65536) × (b .names ≤ 65536) × Scratch (now later) (now env) (now outs) (now held) (now reads) (now seen) ⌝ }
+    requires { ⌜ (length (now s) ≤ maxBytes) × (b .names ≤ wordRange) × Scratch (now later) (now env) (now outs) (now held) (now reads) (now seen) ⌝ }
     ensures past { λ _. ⌜ ((goalT (now (acts .entry)) i ≡ k → ⊥) → (now (acts .exit) ≡ now (acts .entry)) × (now (later .exit) ≡ now (later .entry))) ⌝ }
     ensures judged { λ _. ⌜ (goalT (now (acts .entry)) i ≡ k → (ns : List Name) (es : List Enum) (A : Activation) (n : Node) → Basis ns es (now (old .entry)) (now (s .entry)) (now (spots .entry)) b → ReadAt ns (now (s .entry)) (spotT (now (acts .entry)) i) A (actAt ns (now (s .entry)) (spotT (now (acts .entry)) i)) → Types ns (now (s .entry)) n (now (later .entry)) → RowJudged ns es (now (s .entry)) A n i (now (acts .entry)) (now (acts .exit)) (now (later .exit))) ⌝ }
 {
@@ -64,7 +66,7 @@ fn judge_node(
     acts: &mut [u16],
     n: usize,
 )
-    requires { ⌜ (length (now s) ≤ 65536) × (b .names ≤ 65536) × (n ≤ 6656) × (39936 ≤ length (now acts)) × Scratch (now later) (now env) (now outs) (now held) (now reads) (now seen) ⌝ }
+    requires { ⌜ (length (now s) ≤ maxBytes) × (b .names ≤ wordRange) × (n ≤ 6656) × (39936 ≤ length (now acts)) × Scratch (now later) (now env) (now outs) (now held) (now reads) (now seen) ⌝ }
     ensures { λ _. ⌜ ((ns : List Name) (es : List Enum) (N : List Node) (As : List Activation) (m : Node) → Basis ns es (now (old .entry)) (now (s .entry)) (now (spots .entry)) b → Drawn ns (now (s .entry)) es N As (now (acts .entry)) → length As ≡ n → Types ns (now (s .entry)) m (now (later .entry)) → NodeJudged ns es N As k m (now (acts .entry)) (now (acts .exit))) ⌝ }
 {
     let mut i = 0;
@@ -105,7 +107,7 @@ pub fn judge_nodes(
     acts: &mut [u16],
     n: usize,
 )
-    requires { ⌜ (length (now s) ≤ 65536) × (b .names ≤ 65536) × (n ≤ 6656) × (39936 ≤ length (now acts)) × Scratch (now later) (now env) (now outs) (now held) (now reads) (now seen) ⌝ }
+    requires { ⌜ (length (now s) ≤ maxBytes) × (b .names ≤ wordRange) × (n ≤ 6656) × (39936 ≤ length (now acts)) × Scratch (now later) (now env) (now outs) (now held) (now reads) (now seen) ⌝ }
     ensures { λ _. ⌜ ((ns : List Name) (es : List Enum) (N : List Node) (As : List Activation) → Basis ns es (now (old .entry)) (now (s .entry)) (now (spots .entry)) b → NodesFrom ns (now (s .entry)) (now (nodes .entry)) 0 N → length N ≡ m → Drawn ns (now (s .entry)) es N As (now (acts .entry)) → length As ≡ n → Unowned ns (now (s .entry)) es N As (now (acts .entry)) → Drawn ns (now (s .entry)) es N As (now (acts .exit)) × Fates ns (now (s .entry)) es N As (now (acts .exit))) ⌝ }
 {
     let mut k = 0;

@@ -11,14 +11,17 @@ use pack::cells::cell;
 use pack::cells::put_cell;
 use pack::intern::put_built;
 use pack::record::Pack;
+use wire::number::WORD_RANGE;
 use wire::writer::Writer;
 ghost use mathlib.Core.List.{List, []};
 ghost use mathlib.Core.Path.{_≡_};
 ghost use Prim.Native.Nat.{_≤_, _<_, _-_, _^_};
 ghost use lib.ListN.{length};
 ghost use Rattle.wire.specs.Writer.{puts, stateOf};
+ghost use Rattle.wire.specs.Bytes.{wordRange};
 ghost use Rattle.pack.specs.Names.{Name};
 ghost use Rattle.pack.specs.Intern.{putBuilt};
+ghost use Rattle.pack.specs.Limits.{maxBytes};
 ghost use Rattle.activations.specs.Lookups.{placeBuilt, placeIn};
 ghost use Rattle.activations.specs.TypesAt.{typeBytes};
 ghost use Rattle.activations.specs.LocalsAt.{branchLocalT, clockLocalsT, flagLocalsT, holderLocalT, holderLocalsT, leaveT, leftOf, localT, moreT};
@@ -33,7 +36,7 @@ pub struct Passed {
 fn one_more(n: usize) -> usize
     ensures { λ r. ⌜ r ≡ moreT n ⌝ }
 {
-    (n % 65536 + 1) % 65536
+    (n % WORD_RANGE + 1) % WORD_RANGE
 }
 
 // The type's code c for a made name, where that is an old one.
@@ -58,7 +61,7 @@ fn put_port(
     made: &mut [u8],
     w: Writer,
 ) -> Writer
-    requires { ⌜ length (now s) ≤ 65536 ⌝ }
+    requires { ⌜ length (now s) ≤ maxBytes ⌝ }
     ensures { λ r. ⌜ ((ns : List Name) → length ns ≡ names → stateOf (now (out .exit)) (now (made .exit)) r ≡ puts (typeBytes ns (now (s .entry)) c) (putBuilt (now (old .entry)) (stateOf (now (buf .entry)) [] t) (stateOf (now (out .entry)) (now (made .entry)) w))) ⌝ }
 {
     let full = w.full;
@@ -82,7 +85,7 @@ pub fn put_local(
     made: &mut [u8],
     p: Passed,
 ) -> Passed
-    requires { ⌜ length (now s) ≤ 65536 ⌝ }
+    requires { ⌜ length (now s) ≤ maxBytes ⌝ }
     ensures { λ r. ⌜ ((ns : List Name) → length ns ≡ b .names → leftOf (now (later .exit)) (now (out .exit)) (now (made .exit)) r ≡ localT ns (now (s .entry)) (now (old .entry)) (b .made) (stateOf (now (buf .entry)) [] t) c (leftOf (now (later .entry)) (now (out .entry)) (now (made .entry)) p)) ⌝ }
 {
     leave(old, b, buf, t, c, later);
@@ -104,7 +107,7 @@ fn put_branch_local(
     made: &mut [u8],
     p: Passed,
 ) -> Passed
-    requires { ⌜ (length (now s) ≤ 65536) × (k < 2 ^ 63) ⌝ }
+    requires { ⌜ (length (now s) ≤ maxBytes) × (k < 2 ^ 63) ⌝ }
     ensures { λ r. ⌜ ((ns : List Name) → length ns ≡ b .names → leftOf (now (later .exit)) (now (out .exit)) (now (made .exit)) r ≡ branchLocalT ns (now (s .entry)) (now (old .entry)) (b .made) (now (a .entry)) v k (leftOf (now (later .entry)) (now (out .entry)) (now (made .entry)) p)) ⌝ }
 {
     let mut buf = [0u8; Pack::NAME];
@@ -124,7 +127,7 @@ pub fn put_flag_locals(
     made: &mut [u8],
     p: Passed,
 ) -> Passed
-    requires { ⌜ (length (now s) ≤ 65536) × (n < 2 ^ 63) ⌝ }
+    requires { ⌜ (length (now s) ≤ maxBytes) × (n < 2 ^ 63) ⌝ }
     ensures { λ r. ⌜ ((ns : List Name) → length ns ≡ b .names → leftOf (now (later .exit)) (now (out .exit)) (now (made .exit)) r ≡ flagLocalsT ns (now (s .entry)) (now (old .entry)) (b .made) (now (a .entry)) 0 n (leftOf (now (later .entry)) (now (out .entry)) (now (made .entry)) p)) ⌝ }
 {
     let mut q = p;
@@ -154,7 +157,7 @@ pub fn put_guard_locals(
     made: &mut [u8],
     p: Passed,
 ) -> Passed
-    requires { ⌜ (length (now s) ≤ 65536) × (n < 2 ^ 63) ⌝ }
+    requires { ⌜ (length (now s) ≤ maxBytes) × (n < 2 ^ 63) ⌝ }
     ensures { λ r. ⌜ ((ns : List Name) → length ns ≡ b .names → leftOf (now (later .exit)) (now (out .exit)) (now (made .exit)) r ≡ clockLocalsT ns (now (s .entry)) (now (old .entry)) (b .made) (now (a .entry)) 1 (n - 1) (leftOf (now (later .entry)) (now (out .entry)) (now (made .entry)) p)) ⌝ }
 {
     let mut q = p;
@@ -183,7 +186,7 @@ fn put_holder_local(
     made: &mut [u8],
     p: Passed,
 ) -> Passed
-    requires { ⌜ (length (now s) ≤ 65536) × (h < 2 ^ 63) ⌝ }
+    requires { ⌜ (length (now s) ≤ maxBytes) × (h < 2 ^ 63) ⌝ }
     ensures { λ r. ⌜ ((ns : List Name) → length ns ≡ b .names → leftOf (now (later .exit)) (now (out .exit)) (now (made .exit)) r ≡ holderLocalT ns (now (s .entry)) (now (old .entry)) (b .made) (now (a .entry)) (now (spots .entry)) (now (held .entry)) (now (env .entry)) h (leftOf (now (later .entry)) (now (out .entry)) (now (made .entry)) p)) ⌝ }
 {
     let v = pack_name(s, spots, cell(held, h));
@@ -208,7 +211,7 @@ pub fn put_holder_locals(
     made: &mut [u8],
     p: Passed,
 ) -> Passed
-    requires { ⌜ (length (now s) ≤ 65536) × (rows < 65536) ⌝ }
+    requires { ⌜ (length (now s) ≤ maxBytes) × (rows < wordRange) ⌝ }
     ensures { λ r. ⌜ ((ns : List Name) → length ns ≡ b .names → leftOf (now (later .exit)) (now (out .exit)) (now (made .exit)) r ≡ holderLocalsT ns (now (s .entry)) (now (old .entry)) (b .made) (now (a .entry)) (now (spots .entry)) (now (held .entry)) (now (env .entry)) 0 rows (leftOf (now (later .entry)) (now (out .entry)) (now (made .entry)) p)) ⌝ }
 {
     let mut q = p;

@@ -18,6 +18,7 @@ ghost use Rattle.pack.specs.Names.{Name};
 ghost use Rattle.pack.specs.Syntax.{Expr, eVar};
 ghost use Rattle.pack.specs.Write.{exprItems};
 ghost use Rattle.pack.specs.Intern.{render};
+ghost use Rattle.pack.specs.Limits.{maxBytes};
 ghost use Rattle.activation_rules.specs.MadeNames.{scopeAt, valueVar};
 ghost use Rattle.activation_rules.specs.Merges.{mergeFrom};
 ghost use Rattle.activations.specs.ByNumber.{mergeItems, portMergesT, turnItems};
@@ -114,7 +115,7 @@ pub fn put_merges(
     made: &mut [u8],
     w: Writer,
 ) -> Writer
-    requires { ⌜ length (now s) ≤ 65536 ⌝ }
+    requires { ⌜ length (now s) ≤ maxBytes ⌝ }
     requires { ⌜ count < 2 ^ 63 ⌝ }
     ensures { λ r. ⌜ ((ns : List Name) → length ns ≡ names → (cs : List Expr) → length cs ≡ count → stateOf (now (out .exit)) (now (made .exit)) r ≡ render (now (old .entry)) (portMergesT ns (now (s .entry)) (now (spots .entry)) (now (a .entry)) cs at) (stateOf (now (out .entry)) (now (made .entry)) w)) ⌝ }
 {

@@ -6,11 +6,13 @@ use pack::cells::byte_at;
 use pack::exprs::Decoded;
 use pack::exprs::Node;
 use pack::exprs::read_node;
+use pack::record::Pack;
 ghost use mathlib.Core.List.{List};
 ghost use mathlib.Core.Path.{_≡_};
 ghost use Prim.Native.Nat.{_≤_, _<_};
 ghost use lib.ListN.{length};
 ghost use Rattle.pack.specs.Names.{Name};
+ghost use Rattle.pack.specs.Limits.{maxBytes};
 ghost use Rattle.activations.specs.Met.{lastTwoT, lastRestT, lastShapeT, callT, plainT, metAt, grownT, openT, onwardT, isBad, isConst};
 
 // A call of `last` that is replaced, with its variable, where its initial value stands (0 where none is given) and where it
@@ -59,7 +61,7 @@ fn last_two(var: usize, at: usize, e: usize) -> Met
 
 // A call of `last` with so many arguments from `first` on, which begin with the variable var; the next stands at `at`.
 fn last_rest(s: &[u8], names: usize, var: usize, under: usize, first: usize, at: usize) -> Met
-    requires { ⌜ length (now s) ≤ 65536 ⌝ }
+    requires { ⌜ length (now s) ≤ maxBytes ⌝ }
     ensures { λ r. ⌜ ((ns : List Name) → length ns ≡ names → r ≡ lastRestT ns (now (s .entry)) var under first at) ⌝ }
 {
     if under == 1 {
@@ -78,7 +80,7 @@ fn last_rest(s: &[u8], names: usize, var: usize, under: usize, first: usize, at:
 
 // A call of `last` with so many arguments, which stand at `at`.
 fn last_shape(s: &[u8], names: usize, under: usize, at: usize) -> Met
-    requires { ⌜ length (now s) ≤ 65536 ⌝ }
+    requires { ⌜ length (now s) ≤ maxBytes ⌝ }
     ensures { λ r. ⌜ ((ns : List Name) → length ns ≡ names → r ≡ lastShapeT ns (now (s .entry)) under at) ⌝ }
 {
     if under == 0 {
@@ -96,7 +98,7 @@ fn last_shape(s: &[u8], names: usize, under: usize, at: usize) -> Met
 
 // A call of the node f with so many arguments, which stand at `at`.
 fn call_kind(s: &[u8], b: Base, f: usize, under: usize, at: usize) -> Met
-    requires { ⌜ length (now s) ≤ 65536 ⌝ }
+    requires { ⌜ length (now s) ≤ maxBytes ⌝ }
     ensures { λ r. ⌜ ((ns : List Name) → length ns ≡ b .names → r ≡ callT ns (now (s .entry)) (b .last) f under at) ⌝ }
 {
     if f == b.last {
@@ -117,7 +119,7 @@ fn plain(s: &[u8], at: usize, under: usize, next: usize) -> Met
 
 // The node at an offset.
 pub fn meet(s: &[u8], b: Base, at: usize) -> Met
-    requires { ⌜ length (now s) ≤ 65536 ⌝ }
+    requires { ⌜ length (now s) ≤ maxBytes ⌝ }
     ensures { λ r. ⌜ ((ns : List Name) → length ns ≡ b .names → r ≡ metAt ns (now (s .entry)) (b .last) at) ⌝ }
 {
     let d = read_node(s, b.names, at);
@@ -132,15 +134,15 @@ pub fn meet(s: &[u8], b: Base, at: usize) -> Met
     }
 }
 
-// One expression less and `under` more. No pack has more than 65,536 to come.
+// One expression less and `under` more. No pack has more to come than bytes.
 fn grown(n: usize, under: usize) -> usize
     requires { ⌜ 0 < n ⌝ }
     ensures { λ r. ⌜ r ≡ grownT n under ⌝ }
 {
-    if 65536 < n {
+    if Pack::BYTES < n {
         return 0;
     }
-    if 65536 < under {
+    if Pack::BYTES < under {
         return 0;
     }
     n - 1 + under

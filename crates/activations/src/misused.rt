@@ -16,11 +16,12 @@ ghost use mathlib.Core.Path.{_≡_};
 ghost use Prim.Native.Nat.{_≤_};
 ghost use lib.ListN.{length};
 ghost use Rattle.pack.specs.Names.{Name};
+ghost use Rattle.pack.specs.Limits.{maxBytes};
 ghost use Rattle.activations.specs.MisusedAt.{misusedT, misusedScopeT, misusedConditionT, misusedBodyT, anyBranchT, anyMisusedT};
 
 // Whether some call of `last` in an expression has other arguments.
 fn misused(s: &[u8], b: Base, at: usize) -> bool
-    requires { ⌜ length (now s) ≤ 65536 ⌝ }
+    requires { ⌜ length (now s) ≤ maxBytes ⌝ }
     ensures { λ r. ⌜ ((ns : List Name) → length ns ≡ b .names → r ≡ misusedT ns (now (s .entry)) (b .last) at) ⌝ }
 {
     let mut n: usize = 1;
@@ -38,7 +39,7 @@ fn misused(s: &[u8], b: Base, at: usize) -> bool
 
 // In the conditions of branches.
 fn misused_conditions(s: &[u8], b: Base, a: Act) -> bool
-    requires { ⌜ length (now s) ≤ 65536 ⌝ }
+    requires { ⌜ length (now s) ≤ maxBytes ⌝ }
     ensures { λ r. ⌜ ((ns : List Name) → length ns ≡ b .names → r ≡ anyBranchT ns (now (s .entry)) (misusedConditionT ns (now (s .entry)) (b .last)) (a .branches)) ⌝ }
 {
     let c = first_branch(s, a);
@@ -57,7 +58,7 @@ fn misused_conditions(s: &[u8], b: Base, a: Act) -> bool
 
 // In a scope whose count of equations stands at `at`.
 fn misused_scope(s: &[u8], b: Base, at: usize) -> bool
-    requires { ⌜ length (now s) ≤ 65536 ⌝ }
+    requires { ⌜ length (now s) ≤ maxBytes ⌝ }
     ensures { λ r. ⌜ ((ns : List Name) → length ns ≡ b .names → r ≡ misusedScopeT ns (now (s .entry)) (b .last) at) ⌝ }
 {
     let c = number(s, at);
@@ -76,7 +77,7 @@ fn misused_scope(s: &[u8], b: Base, at: usize) -> bool
 
 // In the scopes of branches.
 fn misused_bodies(s: &[u8], b: Base, a: Act) -> bool
-    requires { ⌜ length (now s) ≤ 65536 ⌝ }
+    requires { ⌜ length (now s) ≤ maxBytes ⌝ }
     ensures { λ r. ⌜ ((ns : List Name) → length ns ≡ b .names → r ≡ anyBranchT ns (now (s .entry)) (misusedBodyT ns (now (s .entry)) (b .last)) (a .branches)) ⌝ }
 {
     let c = first_branch(s, a);
@@ -95,7 +96,7 @@ fn misused_bodies(s: &[u8], b: Base, a: Act) -> bool
 
 // In all expressions of an activation.
 pub fn any_misused(s: &[u8], b: Base, a: Act) -> bool
-    requires { ⌜ length (now s) ≤ 65536 ⌝ }
+    requires { ⌜ length (now s) ≤ maxBytes ⌝ }
     ensures { λ r. ⌜ ((ns : List Name) → length ns ≡ b .names → r ≡ anyMisusedT ns (now (s .entry)) (b .last) a) ⌝ }
 {
     if misused_conditions(s, b, a) {

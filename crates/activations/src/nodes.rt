@@ -22,10 +22,12 @@ ghost use mathlib.Core.Path.{_≡_};
 ghost use Prim.Native.Nat.{ℕ, _≤_};
 ghost use lib.ListN.{length};
 ghost use Rattle.wire.specs.Writer.{stateOf};
+ghost use Rattle.wire.specs.Bytes.{wordRange};
 ghost use Rattle.pack.specs.Names.{Name};
 ghost use Rattle.pack.specs.Syntax.{Activation, Enum, Node};
 ghost use Rattle.pack.specs.Write.{each, nodeItems};
 ghost use Rattle.pack.specs.Intern.{render};
+ghost use Rattle.pack.specs.Limits.{maxBytes};
 ghost use Rattle.machines.specs.Busy.{Idle};
 ghost use Rattle.machines.specs.Sections.{nodeNames};
 ghost use Rattle.activations.specs.ActTable.{goalT};
@@ -54,7 +56,7 @@ fn put_head(
     made: &mut [u8],
     w: Writer,
 ) -> Writer
-    requires { ⌜ (length (now s) ≤ 65536) × (b .names ≤ 65536) × (n ≤ 6656) × Scratch (now later) (now env) (now outs) (now held) (now reads) (now seen) ⌝ }
+    requires { ⌜ (length (now s) ≤ maxBytes) × (b .names ≤ wordRange) × (n ≤ 6656) × Scratch (now later) (now env) (now outs) (now held) (now reads) (now seen) ⌝ }
     ensures { λ r. ⌜ ((ns : List Name) (es : List Enum) (N : List Node) (As : List Activation) (m : Node) → Basis ns es (now (old .entry)) (now (s .entry)) (now (spots .entry)) b → NodeRead ns (now (s .entry)) at m → Drawn ns (now (s .entry)) es N As (now (acts .entry)) → length As ≡ n → AllMade es N As k m → Counted (now (s .entry)) es N As k m (now (acts .entry)) n → stateOf (now (out .exit)) (now (made .exit)) r ≡ render (now (old .entry)) (headItems (joined es (nodeNames N) k As m)) (stateOf (now (out .entry)) (now (made .entry)) w)) ⌝ }
 {
     let l = to_node_locals(s, b.names, at);
@@ -105,7 +107,7 @@ fn put_tail(
     made: &mut [u8],
     w: Writer,
 ) -> Writer
-    requires { ⌜ (length (now s) ≤ 65536) × (b .names ≤ 65536) × (n ≤ 6656) × Scratch (now later) (now env) (now outs) (now held) (now reads) (now seen) ⌝ }
+    requires { ⌜ (length (now s) ≤ maxBytes) × (b .names ≤ wordRange) × (n ≤ 6656) × Scratch (now later) (now env) (now outs) (now held) (now reads) (now seen) ⌝ }
     ensures { λ r. ⌜ ((ns : List Name) (es : List Enum) (N : List Node) (As : List Activation) (m : Node) → Basis ns es (now (old .entry)) (now (s .entry)) (now (spots .entry)) b → NodeRead ns (now (s .entry)) at m → Drawn ns (now (s .entry)) es N As (now (acts .entry)) → length As ≡ n → AllMade es N As k m → Counted (now (s .entry)) es N As k m (now (acts .entry)) n → stateOf (now (out .exit)) (now (made .exit)) r ≡ render (now (old .entry)) (tailItems (joined es (nodeNames N) k As m)) (stateOf (now (out .entry)) (now (made .entry)) w)) ⌝ }
 {
     let e = to_node_equations(s, b.names, at);
@@ -155,7 +157,7 @@ fn put_node(
     made: &mut [u8],
     w: Writer,
 ) -> Writer
-    requires { ⌜ (length (now s) ≤ 65536) × (b .names ≤ 65536) × (n ≤ 6656) × Scratch (now later) (now env) (now outs) (now held) (now reads) (now seen) ⌝ }
+    requires { ⌜ (length (now s) ≤ maxBytes) × (b .names ≤ wordRange) × (n ≤ 6656) × Scratch (now later) (now env) (now outs) (now held) (now reads) (now seen) ⌝ }
     ensures { λ r. ⌜ ((ns : List Name) (es : List Enum) (N : List Node) (As : List Activation) (m : Node) → Basis ns es (now (old .entry)) (now (s .entry)) (now (spots .entry)) b → NodeRead ns (now (s .entry)) at m → Drawn ns (now (s .entry)) es N As (now (acts .entry)) → length As ≡ n → AllMade es N As k m → Counted (now (s .entry)) es N As k m (now (acts .entry)) n → stateOf (now (out .exit)) (now (made .exit)) r ≡ render (now (old .entry)) (nodeItems (joined es (nodeNames N) k As m)) (stateOf (now (out .entry)) (now (made .entry)) w)) ⌝ }
 {
     let c = put_head(
@@ -200,7 +202,7 @@ fn put_node(
 
 // A node to which no activation goes, as it stands at `at`.
 fn copy_node(s: &[u8], b: Base, at: usize, out: &mut [u8], w: Writer) -> Writer
-    requires { ⌜ length (now s) ≤ 65536 ⌝ }
+    requires { ⌜ length (now s) ≤ maxBytes ⌝ }
     ensures { λ r. ⌜ ((ns : List Name) (es : List Enum) (old spots made : List ℕ) (m : Node) → Basis ns es old (now (s .entry)) spots b → NodeRead ns (now (s .entry)) at m → stateOf (now (out .exit)) made r ≡ render old (nodeItems m) (stateOf (now (out .entry)) made w)) ⌝ }
 {
     let e = to_node_equations(s, b.names, at);
@@ -229,7 +231,7 @@ fn put_next(
     made: &mut [u8],
     w: Writer,
 ) -> Writer
-    requires { ⌜ (length (now s) ≤ 65536) × (b .names ≤ 65536) × (n ≤ 6656) × Scratch (now later) (now env) (now outs) (now held) (now reads) (now seen) ⌝ }
+    requires { ⌜ (length (now s) ≤ maxBytes) × (b .names ≤ wordRange) × (n ≤ 6656) × Scratch (now later) (now env) (now outs) (now held) (now reads) (now seen) ⌝ }
     ensures { λ r. ⌜ ((ns : List Name) (es : List Enum) (N : List Node) (As : List Activation) (m : Node) → Basis ns es (now (old .entry)) (now (s .entry)) (now (spots .entry)) b → NodeRead ns (now (s .entry)) at m → Drawn ns (now (s .entry)) es N As (now (acts .entry)) → length As ≡ n → AllMade es N As k m → Counted (now (s .entry)) es N As k m (now (acts .entry)) n → Idle (goalT (now (acts .entry))) n k next → stateOf (now (out .exit)) (now (made .exit)) r ≡ render (now (old .entry)) (nodeItems (joined es (nodeNames N) k As m)) (stateOf (now (out .entry)) (now (made .entry)) w)) ⌝ }
 {
     if k < next {
@@ -276,7 +278,7 @@ pub fn put_nodes(
     made: &mut [u8],
     w: Writer,
 ) -> Writer
-    requires { ⌜ (length (now s) ≤ 65536) × (b .names ≤ 65536) × (n ≤ 6656) × Scratch (now later) (now env) (now outs) (now held) (now reads) (now seen) ⌝ }
+    requires { ⌜ (length (now s) ≤ maxBytes) × (b .names ≤ wordRange) × (n ≤ 6656) × Scratch (now later) (now env) (now outs) (now held) (now reads) (now seen) ⌝ }
     ensures { λ r. ⌜ ((ns : List Name) (es : List Enum) (N : List Node) (As : List Activation) → Basis ns es (now (old .entry)) (now (s .entry)) (now (spots .entry)) b → Settled ns (now (s .entry)) es N As (now (nodes .entry)) (now (acts .entry)) count n → stateOf (now (out .exit)) (now (made .exit)) r ≡ render (now (old .entry)) (each nodeItems (eachAt (λ j. joined es (nodeNames N) j As) 0 N)) (stateOf (now (out .entry)) (now (made .entry)) w)) ⌝ }
 {
     let mut v = w;

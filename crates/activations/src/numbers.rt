@@ -1,4 +1,4 @@
-// Names by number: an old name's index, or the number of names and a variable's index for its holder. 65536 is the number of none.
+// Names by number: an old name's index, or the number of names and a variable's index for its holder.
 use crate::base::Base;
 use crate::base::lookup_made;
 use crate::made::put_last;
@@ -8,6 +8,7 @@ use machines::rows::pack_name;
 use pack::cells::cell;
 use pack::intern::put_built;
 use pack::record::Pack;
+use wire::number::WORD_RANGE;
 use wire::writer::Writer;
 use wire::writer::put_bytes;
 use wire::writer::put_u16;
@@ -15,8 +16,12 @@ ghost use mathlib.Core.List.{List};
 ghost use mathlib.Core.Path.{_≡_};
 ghost use Prim.Native.Nat.{ℕ, _<_};
 ghost use Rattle.wire.specs.Writer.{stateOf, puts};
+ghost use Rattle.wire.specs.Bytes.{wordRange};
 ghost use Rattle.pack.specs.Intern.{putName, render};
 ghost use Rattle.activations.specs.NumbersAt.{idItems, lastIdT, nameT, sampleNameT, sampleT};
+
+// The number of none: no cell of a table has it.
+pub const NO_NUMBER: usize = WORD_RANGE;
 
 // The name of x.
 pub fn put_id(
@@ -117,12 +122,12 @@ pub fn sample_id(
     if i < b.names {
         return i;
     }
-    65536
+    NO_NUMBER
 }
 
 // The number of the holder of v, by the first row of v.
 pub fn last_id(held: &[u16], rows: usize, v: usize) -> usize
-    requires { ⌜ rows < 65536 ⌝ }
+    requires { ⌜ rows < wordRange ⌝ }
     ensures { λ r. ⌜ r ≡ lastIdT (now (held .entry)) rows v ⌝ }
 {
     let mut n = rows;
@@ -134,5 +139,5 @@ pub fn last_id(held: &[u16], rows: usize, v: usize) -> usize
         h += 3;
         n = n - 1;
     }
-    65536
+    NO_NUMBER
 }

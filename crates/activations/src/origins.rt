@@ -20,8 +20,10 @@ ghost use mathlib.Core.Path.{_≡_};
 ghost use Prim.Native.Nat.{ℕ, _<_, _≤_};
 ghost use lib.ListN.{length};
 ghost use Rattle.wire.specs.Writer.{stateOf};
+ghost use Rattle.wire.specs.Bytes.{wordRange};
 ghost use Rattle.pack.specs.Names.{Name};
 ghost use Rattle.pack.specs.Intern.{render};
+ghost use Rattle.pack.specs.Limits.{maxBytes};
 ghost use Rattle.machines.specs.Brought.{eachT};
 ghost use Rattle.activations.specs.OriginsAt.{branchesT, numbersT, originT, scopeNamesT};
 
@@ -34,7 +36,7 @@ fn put_branches(
     out: &mut [u8],
     w: Writer,
 ) -> Writer
-    requires { ⌜ length (now s) ≤ 65536 ⌝ }
+    requires { ⌜ length (now s) ≤ maxBytes ⌝ }
     ensures { λ r. ⌜ ((ns : List Name) → length ns ≡ names → (old l : List ℕ) → stateOf (now (out .exit)) l r ≡ render old (branchesT ns (now (s .entry)) count from) (stateOf (now (out .entry)) l w)) ⌝ }
 {
     let mut v = w;
@@ -59,7 +61,7 @@ fn put_scope_names(
     made: &mut [u8],
     w: Writer,
 ) -> Writer
-    requires { ⌜ length (now s) ≤ 65536 ⌝ }
+    requires { ⌜ length (now s) ≤ maxBytes ⌝ }
     ensures { λ r. ⌜ ((ns : List Name) → length ns ≡ names → stateOf (now (out .exit)) (now (made .exit)) r ≡ render (now (old .entry)) (scopeNamesT ns (now (s .entry)) a) (stateOf (now (out .entry)) (now (made .entry)) w)) ⌝ }
 {
     let f = first_branch(s, a);
@@ -92,7 +94,7 @@ fn put_origin(
     made: &mut [u8],
     w: Writer,
 ) -> Writer
-    requires { ⌜ (length (now s) ≤ 65536) × (i ≤ 65536) ⌝ }
+    requires { ⌜ (length (now s) ≤ maxBytes) × (i ≤ wordRange) ⌝ }
     ensures { λ r. ⌜ ((ns : List Name) → length ns ≡ names → stateOf (now (out .exit)) (now (made .exit)) r ≡ render (now (old .entry)) (originT ns (now (s .entry)) (now (nodes .entry)) (now (acts .entry)) i) (stateOf (now (out .entry)) (now (made .entry)) w)) ⌝ }
 {
     let at = act_spot(acts, i);
@@ -121,7 +123,7 @@ pub fn put_origins(
     made: &mut [u8],
     w: Writer,
 ) -> Writer
-    requires { ⌜ (length (now s) ≤ 65536) × (n ≤ 65536) ⌝ }
+    requires { ⌜ (length (now s) ≤ maxBytes) × (n ≤ wordRange) ⌝ }
     ensures { λ r. ⌜ ((ns : List Name) → length ns ≡ names → stateOf (now (out .exit)) (now (made .exit)) r ≡ render (now (old .entry)) (eachT (originT ns (now (s .entry)) (now (nodes .entry)) (now (acts .entry))) n 0) (stateOf (now (out .entry)) (now (made .entry)) w)) ⌝ }
 {
     let mut v = w;

@@ -14,6 +14,7 @@ ghost use Prim.Native.Nat.{_≤_};
 ghost use lib.ListN.{length};
 ghost use Rattle.pack.specs.Names.{Name};
 ghost use Rattle.pack.specs.Read.{typeIn};
+ghost use Rattle.pack.specs.Limits.{maxBytes};
 ghost use Rattle.machines.specs.Stands.{endOf};
 ghost use Rattle.machines.specs.Sure.{numberIn};
 ghost use Rattle.activations.specs.Places.{firstLeftIn, rightSideIn, bodyIn, branchEnd, branchesEnd, actAt, actEnd};
@@ -29,7 +30,7 @@ pub struct Act {
 
 // Past a type.
 pub fn after_type(s: &[u8], names: usize, at: usize) -> usize
-    requires { ⌜ length (now s) ≤ 65536 ⌝ }
+    requires { ⌜ length (now s) ≤ maxBytes ⌝ }
     ensures { λ r. ⌜ ((ns : List Name) → length ns ≡ names → r ≡ endOf (typeIn ns (now (s .entry)) at)) ⌝ }
 {
     reached(then_type(s, names, Skipped::To(at)))
@@ -53,7 +54,7 @@ pub fn first_left(s: &[u8], at: usize) -> usize
 
 // From a branch to its equations.
 pub fn branch_equations(s: &[u8], names: usize, at: usize) -> usize
-    requires { ⌜ length (now s) ≤ 65536 ⌝ }
+    requires { ⌜ length (now s) ≤ maxBytes ⌝ }
     ensures { λ r. ⌜ ((ns : List Name) → length ns ≡ names → r ≡ bodyIn ns (now (s .entry)) at) ⌝ }
 {
     let i = number(s, at);
@@ -62,7 +63,7 @@ pub fn branch_equations(s: &[u8], names: usize, at: usize) -> usize
 
 // Past a branch.
 pub fn after_branch(s: &[u8], names: usize, at: usize) -> usize
-    requires { ⌜ length (now s) ≤ 65536 ⌝ }
+    requires { ⌜ length (now s) ≤ maxBytes ⌝ }
     ensures { λ r. ⌜ ((ns : List Name) → length ns ≡ names → r ≡ branchEnd ns (now (s .entry)) at) ⌝ }
 {
     let e = branch_equations(s, names, at);
@@ -71,7 +72,7 @@ pub fn after_branch(s: &[u8], names: usize, at: usize) -> usize
 
 // From the count of branches past all of them.
 pub fn after_branches(s: &[u8], names: usize, at: usize) -> usize
-    requires { ⌜ length (now s) ≤ 65536 ⌝ }
+    requires { ⌜ length (now s) ≤ maxBytes ⌝ }
     ensures { λ r. ⌜ ((ns : List Name) → length ns ≡ names → r ≡ branchesEnd ns (now (s .entry)) at) ⌝ }
 {
     let c = number(s, at);
@@ -86,7 +87,7 @@ pub fn after_branches(s: &[u8], names: usize, at: usize) -> usize
 
 // The activation at an offset.
 pub fn act_at(s: &[u8], names: usize, at: usize) -> Act
-    requires { ⌜ length (now s) ≤ 65536 ⌝ }
+    requires { ⌜ length (now s) ≤ maxBytes ⌝ }
     ensures { λ r. ⌜ ((ns : List Name) → length ns ≡ names → r ≡ actAt ns (now (s .entry)) at) ⌝ }
 {
     let a = number(s, at);
@@ -105,7 +106,7 @@ pub fn act_at(s: &[u8], names: usize, at: usize) -> Act
 
 // From an activation past it.
 pub fn after_act(s: &[u8], names: usize, at: usize) -> usize
-    requires { ⌜ length (now s) ≤ 65536 ⌝ }
+    requires { ⌜ length (now s) ≤ maxBytes ⌝ }
     ensures { λ r. ⌜ ((ns : List Name) → length ns ≡ names → r ≡ actEnd ns (now (s .entry)) at) ⌝ }
 {
     let a = act_at(s, names, at);

@@ -12,14 +12,16 @@ ghost use mathlib.Core.List.{List};
 ghost use mathlib.Core.Path.{_≡_};
 ghost use Prim.Native.Nat.{_<_, _≤_};
 ghost use lib.ListN.{length};
+ghost use Rattle.wire.specs.Bytes.{wordRange};
 ghost use Rattle.pack.specs.Names.{Name};
+ghost use Rattle.pack.specs.Limits.{maxBytes};
 ghost use Rattle.machines.specs.Sure.{numberIn};
 ghost use Rattle.activations.specs.Placing.{drawT, namedT, placeActsT, placeNodesT};
 
 // Where the nodes stand, whose count is at `at`. Answers how many there are.
 pub fn place_nodes(s: &[u8], names: usize, at: usize, nodes: &mut [u16]) -> usize
-    requires { ⌜ length (now s) ≤ 65536 ⌝ }
-    ensures count { λ r. ⌜ (r < 65536) × (r ≡ numberIn (now (s .entry)) at .value) ⌝ }
+    requires { ⌜ length (now s) ≤ maxBytes ⌝ }
+    ensures count { λ r. ⌜ (r < wordRange) × (r ≡ numberIn (now (s .entry)) at .value) ⌝ }
     ensures placed { λ r. ⌜ ((ns : List Name) → length ns ≡ names → now (nodes .exit) ≡ placeNodesT ns (now (s .entry)) at (now (nodes .entry))) ⌝ }
 {
     let c = number(s, at);
@@ -71,8 +73,8 @@ pub fn place_acts(
     n: usize,
     acts: &mut [u16],
 ) -> usize
-    requires { ⌜ length (now s) ≤ 65536 ⌝ }
-    ensures count { λ r. ⌜ (r < 65536) × (r ≡ numberIn (now (s .entry)) at .value) ⌝ }
+    requires { ⌜ length (now s) ≤ maxBytes ⌝ }
+    ensures count { λ r. ⌜ (r < wordRange) × (r ≡ numberIn (now (s .entry)) at .value) ⌝ }
     ensures placed { λ r. ⌜ ((ns : List Name) → length ns ≡ names → now (acts .exit) ≡ placeActsT ns (now (s .entry)) (now (nodes .entry)) n at (now (acts .entry))) ⌝ }
 {
     let c = number(s, at);

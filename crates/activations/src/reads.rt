@@ -4,6 +4,7 @@ use crate::met::Met;
 use crate::met::meet;
 use crate::met::onward;
 use crate::met::open;
+use crate::numbers::NO_NUMBER;
 use crate::numbers::last_id;
 use crate::types::typed;
 use pack::cells::cell;
@@ -12,7 +13,9 @@ ghost use mathlib.Core.List.{List};
 ghost use mathlib.Core.Path.{_≡_};
 ghost use Prim.Native.Nat.{_≤_, _<_};
 ghost use lib.ListN.{length, take};
+ghost use Rattle.wire.specs.Bytes.{wordRange};
 ghost use Rattle.pack.specs.Names.{Name};
+ghost use Rattle.pack.specs.Limits.{maxBytes};
 ghost use Rattle.machines.specs.Marks.{among};
 ghost use Rattle.activations.specs.ReadsAt.{joinT, noteT, pushT, readBy, readsT};
 
@@ -63,7 +66,7 @@ pub fn join(ids: &[u16], t: &mut [u16], n: usize) -> usize
 
 // The number that a node reads.
 fn read_by(held: &[u16], rows: usize, m: Met) -> usize
-    requires { ⌜ rows < 65536 ⌝ }
+    requires { ⌜ rows < wordRange ⌝ }
     ensures { λ r. ⌜ r ≡ readBy (now (held .entry)) rows m ⌝ }
 {
     match m {
@@ -78,7 +81,7 @@ fn read_by(held: &[u16], rows: usize, m: Met) -> usize
             under: _,
             next: _,
         } => clock,
-        _ => 65536,
+        _ => NO_NUMBER,
     }
 }
 
@@ -105,8 +108,8 @@ pub fn list_reads(
     at: usize,
     t: &mut [u16],
 ) -> usize
-    requires { ⌜ length (now s) ≤ 65536 ⌝ }
-    requires { ⌜ rows < 65536 ⌝ }
+    requires { ⌜ length (now s) ≤ maxBytes ⌝ }
+    requires { ⌜ rows < wordRange ⌝ }
     requires { ⌜ 21848 ≤ length (now t) ⌝ }
     ensures { λ r. ⌜ (r ≤ 21848) × ((ns : List Name) → length ns ≡ b .names → take r (now (t .exit)) ≡ readsT (now (held .entry)) rows (now (env .entry)) (now (outs .entry)) (b .names) ns (now (s .entry)) (b .last) at) ⌝ }
 {

@@ -12,13 +12,15 @@ use machines::report::put_count;
 use machines::report::put_entry;
 use machines::sure::number;
 use pack::finish::Outcome;
+use pack::record::Pack;
 ghost use mathlib.Core.List.{List, _++_};
 ghost use mathlib.Core.Path.{_≡_};
 ghost use Prim.Native.Nat.{ℕ, _+_, _*_, _<_, _≤_};
 ghost use lib.ListN.{length};
-ghost use Rattle.wire.specs.Bytes.{two};
+ghost use Rattle.wire.specs.Bytes.{two, wordRange};
 ghost use Rattle.wire.specs.Writer.{overwritten};
 ghost use Rattle.pack.specs.Outcome.{reported};
+ghost use Rattle.pack.specs.Limits.{maxBytes};
 ghost use Rattle.machines.specs.Brought.{totalT};
 ghost use Rattle.machines.specs.Filled.{Answers};
 ghost use Rattle.machines.specs.Reporting.{bytesT};
@@ -37,7 +39,7 @@ fn called(names: usize, x: usize) -> Called
     Called {
         letter: 0,
         letters: 4,
-        name: 65535,
+        name: Pack::ABSENT,
     }
 }
 
@@ -60,7 +62,7 @@ fn is_refused(acts: &[u16], i: usize) -> usize
 
 // How many of the first n activations are refused.
 pub fn refused_count(acts: &[u16], n: usize) -> usize
-    requires { ⌜ n ≤ 65536 ⌝ }
+    requires { ⌜ n ≤ wordRange ⌝ }
     ensures { λ r. ⌜ r ≡ totalT (isRefusedT (now (acts .entry))) n 0 ⌝ }
 {
     let mut i = 0;
@@ -74,7 +76,7 @@ pub fn refused_count(acts: &[u16], n: usize) -> usize
 
 // How many bytes the entry of the activation i takes: none where it is not refused.
 fn refusal_len(s: &[u8], names: usize, spots: &[u16], acts: &[u16], i: usize) -> usize
-    requires { ⌜ length (now s) ≤ 65536 ⌝ }
+    requires { ⌜ length (now s) ≤ maxBytes ⌝ }
     ensures { λ r. ⌜ (r ≤ 200000) × (r ≡ length (entryT names (now (s .entry)) (now (spots .entry)) (now (acts .entry)) i)) ⌝ }
 {
     let r = judged(acts, i);
@@ -89,7 +91,7 @@ fn refusal_len(s: &[u8], names: usize, spots: &[u16], acts: &[u16], i: usize) ->
 
 // How many bytes the report of the first n activations takes.
 pub fn report_len(s: &[u8], names: usize, spots: &[u16], acts: &[u16], n: usize) -> usize
-    requires { ⌜ (length (now s) ≤ 65536) × (n ≤ 65536) ⌝ }
+    requires { ⌜ (length (now s) ≤ maxBytes) × (n ≤ wordRange) ⌝ }
     ensures { λ r. ⌜ r ≡ 2 + length (bytesT (entryT names (now (s .entry)) (now (spots .entry)) (now (acts .entry))) n 0) ⌝ }
     ensures { λ r. ⌜ r ≤ 2 + n * 200000 ⌝ }
 {
@@ -157,7 +159,7 @@ pub fn answer_report(
     refused: usize,
     report: &mut [u8],
 ) -> Outcome
-    requires { ⌜ (length (now s) ≤ 65536) × (n ≤ 6656) ⌝ }
+    requires { ⌜ (length (now s) ≤ maxBytes) × (n ≤ 6656) ⌝ }
     ensures { λ r. ⌜ ((output : List ℕ) → Answers (reported (length (now (report .entry))) (two refused ++ bytesT (entryT names (now (s .entry)) (now (spots .entry)) (now (acts .entry))) n 0)) (r .number) (r .value) output output (now (report .entry)) (now (report .exit))) ⌝ }
     ensures { λ r. ⌜ (r .number ≤ 9) × (r .value < 4294967296) ⌝ }
 {

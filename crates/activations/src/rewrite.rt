@@ -6,6 +6,7 @@ use crate::met::is_const;
 use crate::met::meet;
 use crate::met::onward;
 use crate::met::open;
+use crate::numbers::NO_NUMBER;
 use crate::numbers::last_id;
 use crate::numbers::put_id;
 use crate::numbers::put_sample_of;
@@ -24,12 +25,14 @@ ghost use mathlib.Core.Path.{_≡_};
 ghost use Prim.Native.Nat.{_≤_, _<_, _^_};
 ghost use lib.ListN.{length};
 ghost use Rattle.wire.specs.Writer.{stateOf};
+ghost use Rattle.wire.specs.Bytes.{wordRange};
 ghost use Rattle.pack.specs.Names.{Name};
 ghost use Rattle.pack.specs.Write.{raw};
 ghost use Rattle.pack.specs.Intern.{render};
+ghost use Rattle.pack.specs.Limits.{maxBytes};
 ghost use Rattle.activations.specs.RewriteAt.{chosenItems, clockedItems, hasConstT, otherItems, overT, pinItems, pinT, pinnedT, renameItems, renameT, renamedT};
 
-// The number whose sample stands for x, 65536 where x stays. One read after the other: a sample that is read later is sampled in
+// The number whose sample stands for x, `NO_NUMBER` where x stays. One read after the other: a sample that is read later is sampled in
 // its turn.
 fn renamed(
     old: &[u8],
@@ -46,7 +49,7 @@ fn renamed(
 {
     let mut i = 0;
     let mut v = x;
-    let mut y = 65536;
+    let mut y = NO_NUMBER;
     while i < ids.len() {
         if ids[i] as usize == v {
             y = v;
@@ -75,7 +78,7 @@ fn put_renamed_id(
     ensures { λ r. ⌜ stateOf (now (out .exit)) (now (made .exit)) r ≡ render (now (old .entry)) (chosenItems (now (old .entry)) (now (s .entry)) (now (spots .entry)) (b .names) (b .made) (now (a .entry)) n k (now (ids .entry)) x) (stateOf (now (out .entry)) (now (made .entry)) w) ⌝ }
 {
     let y = renamed(old, s, spots, b, a, n, k, ids, x);
-    if y == 65536 {
+    if y == NO_NUMBER {
         return put_id(old, s, spots, b.names, a, x, out, made, w);
     }
     put_sample_of(old, s, spots, b.names, a, n, k, y, out, made, w)
@@ -178,7 +181,7 @@ fn put_met_renamed(
     made: &mut [u8],
     w: Writer,
 ) -> Writer
-    requires { ⌜ rows < 65536 ⌝ }
+    requires { ⌜ rows < wordRange ⌝ }
     ensures { λ r. ⌜ stateOf (now (out .exit)) (now (made .exit)) r ≡ render (now (old .entry)) (renameItems (now (old .entry)) (now (s .entry)) (now (spots .entry)) (b .names) (b .made) (now (a .entry)) n k (now (ids .entry)) (now (held .entry)) rows m at) (stateOf (now (out .entry)) (now (made .entry)) w) ⌝ }
 {
     let Met::Last {
@@ -210,8 +213,8 @@ fn put_renamed(
     made: &mut [u8],
     w: Writer,
 ) -> Writer
-    requires { ⌜ length (now s) ≤ 65536 ⌝ }
-    requires { ⌜ rows < 65536 ⌝ }
+    requires { ⌜ length (now s) ≤ maxBytes ⌝ }
+    requires { ⌜ rows < wordRange ⌝ }
     ensures { λ r. ⌜ ((ns : List Name) → length ns ≡ b .names → stateOf (now (out .exit)) (now (made .exit)) r ≡ renameT (now (old .entry)) (now (s .entry)) (now (spots .entry)) (b .names) (b .made) (now (a .entry)) n k (now (ids .entry)) (now (held .entry)) rows ns (b .last) at (stateOf (now (out .entry)) (now (made .entry)) w)) ⌝ }
 {
     let mut v = w;
@@ -244,7 +247,7 @@ fn put_renamed(
 
 // Whether the right side at an offset has a constant.
 fn has_const(s: &[u8], b: Base, at: usize) -> bool
-    requires { ⌜ length (now s) ≤ 65536 ⌝ }
+    requires { ⌜ length (now s) ≤ maxBytes ⌝ }
     ensures { λ r. ⌜ ((ns : List Name) → length ns ≡ b .names → r ≡ hasConstT ns (now (s .entry)) (b .last) at) ⌝ }
 {
     let mut n: usize = 1;
@@ -299,7 +302,7 @@ fn put_pin(
     made: &mut [u8],
     w: Writer,
 ) -> Writer
-    requires { ⌜ length (now s) ≤ 65536 ⌝ }
+    requires { ⌜ length (now s) ≤ maxBytes ⌝ }
     requires { ⌜ n < 2 ^ 63 ⌝ }
     ensures { λ r. ⌜ ((ns : List Name) → length ns ≡ b .names → stateOf (now (out .exit)) (now (made .exit)) r ≡ pinT (now (old .entry)) (now (s .entry)) (now (spots .entry)) (now (a .entry)) n k ns (b .last) at (stateOf (now (out .entry)) (now (made .entry)) w)) ⌝ }
 {
@@ -329,7 +332,7 @@ fn put_pinned(
     made: &mut [u8],
     w: Writer,
 ) -> Writer
-    requires { ⌜ length (now s) ≤ 65536 ⌝ }
+    requires { ⌜ length (now s) ≤ maxBytes ⌝ }
     requires { ⌜ n < 2 ^ 63 ⌝ }
     ensures { λ r. ⌜ ((ns : List Name) → length ns ≡ b .names → stateOf (now (out .exit)) (now (made .exit)) r ≡ pinnedT (now (old .entry)) (now (s .entry)) (now (spots .entry)) (now (a .entry)) n k ns (b .last) at (stateOf (now (out .entry)) (now (made .entry)) w)) ⌝ }
 {
@@ -357,8 +360,8 @@ pub fn put_over_samples(
     made: &mut [u8],
     w: Writer,
 ) -> Writer
-    requires { ⌜ length (now s) ≤ 65536 ⌝ }
-    requires { ⌜ rows < 65536 ⌝ }
+    requires { ⌜ length (now s) ≤ maxBytes ⌝ }
+    requires { ⌜ rows < wordRange ⌝ }
     requires { ⌜ n < 2 ^ 63 ⌝ }
     ensures { λ r. ⌜ ((ns : List Name) → length ns ≡ b .names → stateOf (now (out .exit)) (now (made .exit)) r ≡ overT (now (old .entry)) (now (s .entry)) (now (spots .entry)) (b .names) (b .made) (now (a .entry)) n k (now (ids .entry)) (now (held .entry)) rows ns (b .last) at (stateOf (now (out .entry)) (now (made .entry)) w)) ⌝ }
 {

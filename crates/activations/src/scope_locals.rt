@@ -27,7 +27,9 @@ ghost use mathlib.Core.List.{List};
 ghost use mathlib.Core.Path.{_≡_};
 ghost use Prim.Native.Nat.{_≤_, _<_, _^_};
 ghost use lib.ListN.{length};
+ghost use Rattle.wire.specs.Bytes.{wordRange};
 ghost use Rattle.pack.specs.Names.{Name};
+ghost use Rattle.pack.specs.Limits.{maxBytes};
 ghost use Rattle.activations.specs.LocalsAt.{actLocalsT, branchLocalsT, equationLocalT, leftOf, newLocalT, newLocalsT, sampleLocalT, scopeLocalsT, valueLocalT};
 
 // That of the sample of x in the scope k of n branches.
@@ -47,7 +49,7 @@ fn put_sample_local(
     made: &mut [u8],
     p: Passed,
 ) -> Passed
-    requires { ⌜ length (now s) ≤ 65536 ⌝ }
+    requires { ⌜ length (now s) ≤ maxBytes ⌝ }
     ensures { λ r. ⌜ ((ns : List Name) → length ns ≡ b .names → leftOf (now (later .exit)) (now (out .exit)) (now (made .exit)) r ≡ sampleLocalT ns (now (s .entry)) (now (old .entry)) (b .made) (now (a .entry)) (now (spots .entry)) (now (env .entry)) (now (outs .entry)) n k x (leftOf (now (later .entry)) (now (out .entry)) (now (made .entry)) p)) ⌝ }
 {
     let c = typed(env, outs, b.names, x);
@@ -74,7 +76,7 @@ fn put_new_local(
     made: &mut [u8],
     p: Passed,
 ) -> Passed
-    requires { ⌜ length (now s) ≤ 65536 ⌝ }
+    requires { ⌜ length (now s) ≤ maxBytes ⌝ }
     ensures { λ r. ⌜ ((ns : List Name) → length ns ≡ b .names → leftOf (now (later .exit)) (now (out .exit)) (now (made .exit)) r ≡ newLocalT ns (now (s .entry)) (now (old .entry)) (b .made) (now (a .entry)) (now (spots .entry)) (now (env .entry)) (now (outs .entry)) n k (now (seen .entry)) x (leftOf (now (later .entry)) (now (out .entry)) (now (made .entry)) p)) ⌝ }
 {
     if is_in(seen, x) {
@@ -101,7 +103,7 @@ fn put_new_locals(
     made: &mut [u8],
     p: Passed,
 ) -> Passed
-    requires { ⌜ length (now s) ≤ 65536 ⌝ }
+    requires { ⌜ length (now s) ≤ maxBytes ⌝ }
     ensures { λ r. ⌜ ((ns : List Name) → length ns ≡ b .names → leftOf (now (later .exit)) (now (out .exit)) (now (made .exit)) r ≡ newLocalsT ns (now (s .entry)) (now (old .entry)) (b .made) (now (a .entry)) (now (spots .entry)) (now (env .entry)) (now (outs .entry)) n k (now (seen .entry)) (now (ids .entry)) (leftOf (now (later .entry)) (now (out .entry)) (now (made .entry)) p)) ⌝ }
 {
     let mut q = p;
@@ -147,7 +149,7 @@ fn put_value_local(
     made: &mut [u8],
     p: Passed,
 ) -> Passed
-    requires { ⌜ length (now s) ≤ 65536 ⌝ }
+    requires { ⌜ length (now s) ≤ maxBytes ⌝ }
     ensures { λ r. ⌜ ((ns : List Name) → length ns ≡ b .names → leftOf (now (later .exit)) (now (out .exit)) (now (made .exit)) r ≡ valueLocalT ns (now (s .entry)) (now (old .entry)) (b .made) (now (a .entry)) (now (spots .entry)) (now (env .entry)) (now (outs .entry)) n k at (leftOf (now (later .entry)) (now (out .entry)) (now (made .entry)) p)) ⌝ }
 {
     let x = first_left(s, at);
@@ -177,7 +179,7 @@ fn put_equation_locals(
     made: &mut [u8],
     p: Passed,
 ) -> Passed
-    requires { ⌜ length (now s) ≤ 65536 ⌝ }
+    requires { ⌜ length (now s) ≤ maxBytes ⌝ }
     ensures { λ r. ⌜ ((ns : List Name) → length ns ≡ b .names → leftOf (now (later .exit)) (now (out .exit)) (now (made .exit)) r ≡ equationLocalT ns (now (s .entry)) (now (old .entry)) (b .made) (now (a .entry)) (now (spots .entry)) (now (env .entry)) (now (outs .entry)) n k (now (ids .entry)) (now (seen .entry)) at (leftOf (now (later .entry)) (now (out .entry)) (now (made .entry)) p)) ⌝ }
 {
     let q = put_new_locals(
@@ -236,7 +238,7 @@ fn put_scope_locals(
     made: &mut [u8],
     p: Passed,
 ) -> Passed
-    requires { ⌜ (length (now s) ≤ 65536) × (rows < 65536) × (21848 ≤ length (now reads)) × (21848 ≤ length (now seen)) ⌝ }
+    requires { ⌜ (length (now s) ≤ maxBytes) × (rows < wordRange) × (21848 ≤ length (now reads)) × (21848 ≤ length (now seen)) ⌝ }
     ensures { λ r. ⌜ ((ns : List Name) → length ns ≡ b .names → leftOf (now (later .exit)) (now (out .exit)) (now (made .exit)) r ≡ scopeLocalsT ns (now (s .entry)) (now (old .entry)) (b .made) (now (a .entry)) (now (spots .entry)) (now (env .entry)) (now (outs .entry)) n (b .last) (now (held .entry)) rows k at (leftOf (now (later .entry)) (now (out .entry)) (now (made .entry)) p)) ⌝ }
 {
     let f = number(s, at);
@@ -292,7 +294,7 @@ fn put_branch_locals(
     made: &mut [u8],
     p: Passed,
 ) -> Passed
-    requires { ⌜ (length (now s) ≤ 65536) × (rows < 65536) × (21848 ≤ length (now reads)) × (21848 ≤ length (now seen)) × (n < 2 ^ 63) ⌝ }
+    requires { ⌜ (length (now s) ≤ maxBytes) × (rows < wordRange) × (21848 ≤ length (now reads)) × (21848 ≤ length (now seen)) × (n < 2 ^ 63) ⌝ }
     ensures { λ r. ⌜ ((ns : List Name) → length ns ≡ b .names → leftOf (now (later .exit)) (now (out .exit)) (now (made .exit)) r ≡ branchLocalsT ns (now (s .entry)) (now (old .entry)) (b .made) (now (a .entry)) (now (spots .entry)) (now (env .entry)) (now (outs .entry)) n (b .last) (now (held .entry)) rows 0 n at (leftOf (now (later .entry)) (now (out .entry)) (now (made .entry)) p)) ⌝ }
 {
     let mut q = p;
@@ -347,7 +349,7 @@ pub fn put_act_locals(
     made: &mut [u8],
     p: Passed,
 ) -> Passed
-    requires { ⌜ (length (now s) ≤ 65536) × (rows < 65536) × (21848 ≤ length (now reads)) × (21848 ≤ length (now seen)) × (act .n < 2 ^ 63) ⌝ }
+    requires { ⌜ (length (now s) ≤ maxBytes) × (rows < wordRange) × (21848 ≤ length (now reads)) × (21848 ≤ length (now seen)) × (act .n < 2 ^ 63) ⌝ }
     ensures { λ r. ⌜ ((ns : List Name) → length ns ≡ b .names → leftOf (now (later .exit)) (now (out .exit)) (now (made .exit)) r ≡ actLocalsT ns (now (s .entry)) (now (old .entry)) (b .made) (now (a .entry)) (now (spots .entry)) (now (env .entry)) (now (outs .entry)) (b .last) (now (held .entry)) rows act (leftOf (now (later .entry)) (now (out .entry)) (now (made .entry)) p)) ⌝ }
 {
     let f = number(s, act.branches);

@@ -20,8 +20,10 @@ ghost use mathlib.Core.Path.{_≡_};
 ghost use Prim.Native.Nat.{_≤_, _<_, _^_};
 ghost use lib.ListN.{length};
 ghost use Rattle.wire.specs.Writer.{stateOf};
+ghost use Rattle.wire.specs.Bytes.{wordRange};
 ghost use Rattle.pack.specs.Names.{Name};
 ghost use Rattle.pack.specs.Intern.{render};
+ghost use Rattle.pack.specs.Limits.{maxBytes};
 ghost use Rattle.activations.specs.ScopesAt.{equationT, scopeT, scopesT, valueItems};
 
 // The left side of the equation at p, in the scope k of n branches.
@@ -64,8 +66,8 @@ fn put_equation(
     made: &mut [u8],
     w: Writer,
 ) -> Writer
-    requires { ⌜ length (now s) ≤ 65536 ⌝ }
-    requires { ⌜ rows < 65536 ⌝ }
+    requires { ⌜ length (now s) ≤ maxBytes ⌝ }
+    requires { ⌜ rows < wordRange ⌝ }
     requires { ⌜ n < 2 ^ 63 ⌝ }
     ensures { λ r. ⌜ ((ns : List Name) → length ns ≡ b .names → stateOf (now (out .exit)) (now (made .exit)) r ≡ equationT (now (old .entry)) (now (s .entry)) (now (spots .entry)) (b .names) (b .made) ns (b .last) (now (held .entry)) rows (now (a .entry)) n k (now (ids .entry)) (now (seen .entry)) p (stateOf (now (out .entry)) (now (made .entry)) w)) ⌝ }
 {
@@ -95,8 +97,8 @@ fn put_scope_equations(
     made: &mut [u8],
     w: Writer,
 ) -> Writer
-    requires { ⌜ length (now s) ≤ 65536 ⌝ }
-    requires { ⌜ rows < 65536 ⌝ }
+    requires { ⌜ length (now s) ≤ maxBytes ⌝ }
+    requires { ⌜ rows < wordRange ⌝ }
     requires { ⌜ n < 2 ^ 63 ⌝ }
     requires { ⌜ 21848 ≤ length (now reads) ⌝ }
     requires { ⌜ 21848 ≤ length (now seen) ⌝ }
@@ -154,8 +156,8 @@ pub fn put_scopes(
     made: &mut [u8],
     w: Writer,
 ) -> Writer
-    requires { ⌜ length (now s) ≤ 65536 ⌝ }
-    requires { ⌜ rows < 65536 ⌝ }
+    requires { ⌜ length (now s) ≤ maxBytes ⌝ }
+    requires { ⌜ rows < wordRange ⌝ }
     requires { ⌜ n < 2 ^ 63 ⌝ }
     requires { ⌜ 21848 ≤ length (now reads) ⌝ }
     requires { ⌜ 21848 ≤ length (now seen) ⌝ }

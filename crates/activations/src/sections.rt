@@ -13,10 +13,12 @@ ghost use mathlib.Core.Path.{_≡_};
 ghost use Prim.Native.Nat.{_≤_};
 ghost use lib.ListN.{length};
 ghost use Rattle.wire.specs.Writer.{stateOf};
+ghost use Rattle.wire.specs.Bytes.{wordRange};
 ghost use Rattle.pack.specs.Syntax.{Package};
 ghost use Rattle.pack.specs.Verdict.{Stands};
 ghost use Rattle.pack.specs.Write.{packageItems};
 ghost use Rattle.pack.specs.Intern.{render, started};
+ghost use Rattle.pack.specs.Limits.{maxBytes};
 ghost use Rattle.activation_rules.specs.Activations.{madeActivations, withoutActivations};
 ghost use Rattle.activations.specs.Basis.{Basis, Scratch};
 ghost use Rattle.activations.specs.Bringing.{Settled};
@@ -42,7 +44,7 @@ pub fn put_sections(
     out: &mut [u8],
     made: &mut [u8],
 ) -> Writer
-    requires { ⌜ (length (now s) ≤ 65536) × (b .names ≤ 65536) × (n ≤ 6656) × Scratch (now later) (now env) (now outs) (now held) (now reads) (now seen) ⌝ }
+    requires { ⌜ (length (now s) ≤ maxBytes) × (b .names ≤ wordRange) × (n ≤ 6656) × Scratch (now later) (now env) (now outs) (now held) (now reads) (now seen) ⌝ }
     ensures { λ r. ⌜ ((p : Package) → Stands (now (s .entry)) x p → Basis (p .names) (p .enums) (now (old .entry)) (now (s .entry)) (now (spots .entry)) b → Settled (p .names) (now (s .entry)) (p .enums) (p .nodes) (p .activations) (now (nodes .entry)) (now (acts .entry)) m n → stateOf (now (out .exit)) (now (made .exit)) r ≡ render (now (old .entry)) (packageItems (withoutActivations p (madeActivations p))) (started (now (out .entry)) (now (made .entry)))) ⌝ }
 {
     let o = number(s, x.origins);

@@ -19,6 +19,7 @@ ghost use mathlib.Core.Path.{_≡_};
 ghost use Prim.Native.Nat.{_≤_};
 ghost use lib.ListN.{length};
 ghost use Rattle.pack.specs.Names.{Name};
+ghost use Rattle.pack.specs.Limits.{maxBytes};
 ghost use Rattle.activations.specs.SoughtAt.{rowsOf, rowT, initT, rowMore, noteT, seekStep, seekT, seekScopeT, seekConditionT, seekBodyT, eachBranchT, seekAllT};
 
 // The row of the variable v among n, n where there is none.
@@ -85,7 +86,7 @@ fn seek_node(held: &mut [u16], n: usize, m: Met, at: usize) -> usize
 
 // What an expression adds.
 fn seek(s: &[u8], b: Base, held: &mut [u16], count: usize, at: usize) -> usize
-    requires { ⌜ (length (now s) ≤ 65536) × (count ≤ 8192) ⌝ }
+    requires { ⌜ (length (now s) ≤ maxBytes) × (count ≤ 8192) ⌝ }
     ensures few { λ r. ⌜ r ≤ 8192 ⌝ }
     ensures rows { λ r. ⌜ ((ns : List Name) → length ns ≡ b .names → rowsOf (now (held .exit)) r ≡ seekT ns (now (s .entry)) (b .last) at (rowsOf (now (held .entry)) count)) ⌝ }
 {
@@ -103,7 +104,7 @@ fn seek(s: &[u8], b: Base, held: &mut [u16], count: usize, at: usize) -> usize
 
 // What the conditions of branches add.
 fn seek_conditions(s: &[u8], b: Base, held: &mut [u16], count: usize, a: Act) -> usize
-    requires { ⌜ (length (now s) ≤ 65536) × (count ≤ 8192) ⌝ }
+    requires { ⌜ (length (now s) ≤ maxBytes) × (count ≤ 8192) ⌝ }
     ensures few { λ r. ⌜ r ≤ 8192 ⌝ }
     ensures rows { λ r. ⌜ ((ns : List Name) → length ns ≡ b .names → rowsOf (now (held .exit)) r ≡ eachBranchT ns (now (s .entry)) (seekConditionT ns (now (s .entry)) (b .last)) (a .branches) (rowsOf (now (held .entry)) count)) ⌝ }
 {
@@ -122,7 +123,7 @@ fn seek_conditions(s: &[u8], b: Base, held: &mut [u16], count: usize, a: Act) ->
 
 // What a scope adds, whose count of equations stands at `at`.
 fn seek_scope(s: &[u8], b: Base, held: &mut [u16], count: usize, at: usize) -> usize
-    requires { ⌜ (length (now s) ≤ 65536) × (count ≤ 8192) ⌝ }
+    requires { ⌜ (length (now s) ≤ maxBytes) × (count ≤ 8192) ⌝ }
     ensures few { λ r. ⌜ r ≤ 8192 ⌝ }
     ensures rows { λ r. ⌜ ((ns : List Name) → length ns ≡ b .names → rowsOf (now (held .exit)) r ≡ seekScopeT ns (now (s .entry)) (b .last) at (rowsOf (now (held .entry)) count)) ⌝ }
 {
@@ -141,7 +142,7 @@ fn seek_scope(s: &[u8], b: Base, held: &mut [u16], count: usize, at: usize) -> u
 
 // What the scopes of branches add.
 fn seek_bodies(s: &[u8], b: Base, held: &mut [u16], count: usize, a: Act) -> usize
-    requires { ⌜ (length (now s) ≤ 65536) × (count ≤ 8192) ⌝ }
+    requires { ⌜ (length (now s) ≤ maxBytes) × (count ≤ 8192) ⌝ }
     ensures few { λ r. ⌜ r ≤ 8192 ⌝ }
     ensures rows { λ r. ⌜ ((ns : List Name) → length ns ≡ b .names → rowsOf (now (held .exit)) r ≡ eachBranchT ns (now (s .entry)) (seekBodyT ns (now (s .entry)) (b .last)) (a .branches) (rowsOf (now (held .entry)) count)) ⌝ }
 {
@@ -160,7 +161,7 @@ fn seek_bodies(s: &[u8], b: Base, held: &mut [u16], count: usize, a: Act) -> usi
 
 // What all expressions of an activation ask for. Answers how many rows there are.
 pub fn seek_all(s: &[u8], b: Base, held: &mut [u16], a: Act) -> usize
-    requires { ⌜ length (now s) ≤ 65536 ⌝ }
+    requires { ⌜ length (now s) ≤ maxBytes ⌝ }
     ensures few { λ r. ⌜ r ≤ 8192 ⌝ }
     ensures rows { λ r. ⌜ ((ns : List Name) → length ns ≡ b .names → rowsOf (now (held .exit)) r ≡ seekAllT ns (now (s .entry)) (b .last) a (rowsOf (now (held .entry)) 0)) ⌝ }
 {

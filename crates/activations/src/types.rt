@@ -22,6 +22,7 @@ ghost use Prim.Native.Nat.{ℕ, _≤_};
 ghost use lib.ListN.{length};
 ghost use Rattle.wire.specs.Writer.{stateOf, puts};
 ghost use Rattle.pack.specs.Names.{Name};
+ghost use Rattle.pack.specs.Limits.{maxBytes};
 ghost use Rattle.activations.specs.Cells.{clearT};
 ghost use Rattle.activations.specs.TypeCodes.{outT, typedT, valueTypeT};
 ghost use Rattle.activations.specs.TypesAt.{inputsIn, firstPortT, portsT, portsEnd, firstPortsT, variablesT, typeBytes, plainStart, variantOr, variantAt, firstVariantT, wordStart, variantT, startT, isMissing};
@@ -35,7 +36,7 @@ pub enum Start {
 
 // The types of ports, each over those before. Answers where the ports end.
 fn note_ports(s: &[u8], names: usize, env: &mut [u16], at: usize) -> usize
-    requires { ⌜ length (now s) ≤ 65536 ⌝ }
+    requires { ⌜ length (now s) ≤ maxBytes ⌝ }
     ensures ends { λ r. ⌜ ((ns : List Name) → length ns ≡ names → r ≡ portsEnd ns (now (s .entry)) at) ⌝ }
     ensures noted { λ r. ⌜ ((ns : List Name) → length ns ≡ names → now (env .exit) ≡ portsT ns (now (s .entry)) at (now (env .entry))) ⌝ }
 {
@@ -62,7 +63,7 @@ fn to_inputs(s: &[u8], at: usize) -> usize
 
 // The variables of the node at an offset: inputs, outputs and locals.
 pub fn note_variables(s: &[u8], names: usize, env: &mut [u16], at: usize)
-    requires { ⌜ length (now s) ≤ 65536 ⌝ }
+    requires { ⌜ length (now s) ≤ maxBytes ⌝ }
     ensures { λ _. ⌜ ((ns : List Name) → length ns ≡ names → now (env .exit) ≡ variablesT ns (now (s .entry)) at (clearT names (now (env .entry)))) ⌝ }
 {
     clear(env, names);
@@ -84,7 +85,7 @@ fn note_first(s: &[u8], outs: &mut [u16], p: usize)
 
 // The types of an activation's outputs, the first of a name.
 pub fn note_outputs(s: &[u8], names: usize, outs: &mut [u16], at: usize)
-    requires { ⌜ length (now s) ≤ 65536 ⌝ }
+    requires { ⌜ length (now s) ≤ maxBytes ⌝ }
     ensures { λ _. ⌜ ((ns : List Name) → length ns ≡ names → now (outs .exit) ≡ firstPortsT ns (now (s .entry)) at (clearT names (now (outs .entry)))) ⌝ }
 {
     clear(outs, names);
@@ -128,7 +129,7 @@ pub fn value_type(env: &[u16], outs: &[u16], names: usize, x: usize) -> usize
 
 // The type of a code, as it stands in the pack.
 pub fn put_type(s: &[u8], names: usize, c: usize, out: &mut [u8], w: Writer) -> Writer
-    requires { ⌜ length (now s) ≤ 65536 ⌝ }
+    requires { ⌜ length (now s) ≤ maxBytes ⌝ }
     ensures { λ r. ⌜ ((ns : List Name) → length ns ≡ names → (m : List ℕ) → stateOf (now (out .exit)) m r ≡ puts (typeBytes ns (now (s .entry)) c) (stateOf (now (out .entry)) m w)) ⌝ }
 {
     if c < 2 {

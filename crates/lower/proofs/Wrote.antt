@@ -82,7 +82,6 @@ alone-after (writes b) r e f z = absurd (z e)
 -- of the first call, with buffers as long as a pack may be
 module _ (s output output′ report report′ : List ℕ) (r : Returned) (o : length output ≡ 65536) (p : length report ≡ 65536) (a : Answers (lowerMachines s (length output) (length report)) (r .number) (r .value) output output′ report report′) where
   same-room : lowerMachines s (length output) (length report) ≡ lowerMachines s maxBytes maxBytes
-  unfolding maxBytes
   same-room = rw (o, p)
 
   pub alone : (r .number ≡ 0 → ⊥) → First r ≡ callsAfter (lowerMachines s maxBytes maxBytes)
@@ -117,6 +116,5 @@ module _ (s output output′ report report′ : List ℕ) (r : Returned) (o : le
 
 -- of the second
 pub second-is : (s output output′ report report′ : List ℕ) (r : Returned) → length output ≡ 65536 → length report ≡ 65536 → Answers (lowerActivations s (length output) (length report)) (r .number) (r .value) output output′ report report′ → r ≡ returnedFor (lowerActivations s maxBytes maxBytes)
-unfolding maxBytes
 second-is s output output′ report report′ r o p a =
     returned-is _ r (a .gives .number-is) (a .gives .value-is) ∙ ap returnedFor (rw (o, p))

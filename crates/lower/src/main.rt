@@ -63,7 +63,7 @@ fn print_calls(calls: Calls) {
 
 // One byte more is read than a pack may have: a longer pack is seen to be longer, and what comes after is dropped.
 fn main() {
-    let mut input = [0u8; 65537];
+    let mut input = [0u8; Pack::BYTES + 1];
     let n = io::read_full(0, &mut input);
     print_calls(lower_both(&input[..n]));
 }

@@ -402,5 +402,5 @@ examples =
     ∷ []
 
 pub examples-hold : given examples ≡ stated examples
-unfolding given machinesGiven stated examples maxBytes
+unfolding given machinesGiven stated examples
 examples-hold = refl

@@ -123,7 +123,7 @@ module _ (ns : List Name) (s spots to : List ℕ) (top : Name) (ms : List Drawin
       → Same ns top (fitR h) e (withRefine top (R f path) l nm o qs c) (refineW ns s spots to (W l) p i at c b)
   unfolding withRefine refineW
   refine-same l low f path p i nm at none e qs c h b fu kn is named r law =
-      goes {a = b} refl (number-to s at absent e _ (optional-none ns s at e r) ∙ rw (eq-eqb absent absent refl) refl) law
+      goes {a = b} refl (number-to s at absent e _ (optional-none ns s at e r) ∙ refl) law
   refine-same l low f path p i nm at (some n) e qs c h b fu kn is named r law =
       let a = optional-some ns s at n e r in
       let v : with (numberIn s at) (λ m e. cond (eqb m absent) (wk.Went e c b) (goOn (enterW s spots to p i m) (λ o k f. goOn (W l (pushedOf p m) k o c) (λ q d w. qualifyOf (lenOf s spots i) (maxOf f w) b e d))))

@@ -10,7 +10,6 @@ use Rattle.wire.specs.Code.{onward}
 use Rattle.wire.specs.Writer.{State, put, puts}
 use Rattle.wire.specs.declared.answer.Skipped.{Skipped}
 use Rattle.wire.specs.declared.answer.Skipped.the-variants as sk
-use Rattle.pack.specs.Limits.{absent}
 use Rattle.pack.specs.Names.{Name}
 use Rattle.pack.specs.Read.{equationsIn, portsIn}
 use Rattle.pack.specs.Verdict.{offsetOf}
@@ -100,7 +99,7 @@ module _ (ns : List Name) (s : List ℕ) where
   -- the origin of a machine
   module _ (mats regs : List ℕ) (i f at : ℕ) (m o : Num) (ea : at ≡ getD mats i 0) (em : m ≡ numberIn s at) (eo : o ≡ numberIn s (m .next)) where
     origin-none : o .value ≡ 65535 → [] ≡ givenOriginT ns s mats regs f i
-    unfolding givenOriginT absent
+    unfolding givenOriginT
     origin-none h = on m _ _ [] (em ∙ ap (numberIn s) ea) (on o _ _ [] eo (rw (eq-eqb (o .value) 65535 h)))
 
     pub no-origin : (old : List ℕ) (z : State) → o .value ≡ 65535 → z ≡ render old (givenOriginT ns s mats regs f i) z
@@ -108,7 +107,7 @@ module _ (ns : List Name) (s : List ℕ) where
 
     pub its-origin : (g e : ℕ) (old : List ℕ) (z w : State) → (o .value ≡ 65535 → ⊥) → g ≡ getD regs i 0 → e ≡ equationCountT ns s at g
         → w ≡ render old (originT (o .value) (m .value) f e) z → w ≡ render old (givenOriginT ns s mats regs f i) z
-    unfolding givenOriginT absent
+    unfolding givenOriginT
     its-origin g e old z w h eg ee hw =
         let d : e ≡ equationCountT ns s (getD mats i 0) (getD regs i 0) = ee ∙ (λ j. equationCountT ns s (ea j) (eg j)) in
         hw ∙ ap (λ (is : List Item). render old is z)

@@ -10,7 +10,6 @@ use lib.Dec.{eqb}
 use borrow.Author.Tests.{eq-eqb, eqb-false, eqb-true, ne-eqb, lt-ltb, le-ltb}
 use Rattle.wire.specs.declared.writer.Writer.{Writer}
 use Rattle.wire.specs.Writer.{State, stateOf}
-use Rattle.pack.specs.Limits.{absent}
 use Rattle.pack.specs.Names.{Name}
 use Rattle.pack.specs.Read.{portsIn}
 use Rattle.pack.specs.Write.{Item}
@@ -148,11 +147,11 @@ regions-is regs i e r a b = b ∙ ap smallOf a
 
 module _ (s mats : List ℕ) (i a : ℕ) (m o : Num) (e : a ≡ getD mats i 0) (f : m ≡ numberIn s a) (g : o ≡ numberIn s (m .next)) where
   pub owned-not : o .value ≡ 65535 → 0 ≡ ownedT s mats i
-  unfolding ownedT absent
+  unfolding ownedT
   owned-not h = on m _ _ 0 (f ∙ ap (numberIn s) e) (on o _ _ 0 g (rw (eq-eqb (o .value) 65535 h)))
 
   pub owned-yes : (o .value ≡ 65535 → ⊥) → 1 ≡ ownedT s mats i
-  unfolding ownedT absent
+  unfolding ownedT
   owned-yes h = on m _ _ 1 (f ∙ ap (numberIn s) e) (on o _ _ 1 g (rw (ne-eqb (o .value) 65535 h)))
 
 module _ (ns : List Name) (s : List ℕ) where

@@ -5,7 +5,6 @@ use mathlib.Core.List.{List}
 use mathlib.Core.Path.{_≡_, refl, sym, ap, subst, _∙_}
 use lib.ListN.{length}
 use Rattle.wire.specs.Lists.{Bytes}
-use Rattle.pack.specs.Limits.{maxBytes}
 use Rattle.pack.specs.Syntax.{Package}
 use Rattle.pack.specs.Read.{Reading, bytesAfter, deepAt, endsEarly, illegalAt, read, tooLong, whole}
 use Rattle.pack.specs.Outcome.{Gives, Outcome, answers, numberOf, onPackage, outputOf, reportOf, sized, valueOf, written}
@@ -47,7 +46,6 @@ module _ (s : List ℕ) (v : Verdict) (e : v ≡ verdictOf (read s)) where
 
     -- a whole pack is opened
     pub opened : v ≡ vd.Whole → (length s ≤ 65536) × OpenedAs s k
-    unfolding maxBytes
     opened f = let w = is-whole f in (read-value s (w .0) (w .1) .0, record { held = w .0; reads = w .1; stands = stands-here (w .0) (w .1) })
 
   -- a pack that is not whole, whatever is done with a package: number and value, which fit 32 bits, and both buffers as they were

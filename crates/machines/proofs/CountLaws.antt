@@ -7,7 +7,6 @@ use mathlib.Core.Path.{_≡_, ap, _∙_}
 use lib.ListN.{length, length-append}
 use lib.Dec.{leb}
 use borrow.Author.Tests.{leb-true}
-use Rattle.pack.specs.Limits.{maxName}
 use Rattle.pack.specs.Names.{Name}
 use Rattle.pack.specs.Syntax.{Equation, Transition}
 use Rattle.machine_rules.specs.Resolved.{Regions, States, rCons, rNil, sCons, sNil}
@@ -24,7 +23,7 @@ pub record ShortS (s : Name) (rs : Regions) (rest : States) : Type 0 where
   pub states : shortS 0 rest ≡ true
 
 pub short-states : (s : Name) (es : List Equation) (ts : List Transition) (rs : Regions) (rest : States) → shortS 0 (sCons s es ts rs rest) ≡ true → ShortS s rs rest
-unfolding shortS shortName maxName
+unfolding shortS shortName
 short-states s es ts rs rest e =
     let a = and-eq-true-iff (leb (0 + length s) 255) (shortTargets 0 ts && (shortR 0 rs && shortS 0 rest)) .0 e in
     let b = and-eq-true-iff (shortTargets 0 ts) (shortR 0 rs && shortS 0 rest) .0 (a .1) in

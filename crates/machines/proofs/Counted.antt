@@ -8,7 +8,6 @@ use mathlib.Core.Path.{_≡_, refl, sym, ap, subst, _∙_}
 use lib.ListN.{length}
 use lib.Dec.{ltb}
 use borrow.Author.Tests.{ltb-true}
-use Rattle.pack.specs.Limits.{maxLevel, maxStates}
 use Rattle.pack.specs.Names.{Name}
 use Rattle.pack.specs.Syntax.{Drawing, Drawn, DrawnRegions, Equation, Transition, dCons, dNil, qCons, qNil}
 use Rattle.machine_rules.specs.Resolved.{Regions, States, rCons, rNil, sCons, sNil}
@@ -41,7 +40,7 @@ record Grew (c m k : ℕ) : Type 0 where
 
 module _ (top : Name) (refine : ℕ → Name → Name → ℕ → Walk Target) where
   arrive-below : {A : Type 0} (n : ℕ) (k : ℕ → Walk A) (y : A) (m : ℕ) → arrive top refine n k ≡ went y m → (n < 512) × (k (n + 1) ≡ went y m)
-  unfolding arrive maxStates
+  unfolding arrive
   arrive-below {A} n k y m e = go (ltb n 512) refl e
     where
       go : (b : Bool) → ltb n 512 ≡ b → elim b [ true ↦ k (n + 1) | false ↦ stop (tooLarge top) ] ≡ went y m → (n < 512) × (k (n + 1) ≡ went y m)
@@ -137,7 +136,7 @@ module _ (top : Name) (ms : List Drawing) where
 
 -- a machine's tree has as many states as were counted, and no more than the limit
 pub resolved-count : (ms : List Drawing) (d : Drawing) (t : States) (n : ℕ) → resolvedStates ms d ≡ went t n → (countS t ≡ n) × (n ≤ 512)
-unfolding resolvedStates maxLevel
+unfolding resolvedStates
 resolved-count ms d t n e =
     let a = counting (d .name) ms 7 8 (d .name ∷ []) (d .states) 0 t n e in
     let i = a .is in

@@ -10,7 +10,6 @@ use Rattle.wire.specs.Bytes.{bytes, two}
 use Rattle.wire.specs.Code.{readOf}
 use Rattle.wire.specs.Decimal.{decimal, digits}
 use Rattle.wire.specs.Preorder.{trees}
-use Rattle.pack.specs.Limits.{maxLevel}
 use Rattle.pack.specs.Names.{Name, eqName, member}
 use Rattle.pack.specs.RawNames.{rawName}
 use Rattle.pack.specs.Syntax.{Transition, eConst, eVar, lBool, Equation, tBool}
@@ -193,7 +192,7 @@ small-g = (refl, refl)
 
 -- the equations: what is copied comes to the same as what is spelt
 small-equations : spell ns (regionsT s spots t lets ns reg 0 2 ++ portOutputsT s t lets ns 14) [] ≡ spell ns (each equationItems (equationsOf small)) []
-unfolding portOutputsT outputsT outputT valueT valuesT inStateT enteredT givingFrom sideBytes sideT sideFrom uncoveredT firstMiss missT allMiss firstSome ownT givesT tells asked maxLevel equationsOf outputEquations valueS valueR coversS coversR fromOption isSome ownValue isOnly portIn equationIn namesIn typeIn firstType typeOf typeOver plainTypes typeAt typeHead typeFields typeArity nameIn nth counted regionsT regionT activeT stateT nextT nextRhsT chainT lastOr testT transitionsT movesT moveT inRegion lettersAt packName rawName sliceOf prefixOf activeEquation stateEquation endOf numberIn sureOf readOf with exprIn exprAt exprHead exprFields exprRows exprArity exprOf exprsOf exprOver literal literalOf flagOf nameAt trees many index below guard bind mapA byte u16 topEquations equationsS equationsR regionEquations activeIn stateRhs held justEntered nextChain orElse transitionsOf isName sizeS sizeR each list nameItems equationItems exprItems litBytes flagByte unByte binByte bytes two spell spellOne andThen before oldIn newIn lookup eqName activeVar stateVar nextVar smPrefix decimal digits
+unfolding portOutputsT outputsT outputT valueT valuesT inStateT enteredT givingFrom sideBytes sideT sideFrom uncoveredT firstMiss missT allMiss firstSome ownT givesT tells asked equationsOf outputEquations valueS valueR coversS coversR fromOption isSome ownValue isOnly portIn equationIn namesIn typeIn firstType typeOf typeOver plainTypes typeAt typeHead typeFields typeArity nameIn nth counted regionsT regionT activeT stateT nextT nextRhsT chainT lastOr testT transitionsT movesT moveT inRegion lettersAt packName rawName sliceOf prefixOf activeEquation stateEquation endOf numberIn sureOf readOf with exprIn exprAt exprHead exprFields exprRows exprArity exprOf exprsOf exprOver literal literalOf flagOf nameAt trees many index below guard bind mapA byte u16 topEquations equationsS equationsR regionEquations activeIn stateRhs held justEntered nextChain orElse transitionsOf isName sizeS sizeR each list nameItems equationItems exprItems litBytes flagByte unByte binByte bytes two spell spellOne andThen before oldIn newIn lookup eqName activeVar stateVar nextVar smPrefix decimal digits
 small-equations = refl
 
 -- and so it is by the law, for every writer

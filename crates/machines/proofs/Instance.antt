@@ -9,7 +9,6 @@ use lib.ListN.{length, getD}
 use Rattle.wire.specs.Answer.{below, bind, byte, counted, guard, index, many, mapA, u16, value}
 use Rattle.wire.specs.Code.{next, onward, readOf, skip, skips}
 use Rattle.wire.specs.Preorder.{trees}
-use Rattle.pack.specs.Limits.{absent, maxLevel, maxName, maxStates}
 use Rattle.pack.specs.Names.{Name, eqName, member}
 use Rattle.pack.specs.Syntax.{Drawing, dCons, dNil, eBinary, eConst, lBool, lChar, oAnd, qNil, tBool}
 use Rattle.machine_rules.specs.Resolved.{rCons, rNil, sCons, sNil, States}
@@ -62,7 +61,7 @@ unfolding nameSection namesAfter name size char nameByte guard bind many byte u1
 names-here = refl
 
 machines-here : counted (machineIn ns s) s 16 ≡ value (M ∷ N ∷ []) 81
-unfolding machineIn counted many nameIn optionalIn optional portsIn portIn typeIn firstType typeOf typeOver plainTypes typeAt typeHead typeFields typeArity stateAt stateWith regionAt drawnOf regionsOf equationsIn equationIn namesIn exprIn exprAt exprHead exprFields exprRows exprArity exprOf exprsOf exprOver binOps nth literal literalOf flagOf transitionIn nameAt trees index below guard bind mapA byte u16 maxLevel absent
+unfolding machineIn counted many nameIn optionalIn optional portsIn portIn typeIn firstType typeOf typeOver plainTypes typeAt typeHead typeFields typeArity stateAt stateWith regionAt drawnOf regionsOf equationsIn equationIn namesIn exprIn exprAt exprHead exprFields exprRows exprArity exprOf exprsOf exprOver binOps nth literal literalOf flagOf transitionIn nameAt trees index below guard bind mapA byte u16
 machines-here = refl
 
 tables : Ready s ns (M ∷ N ∷ []) (namesPlaced s 5 2 0 zeros) (machinesPlaced ns s 16 zeros)
@@ -72,11 +71,11 @@ tables =
 
 -- the walk on these bytes, computed
 walks : machineW ns s (namesPlaced s 5 2 0 zeros) (machinesPlaced ns s 16 zeros) 0 31 ≡ wk.Went 45 2 3
-unfolding machineW walk stateW refineW regionW rounds goOn qualifyOf enterW lenAt lenOf headT targetT turns maxOf onOf pushedOf startOf machineFrom regionIn numberIn byteIn with sureOf readOf endOf namesPlaced nextName machinesPlaced placedFrom initialIn statesEnd offsetOf onward next skips skip machineIn counted many nameIn optionalIn optional portsIn portIn typeIn firstType typeOf typeOver plainTypes typeAt typeHead typeFields typeArity stateAt stateWith regionAt drawnOf regionsOf equationsIn equationIn namesIn exprIn exprAt exprHead exprFields exprRows exprArity exprOf exprsOf exprOver binOps nth literal literalOf flagOf transitionIn nameAt trees index below guard bind mapA byte u16 maxLevel maxName maxStates absent
+unfolding machineW walk stateW refineW regionW rounds goOn qualifyOf enterW lenAt lenOf headT targetT turns maxOf onOf pushedOf startOf machineFrom regionIn numberIn byteIn with sureOf readOf endOf namesPlaced nextName machinesPlaced placedFrom initialIn statesEnd offsetOf onward next skips skip machineIn counted many nameIn optionalIn optional portsIn portIn typeIn firstType typeOf typeOver plainTypes typeAt typeHead typeFields typeArity stateAt stateWith regionAt drawnOf regionsOf equationsIn equationIn namesIn exprIn exprAt exprHead exprFields exprRows exprArity exprOf exprsOf exprOver binOps nth literal literalOf flagOf transitionIn nameAt trees index below guard bind mapA byte u16
 walks = refl
 
 unfoldable read-M : MachineRead ns s 18 M 45
-unfolding machineIn counted many nameIn optionalIn optional portsIn portIn typeIn firstType typeOf typeOver plainTypes typeAt typeHead typeFields typeArity stateAt stateWith regionAt drawnOf regionsOf equationsIn equationIn namesIn exprIn exprAt exprHead exprFields exprRows exprArity exprOf exprsOf exprOver binOps nth literal literalOf flagOf transitionIn nameAt trees index below guard bind mapA byte u16 maxLevel absent
+unfolding machineIn counted many nameIn optionalIn optional portsIn portIn typeIn firstType typeOf typeOver plainTypes typeAt typeHead typeFields typeArity stateAt stateWith regionAt drawnOf regionsOf equationsIn equationIn namesIn exprIn exprAt exprHead exprFields exprRows exprArity exprOf exprsOf exprOver binOps nth literal literalOf flagOf transitionIn nameAt trees index below guard bind mapA byte u16
 read-M =
     record {
       to-owner = 20;
@@ -99,7 +98,7 @@ read-M =
 
 -- M resolves to two states, and they stand there
 instance : (t : States) × (resolvedStates (M ∷ N ∷ []) M ≡ went t 2) × StandsS ns s (λ j. getD (machinesPlaced ns s 16 zeros) j 0) [] 7 1 35 t 45
-unfolding read-M maxLevel
+unfolding read-M
 instance = walked-stands s ns (M ∷ N ∷ []) (namesPlaced s 5 2 0 zeros) (machinesPlaced ns s 16 zeros) tables 18 M 45 read-M 0 (omega arith) refl 45 2 3 walks
 
 -- every byte is one
@@ -122,7 +121,7 @@ tree =
     (rCons (97 ∷ 95 ∷ 98 ∷ []) false (sCons (97 ∷ 95 ∷ 98 ∷ []) (record { lhs = (111 ∷ []) ∷ []; rhs = eBinary oAnd (eConst (lBool true)) (eConst (lChar 65)) } ∷ []) [] rNil sNil) rNil) sNil
 
 accepted-here : judge (M ∷ N ∷ []) M ≡ accept (asMachine M tree)
-unfolding judge resolved checked resolvedStates resolveS resolveR refineAt refineWith deeper arrive withRefine withTarget walkOn machineOf asTarget asMachine prefixS prefixR prefixTransitions shortS shortR shortTargets shortName snoc firstOf member eqName maxLevel maxName maxStates refusalOf emptyTop repeated allNamesS allNamesR badInitial badS badR badTarget namesOf uncovered uncoveredS uncoveredR unlessCovered unlessOther coversR coversS isSome ownValue isOnly asRefusal
+unfolding judge resolved checked resolvedStates resolveS resolveR refineAt refineWith deeper arrive withRefine withTarget walkOn machineOf asTarget asMachine prefixS prefixR prefixTransitions shortS shortR shortTargets shortName snoc firstOf member eqName refusalOf emptyTop repeated allNamesS allNamesR badInitial badS badR badTarget namesOf uncovered uncoveredS uncoveredR unlessCovered unlessOther coversR coversS isSome ownValue isOnly asRefusal
 accepted-here = refl
 
 -- and so does the code, with two regions, whatever long tables held before

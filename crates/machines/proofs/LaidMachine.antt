@@ -5,7 +5,6 @@ use mathlib.Core.List.{List, []}
 use mathlib.Core.Bool.{true, false}
 use mathlib.Core.Path.{_≡_, refl, sym, subst, _∙_}
 use lib.ListN.{length, getD, take}
-use Rattle.pack.specs.Limits.{maxLevel}
 use Rattle.pack.specs.Names.{Name}
 use Rattle.pack.specs.Syntax.{Drawing}
 use Rattle.machine_rules.specs.Resolved.{States, rCons, rNil}
@@ -66,7 +65,7 @@ pub laid-machine : (s : List ℕ) (ns : List Name) (ms : List Drawing) (spots to
     → (ss : States) (q : ℕ) → StandsS ns s (λ j. getD to j 0) [] 7 k b ss q → countS ss ≤ 512 → shortS 0 ss ≡ true
     → (t reg lets : List ℕ) → 7698 ≤ length t → 514 ≤ length reg → 131072 ≤ length lets → length t ≤ 4294967296 → length reg ≤ 4294967296 → length lets ≤ 4294967296
     → LaidMachine ns s (layMachine ns s spots to at t reg lets) i ss
-unfolding layMachine maxLevel sizeR spare
+unfolding layMachine sizeR spare
 laid-machine s ns ms spots to r at i k b m ss q stands few short t reg lets lt lr ll st sr sl =
     let x = name-number ns s at i (m .to-states) (m .initial) in
     let one = one-region ns s spots to stands 0 0 0 0 (x .i) 1 (blank t reg lets) i true (x .small) history (sym (x .named)) (no-prefix t reg lets)

@@ -8,7 +8,6 @@ use mathlib.Core.Path.{_≡_, refl, sym, ap, _∙_}
 use lib.ListN.{length, getD, set}
 use lib.Dec.{eqb}
 use borrow.Author.Tests.{eq-eqb, ne-eqb}
-use Rattle.pack.specs.Limits.{absent, maxLevel}
 use Rattle.pack.specs.Names.{Name}
 use Rattle.machines.specs.declared.lay.Entered.{Entered}
 use Rattle.machines.specs.declared.lay.Lay.{Lay}
@@ -153,13 +152,13 @@ module _ (ns : List Name) (s spots to : List ℕ) where
   region-on rec st up a m b d h e f = f ∙ ap (λ (y : Opening). rec st up a m y b) e
 
   pub refine-plain : (rec : ℕ → ℕ → ℕ → ℕ → Opening → Board → Board) (st up l n k : ℕ) (b z : Board) (f : Num) → f ≡ numberIn s (b .c .next) → f .value ≡ 65535 → z ≡ closeState st k (f .next) b → z ≡ refineB ns s spots to rec st up l n k b
-  unfolding refineB absent
+  unfolding refineB
   refine-plain rec st up l n k b z f e g h = on f _ _ z e (yes (f .value) 65535 _ _ z g h)
 
   pub refine-into : (rec : ℕ → ℕ → ℕ → ℕ → Opening → Board → Board) (st up l n k j w : ℕ) (b d z : Board) (f : Num) (h : Opening)
       → f ≡ numberIn s (b .c .next) → (f .value ≡ 65535 → ⊥) → w ≡ getD to (f .value) 0 → h ≡ machineAs s 0 w → d ≡ rec st up l n h b
       → j ≡ tally k (b .c .words) (d .c .words) → z ≡ closeState st j (f .next) d → z ≡ refineB ns s spots to rec st up l n k b
-  unfolding refineB absent fed
+  unfolding refineB fed
   refine-into rec st up l n k j w b d z f h e g x y u v q =
       on f _ _ z e
       (no (f .value) 65535 _ _ z g
@@ -196,5 +195,5 @@ module _ (ns : List Name) (s spots to : List ℕ) where
       ∙ sym (left-out _ _ _ (sym e ∙ f))
 
   pub machine-lay : (at : ℕ) (t reg lets : List ℕ) (h : Opening) (z : Board) → h ≡ machineAs s 1 at → z ≡ layRegion ns s spots to 8 0 0 0 0 h (board t reg lets (lay 0 0 0 0 false)) → z ≡ layMachine ns s spots to at t reg lets
-  unfolding layMachine maxLevel
+  unfolding layMachine
   machine-lay at t reg lets h z e f = f ∙ ap (λ (y : Opening). layRegion ns s spots to 8 0 0 0 0 y (board t reg lets (lay 0 0 0 0 false))) e

@@ -8,7 +8,7 @@ use lib.ListN.{getD}
 use lib.Dec.{eqb, leb, ltb}
 use borrow.Author.Tests.{leb-true}
 use Rattle.wire.specs.Lists.{Bytes}
-use Rattle.pack.specs.Limits.{absent, maxLevel, maxName, maxStates}
+use Rattle.pack.specs.Limits.{absent, maxLevel, maxStates}
 use Rattle.pack.specs.Names.{Name}
 use Rattle.machines.specs.declared.path.Path.{Path}
 use Rattle.machines.specs.declared.sure.Num.{Num}
@@ -65,7 +65,7 @@ rounds-within r h zero at c a k = went-within at c a k
 rounds-within r h (suc n) at c a k = on-within (r at c) _ (h at c) (λ q d w j. rounds-within r h n q d (maxOf a w) (max-within a w k j))
 
 qualify-within : (i w a e d : ℕ) → a ≤ 255 → Within (qualifyOf i w a e d)
-unfolding qualifyOf maxName
+unfolding qualifyOf
 qualify-within i w a e d h =
     cond-within (leb (i + 1 + w) 255) (wk.Went e d (maxOf a (i + 1 + w))) wk.Large
     (λ k. went-within e d (maxOf a (i + 1 + w)) (max-within a (i + 1 + w) h (leb-true (i + 1 + w) 255 k))) large-within

@@ -12,7 +12,6 @@ use borrow.Author.Tests.{ltb-false}
 use Rattle.wire.specs.Answer.{many, value}
 use Rattle.wire.specs.Bytes.{two}
 use Rattle.wire.specs.Lists.{Bytes}
-use Rattle.pack.specs.Limits.{maxBytes}
 use Rattle.pack.specs.Names.{Name, member}
 use Rattle.pack.specs.Syntax.{Drawing, Package}
 use Rattle.machine_rules.specs.Resolved.{Machine}
@@ -144,7 +143,7 @@ reported-fits room b l = go (ltb room (length b))
     go false = (omega arith, l)
 
 written-fits : (room : ℕ) (p : Package) → InTable (written room p)
-unfolding written sized numberOf valueOf maxBytes
+unfolding written sized numberOf valueOf
 written-fits room p = go (shorts (packageItems p)) (ltb 65536 (length (encode p))) refl (ltb room (length (encode p)))
   where
     go : (a b : Bool) → ltb 65536 (length (encode p)) ≡ b → (c : Bool) → InTable (cond a (cond b (answers 8 0) (cond c (answers 9 (length (encode p))) (writes (encode p)))) (answers 8 0))
@@ -160,7 +159,7 @@ opened-fits output report (x ∷ xs) p l = reported-fits report (reportBytes (x 
 
 -- THE THEOREM: of any bytes, and buffers of any length
 pub lowered-fits : (s : List ℕ) (output report : ℕ) → Bytes s → InTable (lowerMachines s output report)
-unfolding lowerMachines onPackage machinesOf numberOf valueOf maxBytes verdictOf valueFor
+unfolding lowerMachines onPackage machinesOf numberOf valueOf verdictOf valueFor
 lowered-fits s output report bytes = go (read s) refl (value-small s (verdictOf (read s)) refl)
   where
     go : (x : Reading) → read s ≡ x → valueFor (verdictOf x) (length s) ≤ 65536 → InTable (onPackage s x (machinesOf output report))

@@ -9,7 +9,6 @@ use Rattle.wire.specs.Answer.{counted, many, u16, value}
 use Rattle.wire.specs.Bytes.{two}
 use Rattle.wire.specs.Writer.{State, puts}
 use Rattle.wire.proofs.Answers.{bind-value, map-value}
-use Rattle.pack.specs.Limits.{maxLevel}
 use Rattle.pack.specs.Names.{Name}
 use Rattle.pack.specs.Syntax.{Equation, Expr, Port}
 use Rattle.machine_rules.specs.Resolved.{Machine, rCons, rNil}
@@ -61,7 +60,7 @@ module _ (ns : List Name) (s spots t reg lets old : List ℕ)
     (numbered : (x : ℕ) → x < length ns → (z : State) → puts (two x) z ≡ putName old (nameAt ns x) z)
     (fresh : Fresh [] ns) where
   output-alike : (i : ℕ) (n : Name) (e : Expr) → i < length ns → nameAt ns i ≡ n → Alike old (valueT s t lets ns i 8 0) (exprItems e) → Alike old (outputT s t lets ns i) (equationItems (outputEquation n e))
-  unfolding outputT render putItem nameItems maxLevel
+  unfolding outputT render putItem nameItems
   output-alike i n e h f g = λ z.
       ap (render old (valueT s t lets ns i 8 0)) (numbered i h (puts (two 1) z) ∙ ap (λ (x : Name). putName old x (puts (two 1) z)) f)
       ∙ g (putName old n (puts (two 1) z)) ∙ ap (λ (is : List Item). render old is z) (sym (equation-parts n e))

@@ -8,7 +8,6 @@ use mathlib.Core.Path.{_≡_, refl, sym, subst}
 use lib.ListN.{length, length-append}
 use borrow.Author.Tests.{leb-true}
 use Rattle.wire.specs.Lists.{All}
-use Rattle.pack.specs.Limits.{maxName}
 use Rattle.pack.specs.Names.{Name, member}
 use Rattle.pack.specs.Syntax.{Equation, Transition}
 use Rattle.machine_rules.specs.Resolved.{Regions, States, rCons, rNil, sCons, sNil}
@@ -105,7 +104,7 @@ unfolding unknownTarget secondOf
 fair-target m s t h = h .state refl
 
 short-name : (n : Name) → shortName 0 n ≡ true → Short n
-unfolding shortName maxName
+unfolding shortName
 short-name n e = let l = leb-true (0 + length n) 255 e in omega arith
 
 module _ (m : Name) (own : Short m) where

@@ -54,11 +54,11 @@ module _ (ns : List Name) (s spots to mats regs : List ℕ) (i : ℕ) (t reg let
 
   module _ (ats : List ℕ) (e : ℕ) (a : e ≡ getD ats i 0) where
     pub refused-entry : e ≡ 65535 → entryT ns s spots to mats regs i t reg lets ≡ refusedEntryT ns s spots to mats regs ats i t reg lets
-    unfolding refusedEntryT absent
+    unfolding refusedEntryT
     refused-entry b = let c : getD ats i 0 ≡ 65535 = sym a ∙ b in rw (eq-eqb (getD ats i 0) 65535 c)
 
     pub no-entry : (e ≡ 65535 → ⊥) → refusedEntryT ns s spots to mats regs ats i t reg lets ≡ []
-    unfolding refusedEntryT absent
+    unfolding refusedEntryT
     no-entry b = rw (ne-eqb (getD ats i 0) 65535 (λ z. b (a ∙ z)))
 
   -- whatever the tables held, it is the entry that was given

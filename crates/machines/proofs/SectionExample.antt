@@ -3,7 +3,6 @@ use Prim.Native.Nat.{ℕ}
 use mathlib.Core.List.{List, [], _∷_}
 use mathlib.Core.Option.{Option, none, some}
 use mathlib.Core.Path.{_≡_, refl}
-use Rattle.pack.specs.Limits.{maxLevel, maxStates}
 use Rattle.pack.specs.Legal.{place}
 use Rattle.pack.specs.Names.{Name, eqName, member}
 use Rattle.pack.specs.Report.{asRefusal, firstOf}
@@ -34,7 +33,7 @@ small =
     }
 
 small-lowers : madeMachines small .refusals ≡ []
-unfolding small machine madeMachines start lowerEach placed judge resolved checked resolvedStates resolveS resolveR arrive deeper withRefine walkOn asMachine refusalOf emptyTop repeated allNamesS allNamesR badInitial badS badR badTarget uncovered firstOf asRefusal member eqName namesOf maxLevel maxStates standalone merged nodeNamed nodeFrom extendIn extend
+unfolding small machine madeMachines start lowerEach placed judge resolved checked resolvedStates resolveS resolveR arrive deeper withRefine walkOn asMachine refusalOf emptyTop repeated allNamesS allNamesR badInitial badS badR badTarget uncovered firstOf asRefusal member eqName namesOf standalone merged nodeNamed nodeFrom extendIn extend
 small-lowers = refl
 
 small-items : packageItems (withoutMachines small (madeMachines small)) ≡ sectionItems small (sharesOf small)
@@ -46,7 +45,7 @@ indexes [] = []
 indexes (s ∷ ss) = s .at ∷ indexes ss
 
 small-indexes : indexes (sharesOf small) ≡ 1 ∷ 0 ∷ 1 ∷ []
-unfolding indexes sharesOf shares shareOf indexOf namesWith nodeNames place fates fateThen fateOf small machine judge resolved checked resolvedStates resolveS resolveR arrive deeper withRefine walkOn asMachine refusalOf emptyTop repeated allNamesS allNamesR badInitial badS badR badTarget uncovered firstOf asRefusal member eqName namesOf maxLevel maxStates
+unfolding indexes sharesOf shares shareOf indexOf namesWith nodeNames place fates fateThen fateOf small machine judge resolved checked resolvedStates resolveS resolveR arrive deeper withRefine walkOn asMachine refusalOf emptyTop repeated allNamesS allNamesR badInitial badS badR badTarget uncovered firstOf asRefusal member eqName namesOf
 small-indexes = refl
 
 -- `B` follows the equation of `N`, `C` follows the two of `A`
@@ -54,5 +53,5 @@ small-origins : originsIn (small .nodes) [] (sharesOf small)
     ≡ record { node = 78 ∷ []; kind = ofMachine; name = 66 ∷ []; first = 1; after = 3; branches = [] }
     ∷ record { node = 65 ∷ []; kind = ofMachine; name = 67 ∷ []; first = 2; after = 4; branches = [] }
     ∷ []
-unfolding originsIn originFor equationsBefore oldCount broughtCount bringsCount total equationCount sizeS sizeR shareMachine fateMachine sharesOf shares shareOf indexOf namesWith nodeNames place fates fateThen fateOf small machine judge resolved checked resolvedStates resolveS resolveR arrive deeper withRefine walkOn asMachine refusalOf emptyTop repeated allNamesS allNamesR badInitial badS badR badTarget uncovered firstOf asRefusal member eqName namesOf maxLevel maxStates
+unfolding originsIn originFor equationsBefore oldCount broughtCount bringsCount total equationCount sizeS sizeR shareMachine fateMachine sharesOf shares shareOf indexOf namesWith nodeNames place fates fateThen fateOf small machine judge resolved checked resolvedStates resolveS resolveR arrive deeper withRefine walkOn asMachine refusalOf emptyTop repeated allNamesS allNamesR badInitial badS badR badTarget uncovered firstOf asRefusal member eqName namesOf
 small-origins = refl

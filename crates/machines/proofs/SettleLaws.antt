@@ -8,7 +8,6 @@ use mathlib.Core.Path.{_≡_, refl, sym, ap, subst, _∙_}
 use lib.ListN.{getD, set}
 use lib.Dec.{eqb}
 use borrow.Author.Tests.{eq-eqb, ne-eqb, lt-ltb, le-ltb}
-use Rattle.pack.specs.Limits.{absent}
 use Rattle.pack.specs.Names.{Name}
 use Rattle.pack.specs.Read.{equationsIn}
 use Rattle.machines.specs.declared.refusal.Judged.{Judged}
@@ -108,19 +107,19 @@ module _ (t : List ℕ) (x : ℕ) where
 -- where a machine goes
 module _ (t : List ℕ) (n g o : ℕ) where
   pub goes-refused : g ≡ 0 → 65535 ≡ goesTo t n g o
-  unfolding goesTo absent
+  unfolding goesTo
   goes-refused e = rw (eq-eqb g 0 e)
 
   pub goes-alone : (g ≡ 0 → ⊥) → o ≡ 65535 → n ≡ goesTo t n g o
-  unfolding goesTo absent
+  unfolding goesTo
   goes-alone e f = rw (ne-eqb g 0 e, eq-eqb o 65535 f)
 
   pub goes-there : (k : ℕ) → (g ≡ 0 → ⊥) → (o ≡ 65535 → ⊥) → k ≡ findT t o n 0 → k < n → k ≡ goesTo t n g o
-  unfolding goesTo foundIn absent
+  unfolding goesTo foundIn
   goes-there k e f h l = let m : findT t o n 0 < n = subst (λ y. y < n) h l in rw (ne-eqb g 0 e, ne-eqb o 65535 f, lt-ltb (findT t o n 0) n m) h
 
   pub goes-nowhere : (k : ℕ) → (g ≡ 0 → ⊥) → (o ≡ 65535 → ⊥) → k ≡ findT t o n 0 → n ≤ k → 65535 ≡ goesTo t n g o
-  unfolding goesTo foundIn absent
+  unfolding goesTo foundIn
   goes-nowhere k e f h l = let m : n ≤ findT t o n 0 = subst (λ y. n ≤ y) h l in rw (ne-eqb g 0 e, ne-eqb o 65535 f, le-ltb (findT t o n 0) n m)
 
 -- a machine settled
@@ -164,11 +163,11 @@ module _ (s mats regs : List ℕ) where
 
 -- a refused machine counts for one
 pub refused-here : (ats : List ℕ) (i e : ℕ) → e ≡ getD ats i 0 → e ≡ 65535 → 1 ≡ refusedT ats i
-unfolding refusedT absent
+unfolding refusedT
 refused-here ats i e a b = let c : getD ats i 0 ≡ 65535 = sym a ∙ b in rw (eq-eqb (getD ats i 0) 65535 c)
 
 pub refused-not : (ats : List ℕ) (i e : ℕ) → e ≡ getD ats i 0 → (e ≡ 65535 → ⊥) → 0 ≡ refusedT ats i
-unfolding refusedT absent
+unfolding refusedT
 refused-not ats i e a b = rw (ne-eqb (getD ats i 0) 65535 (λ x. b (a ∙ x)))
 
 -- a length that is kept

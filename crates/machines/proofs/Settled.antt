@@ -182,14 +182,14 @@ module _ (ms : List Drawing) (ns : List Name) (s mats regs : List ℕ) where
 
         -- one that was judged so is refused
         step-refused : (o : Option Name) (r : Refusal) (v : ℕ) → judge ms d ≡ refuse r → getD regs i 0 ≡ 0 → Step i d names o (refuse r) x (joined i m (goesTo (x .nodes) (x .count) (getD regs i 0) v) x)
-        unfolding verdictIn namesThen SettledAs absent
+        unfolding verdictIn namesThen SettledAs
         step-refused o r v e z =
             let k = sym (goes-refused (x .nodes) (x .count) (getD regs i 0) v z) in
             step-old o (refuse r) _ (λ c. omega arith) h (λ ats g. (g ∙ k, judged z e))
 
         -- one without owner begins a node
         step-alone : (y : Machine) (v : ℕ) → d .owner ≡ none → AcceptedAs ms d y (getD regs i 0) → v ≡ absent → Step i d names none (accept y) x (joined i m (goesTo (x .nodes) (x .count) (getD regs i 0) v) x)
-        unfolding verdictIn namesThen SettledAs absent shareOf indexOf fateOf
+        unfolding verdictIn namesThen SettledAs shareOf indexOf fateOf
         step-alone y v w a z =
             let k = sym (goes-alone (x .nodes) (x .count) (getD regs i 0) v (some-regions y a) z) in
             let c = h .number in
@@ -198,7 +198,7 @@ module _ (ms : List Drawing) (ns : List Name) (s mats regs : List ℕ) where
 
         -- one with an owner goes to its node, or is refused
         step-into : (n : Name) (y : Machine) (v : ℕ) → d .owner ≡ some n → AcceptedAs ms d y (getD regs i 0) → OwnerIs ns (some n) v → Step i d names (some n) (accept y) x (joined i m (goesTo (x .nodes) (x .count) (getD regs i 0) v) x)
-        unfolding verdictIn namesThen SettledAs absent shareOf indexOf fateOf OwnerIs
+        unfolding verdictIn namesThen SettledAs shareOf indexOf fateOf OwnerIs
         step-into n y v w a z = go (member n names) refl
           where
             found : findT (x .nodes) v (x .count) 0 ≡ place names n

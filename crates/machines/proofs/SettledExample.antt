@@ -6,7 +6,6 @@ use mathlib.Core.Option.{Option, none, some}
 use mathlib.Core.Path.{_≡_, refl, sym, subst, _∙_}
 use Rattle.wire.specs.Answer.{bind, byte, counted, guard, index, many, mapA, u16, value}
 use Rattle.pack.specs.declared.record.Pack.{Pack}
-use Rattle.pack.specs.Limits.{absent, maxLevel, maxStates}
 use Rattle.pack.specs.Names.{Name, eqName, member}
 use Rattle.pack.specs.Syntax.{Drawing, Package, dCons, dNil, qNil}
 use Rattle.machine_rules.specs.Resolved.{States, rNil, sCons, sNil}
@@ -54,17 +53,17 @@ abbrev k : Pack
 k = record { names = 2; enums = 6; nodes = 8; machines = 10; activations = 60; origins = 62; end = 64 }
 
 stands : Stands s k p
-unfolding nameSection namesAfter name size char nameByte member eqName machineIn counted many nameIn optionalIn optional portsIn stateAt stateWith regionAt drawnOf regionsOf equationsIn nameAt index guard bind mapA byte u16 maxLevel absent
+unfolding nameSection namesAfter name size char nameByte member eqName machineIn counted many nameIn optionalIn optional portsIn stateAt stateWith regionAt drawnOf regionsOf equationsIn nameAt index guard bind mapA byte u16
 stands = record { count = refl; names = refl; enums = refl; nodes = refl; machines = refl; activations = refl; origins = refl }
 
 -- each has one region
 accepted : (o : Option Name) → judge ms (drawn o) ≡ accept (asMachine (drawn o) tree)
-unfolding judge resolved checked resolvedStates resolveS resolveR arrive deeper withRefine walkOn asMachine refusalOf emptyTop repeated allNamesS allNamesR badInitial badS badR badTarget uncovered firstOf asRefusal member eqName namesOf maxLevel maxStates
+unfolding judge resolved checked resolvedStates resolveS resolveR arrive deeper withRefine walkOn asMachine refusalOf emptyTop repeated allNamesS allNamesR badInitial badS badR badTarget uncovered firstOf asRefusal member eqName namesOf
 accepted none = refl
 accepted (some n) = refl
 
 one-region : (o : Option Name) → AcceptedAs ms (drawn o) (asMachine (drawn o) tree) 1
-unfolding resolvedStates resolveS resolveR arrive deeper withRefine walkOn asMachine refusalOf emptyTop repeated allNamesS allNamesR badInitial badS badR badTarget uncovered firstOf asRefusal member eqName namesOf maxLevel maxStates sizeS sizeR
+unfolding resolvedStates resolveS resolveR arrive deeper withRefine walkOn asMachine refusalOf emptyTop repeated allNamesS allNamesR badInitial badS badR badTarget uncovered firstOf asRefusal member eqName namesOf sizeS sizeR
 one-region o = record { states = tree; count = 1; is = refl; resolves = refl; accepted = refl; regions = refl; few = omega arith }
 
 told : (o : Option Name) → Told ms (drawn o) 1
@@ -91,5 +90,5 @@ settled-here =
 
 -- and these are the verdicts
 verdicts-here : verdictsOf p ≡ goesAs (record { at = 0; fate = alone (asMachine (drawn none) tree) }) ∷ refusedFor (unknownOwner (77 ∷ []) (97 ∷ [])) ∷ []
-unfolding verdictsOf verdicts verdictIn namesThen nodeNames shareOf indexOf judge resolved checked resolvedStates resolveS resolveR arrive deeper withRefine walkOn asMachine refusalOf emptyTop repeated allNamesS allNamesR badInitial badS badR badTarget uncovered firstOf asRefusal member eqName namesOf maxLevel maxStates
+unfolding verdictsOf verdicts verdictIn namesThen nodeNames shareOf indexOf judge resolved checked resolvedStates resolveS resolveR arrive deeper withRefine walkOn asMachine refusalOf emptyTop repeated allNamesS allNamesR badInitial badS badR badTarget uncovered firstOf asRefusal member eqName namesOf
 verdicts-here = refl

@@ -7,7 +7,7 @@ use mathlib.Core.Option.{Option, none, some}
 use mathlib.Core.Path.{_≡_, refl, sym, ap, _∙_}
 use lib.ListN.{length, getD}
 use lib.Dec.{eqb}
-use borrow.Author.Tests.{eq-eqb, ne-eqb, lt-ltb}
+use borrow.Author.Tests.{ne-eqb, lt-ltb}
 use Rattle.wire.specs.Answer.{below, byte, counted, many, u16, value}
 use Rattle.wire.specs.Code.{onward}
 use Rattle.wire.proofs.Answers.{bind-value, guard-value, many-length, map-value, u16-value}
@@ -54,7 +54,7 @@ heads-origins (x ∷ xs) = let a = heads-origins xs in let b = head-or-origin (x
 module _ (ns : List Name) (s : List ℕ) where
   owner-none : (at q : ℕ) (m : Machine) → optionalIn ns s at ≡ value none q → with (numberIn s at) (λ o q. cond (eqb o absent) 0 1) ≡ originCount (fateOf none m)
   unfolding originCount fateOf
-  owner-none at q m e = number-to s at absent q _ (optional-none ns s at q e) ∙ (rw (eq-eqb absent absent refl))
+  owner-none at q m e = number-to s at absent q _ (optional-none ns s at q e) ∙ refl
 
   owner-some : (at q : ℕ) (o : Name) (m : Machine) → optionalIn ns s at ≡ value (some o) q → with (numberIn s at) (λ o q. cond (eqb o absent) 0 1) ≡ originCount (fateOf (some o) m)
   unfolding originCount fateOf

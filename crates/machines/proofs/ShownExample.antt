@@ -7,7 +7,6 @@ use mathlib.Core.Path.{_≡_, refl, subst}
 use lib.ListN.{length}
 use Rattle.wire.specs.Answer.{bind, byte, counted, guard, index, many, mapA, u16, value}
 use Rattle.wire.specs.Lists.{All, Bytes}
-use Rattle.pack.specs.Limits.{absent, maxLevel, maxStates}
 use Rattle.pack.specs.Names.{Name, eqName, member}
 use Rattle.pack.specs.Syntax.{Drawing, Package, dCons, dNil, qNil}
 use Rattle.machine_rules.specs.Resolved.{States, rNil, sCons, sNil}
@@ -46,7 +45,7 @@ abbrev share : Share
 share = record { at = 0; fate = alone (asMachine M tree) }
 
 read-here : machineIn ns s 12 ≡ value M 36
-unfolding machineIn counted many nameIn optionalIn optional portsIn stateAt stateWith regionAt drawnOf regionsOf equationsIn nameAt index guard bind mapA byte u16 maxLevel absent
+unfolding machineIn counted many nameIn optionalIn optional portsIn stateAt stateWith regionAt drawnOf regionsOf equationsIn nameAt index guard bind mapA byte u16
 read-here = refl
 
 shown-here : Shown ns s (12 ∷ []) (0 ∷ []) (1 ∷ []) 0 (share ∷ [])
@@ -79,11 +78,11 @@ abbrev sections : Pack
 sections = record { names = 2; enums = 6; nodes = 8; machines = 10; activations = 36; origins = 38; end = 40 }
 
 stands-here : Stands s sections whole
-unfolding nameSection namesAfter name size char nameByte member eqName enumIn nodeIn machineIn activationIn originIn counted many nameIn optionalIn optional portsIn stateAt stateWith regionAt drawnOf regionsOf equationsIn nameAt index guard bind mapA byte u16 maxLevel absent
+unfolding nameSection namesAfter name size char nameByte member eqName enumIn nodeIn machineIn activationIn originIn counted many nameIn optionalIn optional portsIn stateAt stateWith regionAt drawnOf regionsOf equationsIn nameAt index guard bind mapA byte u16
 stands-here = record { count = refl; names = refl; enums = refl; nodes = refl; machines = refl; activations = refl; origins = refl }
 
 lowered-here : Lowered (M ∷ []) ns s (12 ∷ []) (0 ∷ []) (1 ∷ []) 0 (share ∷ [])
-unfolding Lowered fateOf sizeS sizeR resolvedStates resolveS resolveR arrive withRefine walkOn asMachine refusalOf emptyTop repeated allNamesS allNamesR badInitial badS badR badTarget uncovered firstOf asRefusal member eqName namesOf maxLevel maxStates
+unfolding Lowered fateOf sizeS sizeR resolvedStates resolveS resolveR arrive withRefine walkOn asMachine refusalOf emptyTop repeated allNamesS allNamesR badInitial badS badR badTarget uncovered firstOf asRefusal member eqName namesOf
 lowered-here = (
   record {
     shown = record { drawing = M; end = 36; states = tree; read = read-here; fate = refl; at = refl; regions = refl; fewRegions = omega arith };

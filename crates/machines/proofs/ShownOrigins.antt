@@ -8,7 +8,7 @@ use mathlib.Core.Option.{Option, none, some}
 use mathlib.Core.Path.{_≡_, refl, sym, ap, _∙_}
 use lib.ListN.{length, getD}
 use lib.Dec.{eqb}
-use borrow.Author.Tests.{eq-eqb, ne-eqb}
+use borrow.Author.Tests.{ne-eqb}
 use Rattle.wire.specs.Answer.{many, value}
 use Rattle.wire.specs.Bytes.{two}
 use Rattle.wire.specs.Lists.{All}
@@ -73,7 +73,7 @@ module _ (ns : List Name) (s : List ℕ) (legal : All LegalName ns) (fresh : Fre
       → render old (with (numberIn s at) (λ o q. cond (eqb o absent) [] (originT o j f e))) z ≡ render old (each originItems (originFor (fateOf none m) n)) z
   unfolding originFor fateOf each
   owner-none at q j f e n m old z h =
-      ap (λ (is : List Item). render old is z) (number-to s at absent q (λ o q. cond (eqb o absent) [] (originT o j f e)) (optional-none ns s at q h) ∙ (rw (eq-eqb absent absent refl)))
+      ap (λ (is : List Item). render old is z) (number-to s at absent q (λ o q. cond (eqb o absent) [] (originT o j f e)) (optional-none ns s at q h) ∙ refl)
 
   owner-some : (at q j f e : ℕ) (o : Name) (m : Machine) (z : State) → optionalIn ns s at ≡ value (some o) q → j < length ns → nameAt ns j ≡ m .name → e ≡ equationCount m
       → render (tabled ns) (with (numberIn s at) (λ o q. cond (eqb o absent) [] (originT o j f e))) z ≡ render (tabled ns) (each originItems (originFor (fateOf (some o) m) f)) z

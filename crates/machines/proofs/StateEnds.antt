@@ -54,7 +54,6 @@ offset-none (sk.Deep o) h = refl
 
 -- the levels that the code begins with
 pub all-levels : 8 ≤ maxLevel
-unfolding maxLevel
 all-levels = omega arith
 
 module _ (ns : List Name) (s : List ℕ) where

@@ -5,7 +5,7 @@ use mathlib.Core.List.{List, _∷_, _++_}
 use mathlib.Core.Bool.{Bool}
 use mathlib.Core.Path.{_≡_, refl, sym, ap, _∙_}
 use lib.ListN.{length, getD}
-use borrow.Author.Tests.{eq-eqb, ne-eqb}
+use borrow.Author.Tests.{ne-eqb}
 use Rattle.wire.specs.Answer.{below, byte, counted, u16, value}
 use Rattle.wire.proofs.Answers.{guard-value}
 use Rattle.pack.specs.Limits.{absent}
@@ -52,7 +52,7 @@ module _ (ns : List Name) (s spots to : List ℕ) where
 
     pub rest-plain : (k e : ℕ) (b : Board) → u16 s (b .c .next) ≡ value absent e → stateRest rec st up a m la ln zero k b ≡ closeState st k e b
     unfolding stateRest inner refineB
-    rest-plain k e b r = number-to s (b .c .next) absent e _ r ∙ rw (eq-eqb absent absent refl)
+    rest-plain k e b r = number-to s (b .c .next) absent e _ r ∙ refl
 
     pub rest-into : (x k e : ℕ) (b d : Board) → u16 s (b .c .next) ≡ value x e → (x ≡ absent → ⊥) → rec st up la ln (machineAs s 0 (getD to x 0)) b ≡ d
         → stateRest rec st up a m la ln zero k b ≡ closeState st (tally k (b .c .words) (d .c .words)) e d

@@ -10,7 +10,6 @@ use borrow.Author.Tests.{eq-eqb, ne-eqb}
 use Rattle.wire.specs.Bytes.{two}
 use Rattle.wire.specs.declared.writer.Writer.{Writer}
 use Rattle.wire.specs.Writer.{State, puts, stateOf}
-use Rattle.pack.specs.Limits.{maxLevel}
 use Rattle.pack.specs.Names.{Name}
 use Rattle.pack.specs.Read.{equationIn, exprIn, portIn}
 use Rattle.pack.specs.Write.{Item}
@@ -147,7 +146,7 @@ module _ (old sb t lets : List ℕ) (ns : List Name) where
         ∙ ap (λ (is : List Item). render old is s) (ap (λ (y : ℕ). valuesT t lets (inStateT sb t lets ns out (valueT sb t lets ns out l) (uncoveredT ns sb t out l)) q y p) e ∙ values-start old t lets _ q (getD t (q + 6) 0) p (q + 9) g)
 
   pub output-term : (out : ℕ) (s : State) → render old (valueT sb t lets ns out 8 0) (puts (two out) (puts (two 1) s)) ≡ render old (outputT sb t lets ns out) s
-  unfolding outputT render putItem maxLevel
+  unfolding outputT render putItem
   output-term out s = refl
 
   outputs-step : (n p : ℕ) (s : State) → render old (outputsT sb t lets ns (suc n) p) s ≡ render old (outputsT sb t lets ns n (endOf (portIn ns sb p))) (render old (outputT sb t lets ns (numberIn sb p .value)) s)

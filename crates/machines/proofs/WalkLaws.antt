@@ -10,7 +10,6 @@ use lib.Dec.{eqb}
 use types.Run.{OneOf}
 use denote.Enum.Declared.{tagOf}
 use borrow.Author.Tests.{eq-eqb, le-leb, le-ltb, lt-leb, lt-ltb, ne-eqb}
-use Rattle.pack.specs.Limits.{absent, maxLevel, maxName, maxStates}
 use Rattle.pack.specs.Names.{Name}
 use Rattle.pack.specs.Read.{equationsIn, exprIn}
 use Rattle.machines.proofs.walk.Walked as Walked-enum
@@ -51,11 +50,11 @@ unfolding lenAt
 len-at-is s spots at x i e f = on i _ _ x e f
 
 pub qualify-large : (i w a e d : ℕ) → 255 < i + 1 + w → wk.Large ≡ qualifyOf i w a e d
-unfolding qualifyOf maxName
+unfolding qualifyOf
 qualify-large i w a e d h = rw (lt-leb (i + 1 + w) 255 h)
 
 pub qualify-fits : (i w a e d b : ℕ) → i + 1 + w ≤ 255 → b ≡ maxOf a (i + 1 + w) → wk.Went e d b ≡ qualifyOf i w a e d
-unfolding qualifyOf maxName
+unfolding qualifyOf
 qualify-fits i w a e d b h x = rw (le-leb (i + 1 + w) 255 h) (ap (wk.Went e d) x)
 
 -- a step that went on, and one that stopped
@@ -123,22 +122,22 @@ module _ (ns : List Name) (s spots : List ℕ) where
     region-on rec p at c g r x y = on g _ _ r x y
 
     pub refine-plain : (rec : Path → ℕ → ℕ → ℕ → Walked) (p : Path) (i at c a : ℕ) (f : Num) → f ≡ numberIn s at → f .value ≡ 65535 → wk.Went (f .next) c a ≡ refineW ns s spots to rec p i at c a
-    unfolding refineW absent
+    unfolding refineW
     refine-plain rec p i at c a f x e = on f _ _ _ x (yes (f .value) 65535 _ _ _ e refl)
 
     pub refine-into : (rec : Path → ℕ → ℕ → ℕ → Walked) (p : Path) (i at c a : ℕ) (f : Num) (r : Walked) → f ≡ numberIn s at → (f .value ≡ 65535 → ⊥)
         → r ≡ goOn (enterW s spots to p i (f .value)) (λ b k l. goOn (rec (pushedOf p (f .value)) k b c) (λ q d w. qualifyOf (lenOf s spots i) (maxOf l w) a (f .next) d)) → r ≡ refineW ns s spots to rec p i at c a
-    unfolding refineW absent
+    unfolding refineW
     refine-into rec p i at c a f r x e y = on f _ _ _ x (no (f .value) 65535 _ _ _ e y)
 
     pub state-large : (rec : Path → ℕ → ℕ → ℕ → Walked) (p : Path) (at c : ℕ) → 512 ≤ c → wk.Large ≡ stateW ns s spots to rec p at c
-    unfolding stateW maxStates
+    unfolding stateW
     state-large rec p at c h = rw (le-ltb c 512 h)
 
     -- from a state's regions on
     pub state-on : (rec : Path → ℕ → ℕ → ℕ → Walked) (p : Path) (at c : ℕ) (h t : Num) (r : Walked) → c < 512 → h ≡ headT ns s spots at → t ≡ numberIn s (h .next)
         → r ≡ goOn (rounds (regionW ns s spots to rec p) (t .value) (t .next) (c + 1) (h .value)) (λ z d b. with (numberIn s at) λ i x. refineW ns s spots to rec p i z d b) → r ≡ stateW ns s spots to rec p at c
-    unfolding stateW maxStates
+    unfolding stateW
     state-on rec p at c h t r l y z w = rw (lt-ltb c 512 l) (on h _ _ r y (on t _ _ r z w))
 
     pub walk-none : (l : ℕ) (p : Path) (n at c : ℕ) → l ≡ 0 → wk.Large ≡ walk ns s spots to l p n at c
@@ -151,7 +150,7 @@ module _ (ns : List Name) (s spots : List ℕ) where
     walk-some (suc l) p n at c h = let e : suc l - 1 ≡ l = omega arith in rw e refl
 
     pub machine-walk : (m at : ℕ) (k : Num) (p : Path) (r : Walked) → k ≡ machineFrom s at → p ≡ startOf m → r ≡ walk ns s spots to 8 p (k .value) (k .next) 0 → r ≡ machineW ns s spots to m at
-    unfolding machineW maxLevel
+    unfolding machineW
     machine-walk m at k p r x y z = on k _ _ r x (z ∙ ap (λ (q : Path). walk ns s spots to 8 q (k .value) (k .next) 0) y)
 
 pub moved : (rec : Path → ℕ → ℕ → ℕ → Walked) (p q : Path) (n at c : ℕ) (y : Walked) → y ≡ rec q n at c → q ≡ p → y ≡ rec p n at c

@@ -91,7 +91,7 @@ module _ (s : List ℕ) (ns : List Name) (ms : List Drawing) (spots to : List �
   module _ (at : ℕ) (d : Drawing) (q : ℕ) (m : MachineRead ns s at d q) (x : ℕ) (small : x < length ns) (named : nameAt ns x ≡ d .name) where
     -- THE THEOREM: the walk and resolving come to the same
     pub machine-walked : Same ns (d .name) (fitS 0) q (resolvedStates ms d) (machineW ns s spots to x (m .to-initial))
-    unfolding resolvedStates maxLevel walk machineW stateAt
+    unfolding resolvedStates walk machineW stateAt
     machine-walked =
         same-by ns (d .name) (fitS 0) q _ _ _ _ (ap (λ y. resolveS (d .name) (refineAt 8 (d .name) ms (d .name ∷ [])) 7 y 0) (sym (m .same)))
         (then-to (machineFrom s (m .to-initial)) (m .k) (m .b) _ (machine-to ns s (m .to-initial) (d .initial) (m .k) (m .b) (m .head)))
@@ -109,7 +109,7 @@ module _ (s : List ℕ) (ns : List Name) (ms : List Drawing) (spots to : List �
     -- where it went through, resolving gives a tree of as many states, and the tree stands there
     pub walked-stands : (z n a : ℕ) → machineW ns s spots to x (m .to-initial) ≡ wk.Went z n a
         → (t : States) × (resolvedStates ms d ≡ went t n) × StandsS ns s (λ j. getD to j 0) [] (maxLevel - 1) (m .k) (m .b) t q
-    unfolding resolvedStates maxLevel stateAt
+    unfolding resolvedStates stateAt
     walked-stands z n a w =
         let g = same-goes ns (d .name) q (resolvedStates ms d) _ machine-walked z n a w in (
           g .tree,

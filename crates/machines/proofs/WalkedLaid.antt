@@ -7,7 +7,6 @@ use mathlib.Core.Path.{_≡_, sym, ap, _∙_}
 use lib.ListN.{length, getD}
 use borrow.Author.Tests.{le-leb}
 use Rattle.wire.specs.Lists.{Bytes}
-use Rattle.pack.specs.Limits.{maxLevel, maxName}
 use Rattle.pack.specs.Names.{Name}
 use Rattle.pack.specs.Syntax.{Drawing}
 use Rattle.machine_rules.specs.Resolved.{States}
@@ -37,7 +36,6 @@ module _ (s : List ℕ) (ns : List Name) (ms : List Drawing) (spots to : List �
     (at : ℕ) (d : Drawing) (q : ℕ) (m : MachineRead ns s at d q) (x : ℕ) (small : x < length ns) (named : nameAt ns x ≡ d .name)
     (z n a : ℕ) (went-on : machineW ns s spots to x (m .to-initial) ≡ wk.Went z n a) where
   pub walked-tree : Tree s ns ms to d (m .k) (m .b) n q
-  unfolding maxLevel maxName
   walked-tree =
       let y = walked-stands s ns ms spots to r at d q m x small named z n a went-on in
       let g = same-goes ns (d .name) q (resolvedStates ms d) _ (machine-walked s ns ms spots to r at d q m x small named) z n a went-on in

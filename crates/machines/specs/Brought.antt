@@ -4,7 +4,7 @@ use mathlib.Core.List.{List, [], _∷_, _++_}
 use mathlib.Core.Bool.{cond}
 use lib.ListN.{getD}
 use lib.Dec.{eqb, ltb}
-use Rattle.wire.specs.Bytes.{two}
+use Rattle.wire.specs.Bytes.{two, wordRange}
 use Rattle.wire.specs.Code.{onward}
 use Rattle.wire.specs.declared.answer.Skipped.the-variants as sk
 use Rattle.pack.specs.Limits.{absent}
@@ -30,9 +30,9 @@ unfoldable pub eachT : (ℕ → List Item) → ℕ → ℕ → List Item
 eachT f zero i = []
 eachT f (suc n) i = f i ++ eachT f n (suc i)
 
--- counts of a pack are below 65,536: nothing larger is looked at
+-- counts of a pack are words: nothing larger is looked at
 unfoldable pub smallOf : ℕ → ℕ
-smallOf k = cond (ltb k 65536) k 0
+smallOf k = cond (ltb k wordRange) k 0
 
 -- two for the top one of k regions, three for each other one, and `own` more
 unfoldable pub madeOf : ℕ → ℕ → ℕ

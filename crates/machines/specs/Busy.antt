@@ -4,6 +4,11 @@ use mathlib.Core.List.{List}
 use mathlib.Core.Bool.{cond}
 use lib.ListN.{getD}
 use lib.Dec.{ltb}
+use Rattle.wire.specs.Bytes.{wordRange}
+
+-- stands for no node: none has an index so large
+abbrev pub noNode : ℕ
+noNode = wordRange
 
 -- the node of the machine i
 unfoldable pub goesT : List ℕ → ℕ → ℕ
@@ -18,9 +23,9 @@ unfoldable pub busyT : (ℕ → ℕ) → ℕ → ℕ → ℕ → ℕ → ℕ
 busyT goal k zero i b = b
 busyT goal k (suc n) i b = busyT goal k n (suc i) (nearerT k (goal i) b)
 
--- the next goal at the node k, where b was the one before; no node has the index 65,536
+-- the next goal at the node k, where b was the one before
 unfoldable pub nextBusyT : (ℕ → ℕ) → ℕ → ℕ → ℕ → ℕ
-nextBusyT goal n k b = cond (ltb b k) (busyT goal k n 0 65536) b
+nextBusyT goal n k b = cond (ltb b k) (busyT goal k n 0 noNode) b
 
 -- how many of n are asked at the node k, where b is the next goal
 unfoldable pub askedT : ℕ → ℕ → ℕ → ℕ

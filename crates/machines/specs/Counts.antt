@@ -2,7 +2,7 @@
 use Prim.Native.Nat.{ℕ, suc, _+_}
 use Rattle.machine_rules.specs.Resolved.{Regions, States, rCons, rNil, sCons, sNil}
 
--- how many states, those in regions among them: what the limit of 512 counts
+-- how many states, those in regions among them: what the limit counts
 unfoldable mutual
   pub countS : States → ℕ
   countS sNil = 0

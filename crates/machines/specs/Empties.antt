@@ -4,6 +4,7 @@ use mathlib.Core.List.{List}
 use mathlib.Core.Bool.{Bool, true, cond, _&&_}
 use mathlib.Core.Path.{_≡_}
 use lib.Dec.{eqb, ltb}
+use Rattle.wire.specs.Bytes.{wordRange}
 use Rattle.machines.specs.declared.empties.Empties.{Empties}
 use Rattle.machines.specs.declared.empties.Taken.{Taken}
 use Rattle.machines.specs.declared.opening.Opening.{Opening}
@@ -37,7 +38,7 @@ pub record EmptyRun (s spots : List ℕ) (n at : ℕ) (r : Empties) : Type 0 whe
 pub record AtOnce (t : List ℕ) (n at r : ℕ) : Type 0 where
   pub some : 0 < r
   pub few : r ≤ n
-  pub small : r < 65536
+  pub small : r < wordRange
   pub kept : 1 < r → r ≡ keptIn t at ofEmpty
 
 -- k regions from `at` on as resolving takes them: how many states they have and where those are, the longest initial state's name

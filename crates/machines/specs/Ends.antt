@@ -5,6 +5,7 @@ use mathlib.Core.Bool.{true}
 use mathlib.Core.Path.{_≡_}
 use lib.ListN.{length, getD}
 use Rattle.wire.specs.Answer.{counted}
+use Rattle.wire.specs.Bytes.{wordRange}
 use Rattle.pack.specs.Names.{Name}
 use Rattle.pack.specs.Read.{equationIn, exprIn, transitionIn}
 use Rattle.machines.specs.declared.sure.Num.{Num}
@@ -32,14 +33,14 @@ pub record StateRight (ns : List Name) (s : List ℕ) (p m o r : ℕ) : Type 0 w
 
 -- the table of a pack s with so many names
 pub record EndsRight (s : List ℕ) (names : ℕ) (t : List ℕ) : Type 0 where
-  pub rows : (ns : List Name) → length ns ≡ names → (p : ℕ) → p < 65536 → 0 < valueIn t p → RowRight ns s p (markIn t p) (valueIn t p)
+  pub rows : (ns : List Name) → length ns ≡ names → (p : ℕ) → p < wordRange → 0 < valueIn t p → RowRight ns s p (markIn t p) (valueIn t p)
   pub states : (ns : List Name) → length ns ≡ names → (p : ℕ) → 0 < regionsIn t p → StateRight ns s p (movesIn t p) (pastIn t p) (regionsIn t p)
 
 -- and where names stand at spots: the longest name of a state's head, and of the initial states of regions without states
 pub record KeptRight (s : List ℕ) (names : ℕ) (spots t : List ℕ) : Type 0 where
   pub ends : EndsRight s names t
   pub heads : (ns : List Name) → length ns ≡ names → (p : ℕ) → 0 < regionsIn t p → num (longestIn t p) (regionsIn t p) ≡ headT ns s spots p
-  pub empties : (p : ℕ) → p < 65536 → 0 < valueIn t p → markIn t p % 32 ≡ p % 5 + ofEmpty → markIn t p / 32 ≡ longestD s spots (valueIn t p) p 0
+  pub empties : (p : ℕ) → p < wordRange → 0 < valueIn t p → markIn t p % 32 ≡ p % 5 + ofEmpty → markIn t p / 32 ≡ longestD s spots (valueIn t p) p 0
 
 -- what was read of the state at p: its head, where its transitions begin, where it ends, where the count of its regions stands
 pub record HeadRead (s : List ℕ) (names : ℕ) (spots : List ℕ) (p : ℕ) (h : Num) (m o r : ℕ) : Type 0 where

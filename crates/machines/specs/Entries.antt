@@ -5,6 +5,7 @@ use mathlib.Core.Bool.{cond}
 use lib.ListN.{length}
 use lib.Dec.{eqb}
 use Rattle.pack.specs.Names.{Name}
+use Rattle.pack.specs.Limits.{absent}
 use Rattle.machines.specs.declared.refusal.Called.{Called}
 use Rattle.machines.specs.declared.refusal.Judged.{Judged}
 use Rattle.machines.specs.Laid.{prefixOf, sliceOf}
@@ -24,7 +25,7 @@ module _ (s spots lets : List ℕ) where
   -- no name, letters of the layout, or a name of the pack as it is called in a region
   unfoldable pub calledOf : Called → List Name
   calledOf c =
-      cond (eqb (c .name) 65535) (cond (eqb (c .letters) 0) [] (sliceOf lets (c .letter) (c .letters) ∷ []))
+      cond (eqb (c .name) absent) (cond (eqb (c .letters) 0) [] (sliceOf lets (c .letter) (c .letters) ∷ []))
       ((prefixOf (sliceOf lets (c .letter) (c .letters)) ++ packName s spots (c .name)) ∷ [])
 
   -- the names of a refusal: the machine's own comes first

@@ -6,6 +6,7 @@ use lib.ListN.{getD, take}
 use lib.Dec.{eqb, leb, ltb}
 use Rattle.pack.specs.Names.{Name}
 use Rattle.pack.specs.Read.{portIn}
+use Rattle.pack.specs.Limits.{absent, maxLevel}
 use Rattle.machines.specs.declared.refusal.Called.{Called}
 use Rattle.machines.specs.declared.refusal.Judged.{Judged}
 use Rattle.machines.specs.declared.valid.Checked.{Checked}
@@ -23,20 +24,20 @@ use Rattle.machines.specs.Covers.{uncoveredT}
 
 -- no name; a name of the pack; the name of the state at a word; a name as it is called in the region at a word
 abbrev pub noName : Called
-noName = record { letter = 0; letters = 0; name = 65535 }
+noName = record { letter = 0; letters = 0; name = absent }
 
 abbrev pub named : ℕ → Called
 named x = record { letter = 0; letters = 0; name = x }
 
 abbrev pub stateCalled : List ℕ → ℕ → Called
-stateCalled t p = record { letter = getD t (p + 2) 0; letters = getD t (p + 3) 0; name = 65535 }
+stateCalled t p = record { letter = getD t (p + 2) 0; letters = getD t (p + 3) 0; name = absent }
 
 abbrev pub calledAt : List ℕ → ℕ → ℕ → Called
 calledAt t q x = record { letter = getD t (q + 2) 0; letters = getD t (q + 3) 0; name = x }
 
 -- the name whose length byte stands at d
 unfoldable pub againCalled : List ℕ → ℕ → Called
-againCalled lets d = cond (leb 4294967296 d) noName (record { letter = d + 1; letters = getD lets d 0; name = 65535 })
+againCalled lets d = cond (leb 4294967296 d) noName (record { letter = d + 1; letters = getD lets d 0; name = absent })
 
 -- a machine refused for the kind k, with the names a and b after its own
 abbrev pub refusedBy : ℕ → Called → Called → Judged
@@ -51,8 +52,8 @@ module _ (ns : List Name) (s t : List ℕ) where
   unfoldable pub outputsJ : ℕ → ℕ → ℕ → Judged
   outputsJ regions zero p = acceptedWith regions
   outputsJ regions (suc n) p =
-      cond (eqb (uncoveredT ns s t (numberIn s p .value) 8 0) 0) (outputsJ regions n (endOf (portIn ns s p)))
-      (refusedBy 4 (named (numberIn s p .value)) (stateCalled t (uncoveredT ns s t (numberIn s p .value) 8 0)))
+      cond (eqb (uncoveredT ns s t (numberIn s p .value) maxLevel 0) 0) (outputsJ regions n (endOf (portIn ns s p)))
+      (refusedBy 4 (named (numberIn s p .value)) (stateCalled t (uncoveredT ns s t (numberIn s p .value) maxLevel 0)))
 
   -- the outputs whose count stands at `at`
   unfoldable pub outputsAt : ℕ → ℕ → Judged
@@ -69,7 +70,7 @@ module _ (ns : List Name) (s t : List ℕ) where
   laidJ lets letters regions outputs =
       cond (eqb (getD t 6 0) 0) (refusedBy 1 noName noName)
       (cond (ltb (againAt (take letters lets)) letters) (refusedBy 5 (againCalled lets (againAt (take letters lets))) noName)
-      (checkedJ (checkedRegion ns s t 8 0) outputs regions))
+      (checkedJ (checkedRegion ns s t maxLevel 0) outputs regions))
 
 module _ (ns : List Name) (s spots to : List ℕ) where
   -- resolving comes first

@@ -6,6 +6,7 @@ use mathlib.Core.List.{List}
 use mathlib.Core.Bool.{cond, _&&_}
 use lib.ListN.{getD, set}
 use lib.Dec.{eqb, ltb}
+use Rattle.wire.specs.Bytes.{wordRange}
 
 -- a row of two cells: a mark, which tells whose it is and may hold one number more, and a value
 unfoldable pub markIn : List ℕ → ℕ → ℕ
@@ -16,7 +17,7 @@ valueIn t p = getD t (2 * (p / 5) + 1) 0
 
 -- a row more, where all fits a cell
 unfoldable pub rowPut : List ℕ → ℕ → ℕ → ℕ → List ℕ
-rowPut t p m v = cond (ltb p 65536 && (ltb m 65536 && ltb v 65536)) (set (set t (2 * (p / 5)) m) (2 * (p / 5) + 1) v) t
+rowPut t p m v = cond (ltb p wordRange && (ltb m wordRange && ltb v wordRange)) (set (set t (2 * (p / 5)) m) (2 * (p / 5) + 1) v) t
 
 -- the kinds of rows: an equation, by where it ends; a guard, by where it ends; the bytes before a region's states, by the first
 -- target that is none of them (its name's index, and 1), with how many states come before the one that has it; regions without states
@@ -39,7 +40,7 @@ rowMark p k x = p % 5 + k + 32 * x
 
 -- the value that is kept of the thing of the kind k at p; 0 where none is
 unfoldable pub keptIn : List ℕ → ℕ → ℕ → ℕ
-keptIn t p k = cond (ltb p 65536) (cond (eqb (markIn t p % 32) (p % 5 + k)) (valueIn t p) 0) 0
+keptIn t p k = cond (ltb p wordRange) (cond (eqb (markIn t p % 32) (p % 5 + k)) (valueIn t p) 0) 0
 
 -- and the number that its mark holds
 unfoldable pub besideIn : List ℕ → ℕ → ℕ

@@ -6,6 +6,7 @@ use mathlib.Core.Path.{_≡_}
 use lib.ListN.{length, getD}
 use Rattle.wire.specs.Answer.{value}
 use Rattle.wire.specs.Lists.{All, Bytes}
+use Rattle.wire.specs.Bytes.{wordRange}
 use Rattle.pack.specs.Names.{Name}
 use Rattle.pack.specs.Syntax.{Drawing}
 use Rattle.machine_rules.specs.Resolved.{States}
@@ -24,7 +25,7 @@ pub record PackOf (ns : List Name) (s old spots : List ℕ) : Type 0 where
   pub bytes : Bytes s
   pub legal : All LegalName ns
   pub fresh : Fresh [] ns
-  pub few : length ns < 65536
+  pub few : length ns < wordRange
   pub names : old ≡ tabled ns
   pub placed : (i : ℕ) → i < length ns → packName s spots i ≡ nameAt ns i
 
@@ -37,7 +38,7 @@ pub record ShownAt (ns : List Name) (s mats ats regs : List ℕ) (i : ℕ) (x : 
   pub fate : x .fate ≡ fateOf (drawing .owner) (asMachine drawing states)
   pub at : x .at ≡ getD ats i 0
   pub regions : suc (sizeS states) ≡ getD regs i 0
-  pub fewRegions : getD regs i 0 < 65536
+  pub fewRegions : getD regs i 0 < wordRange
 
 -- the machines from index i on
 unfoldable pub Shown : List Name → List ℕ → List ℕ → List ℕ → List ℕ → ℕ → List Share → Type 0

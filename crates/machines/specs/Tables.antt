@@ -7,6 +7,7 @@ use lib.Dec.{ltb}
 use Rattle.wire.specs.Answer.{counted}
 use Rattle.wire.specs.Code.{onward}
 use Rattle.wire.specs.declared.answer.Skipped.the-variants as sk
+use Rattle.wire.specs.Bytes.{wordRange}
 use Rattle.pack.specs.Names.{Name}
 use Rattle.pack.specs.Read.{optionalIn, portsIn, stateAt}
 use Rattle.pack.specs.Verdict.{offsetOf}
@@ -19,7 +20,7 @@ nextName s at = cond (ltb at (length s)) (at + 1 + getD s at 0) at
 -- n names from `at` on, the first of them with the index k
 unfoldable pub namesPlaced : List ℕ → ℕ → ℕ → ℕ → List ℕ → List ℕ
 namesPlaced s zero at k t = t
-namesPlaced s (suc n) at k t = namesPlaced s n (nextName s at) (k + 1) (set t k (at % 65536))
+namesPlaced s (suc n) at k t = namesPlaced s n (nextName s at) (k + 1) (set t k (at % wordRange))
 
 -- a name's length, by where it stands
 unfoldable pub lenOf : List ℕ → List ℕ → ℕ → ℕ
@@ -39,7 +40,7 @@ module _ (ns : List Name) (s : List ℕ) where
   -- n machines from `at` on
   unfoldable pub placedFrom : ℕ → ℕ → List ℕ → List ℕ
   placedFrom zero at t = t
-  placedFrom (suc n) at t = with (numberIn s at) λ i p. placedFrom n (statesEnd (initialIn p)) (set t i (initialIn p % 65536))
+  placedFrom (suc n) at t = with (numberIn s at) λ i p. placedFrom n (statesEnd (initialIn p)) (set t i (initialIn p % wordRange))
 
   -- the machines whose count stands at `at`
   unfoldable pub machinesPlaced : ℕ → List ℕ → List ℕ

@@ -7,7 +7,9 @@ use mathlib.Core.Bool.{Bool, false, true, cond, _&&_, _||_}
 use mathlib.Core.Path.{_≡_}
 use lib.ListN.{length, getD, set}
 use lib.Dec.{ltb}
+use Rattle.wire.specs.Bytes.{wordRange}
 use Rattle.pack.specs.Names.{Name}
+use Rattle.pack.specs.Limits.{maxLevel}
 use Rattle.machines.specs.Covers.{givesT, ownT, tells, uncoveredT}
 use Rattle.machines.specs.Kept.{regionsIn}
 
@@ -26,7 +28,7 @@ restRow p = 3 * (p / 10 % 256)
 
 -- a row more, where all fits a cell
 unfoldable pub restPut : List ℕ → ℕ → ℕ → ℕ → List ℕ
-restPut t p n q = cond (ltb p 65536 && (ltb n 65536 && ltb q 65536)) (set (set (set t (restRow p) p) (restRow p + 1) q) (restRow p + 2) n) t
+restPut t p n q = cond (ltb p wordRange && (ltb n wordRange && ltb q wordRange)) (set (set (set t (restRow p) p) (restRow p + 1) q) (restRow p + 2) n) t
 
 -- what one of n equations from q on gives, the state at p gives
 unfoldable pub RestOf : List ℕ → ℕ → ℕ → ℕ → ℕ → Type 0
@@ -39,7 +41,7 @@ pub record ToldRight (s : List ℕ) (names : ℕ) (ends told : List ℕ) : Type 
 
 -- each state of the layout t gives the output x
 unfoldable pub Given : List ℕ → ℕ → List ℕ → ℕ → Type 0
-Given s names t x = (ns : List Name) → length ns ≡ names → uncoveredT ns s t x 8 0 ≡ 0
+Given s names t x = (ns : List Name) → length ns ≡ names → uncoveredT ns s t x maxLevel 0 ≡ 0
 
 -- of the pack s with so many names and the layout t: what a cell says of the output whose name has its index
 pub record GivenRight (s : List ℕ) (names : ℕ) (t given : List ℕ) : Type 0 where

@@ -6,6 +6,7 @@ use mathlib.Core.Option.{Option, none, some}
 use mathlib.Core.Path.{_≡_}
 use lib.ListN.{length, getD}
 use Rattle.wire.specs.Answer.{value}
+use Rattle.wire.specs.Bytes.{wordRange}
 use Rattle.pack.specs.Limits.{absent}
 use Rattle.pack.specs.Names.{Name, member}
 use Rattle.pack.specs.Syntax.{Drawing, Package}
@@ -68,7 +69,7 @@ pub record AcceptedAs (ms : List Drawing) (d : Drawing) (x : Machine) (g : ℕ) 
   pub resolves : resolvedStates ms d ≡ went states count
   pub accepted : refusalOf x ≡ none
   pub regions : g ≡ suc (sizeS states)
-  pub few : g < 65536
+  pub few : g < wordRange
 
 -- what the table of regions tells of a drawing that was judged: 0 where it is refused
 unfoldable pub ToldOf : List Drawing → Drawing → Judged → ℕ → Type 0

@@ -16,8 +16,10 @@ ghost use mathlib.Core.Path.{_≡_};
 ghost use Prim.Native.Nat.{_≤_};
 ghost use lib.ListN.{length};
 ghost use Rattle.wire.specs.Writer.{stateOf};
+ghost use Rattle.wire.specs.Bytes.{wordRange};
 ghost use Rattle.pack.specs.Names.{Name};
 ghost use Rattle.pack.specs.Intern.{render};
+ghost use Rattle.pack.specs.Limits.{maxBytes};
 ghost use Rattle.machines.specs.NodeHeads.{nodeLocalsT, oldHeadT, newHeadT};
 
 // The locals of the node k: `own` ones that stand from `from` up to `to`, and those that n machines bring.
@@ -38,7 +40,7 @@ fn put_node_locals(
     made: &mut [u8],
     w: Writer,
 ) -> Writer
-    requires { ⌜ (length (now s) ≤ 65536) × (n ≤ 65536) ⌝ }
+    requires { ⌜ (length (now s) ≤ maxBytes) × (n ≤ wordRange) ⌝ }
     ensures { λ r. ⌜ ((ns : List Name) → length ns ≡ names → stateOf (now (out .exit)) (now (made .exit)) r ≡ render (now (old .entry)) (nodeLocalsT ns (now (s .entry)) (now (mats .entry)) (now (ats .entry)) (now (regs .entry)) (now (spots .entry)) n k own from to) (stateOf (now (out .entry)) (now (made .entry)) w)) ⌝ }
 {
     let o = small(own);
@@ -65,7 +67,7 @@ pub fn put_old_head(
     made: &mut [u8],
     w: Writer,
 ) -> Writer
-    requires { ⌜ (length (now s) ≤ 65536) × (n ≤ 65536) ⌝ }
+    requires { ⌜ (length (now s) ≤ maxBytes) × (n ≤ wordRange) ⌝ }
     ensures { λ r. ⌜ ((ns : List Name) → length ns ≡ names → stateOf (now (out .exit)) (now (made .exit)) r ≡ render (now (old .entry)) (oldHeadT ns (now (s .entry)) (now (mats .entry)) (now (ats .entry)) (now (regs .entry)) (now (spots .entry)) n k at) (stateOf (now (out .entry)) (now (made .entry)) w)) ⌝ }
 {
     let l = to_node_locals(s, names, at);
@@ -108,7 +110,7 @@ pub fn put_new_head(
     made: &mut [u8],
     w: Writer,
 ) -> Writer
-    requires { ⌜ (length (now s) ≤ 65536) × (n ≤ 65536) ⌝ }
+    requires { ⌜ (length (now s) ≤ maxBytes) × (n ≤ wordRange) ⌝ }
     ensures { λ r. ⌜ ((ns : List Name) → length ns ≡ names → stateOf (now (out .exit)) (now (made .exit)) r ≡ render (now (old .entry)) (newHeadT ns (now (s .entry)) (now (mats .entry)) (now (ats .entry)) (now (regs .entry)) (now (spots .entry)) n k at) (stateOf (now (out .entry)) (now (made .entry)) w)) ⌝ }
 {
     let m = number(s, at);

@@ -5,26 +5,30 @@ use crate::table::entry;
 use crate::table::to_outputs;
 use pack::check::reached;
 use pack::parts::then_ports;
+use pack::record::Pack;
 use wire::answer::Skipped;
+use wire::number::WORD_RANGE;
 ghost use mathlib.Core.List.{List};
 ghost use mathlib.Core.Path.{_≡_};
 ghost use Prim.Native.Nat.{ℕ, _-_, _*_, _<_, _≤_};
 ghost use lib.ListN.{length, getD};
+ghost use Rattle.wire.specs.Bytes.{wordRange};
 ghost use Rattle.pack.specs.Names.{Name};
 ghost use Rattle.pack.specs.Read.{portsIn};
+ghost use Rattle.pack.specs.Limits.{maxBytes};
 ghost use Rattle.machines.specs.Stands.{endOf};
 ghost use Rattle.machines.specs.Brought.{totalT, smallOf, madeOf, regionsT, ownedT, localsIn, equationCountT, localCountT, bringsEquationsT, bringsLocalsT};
 
-// A count of a pack: nothing from 65,536 on is looked at.
+// A count of a pack is a word: nothing larger is looked at.
 pub fn small(k: usize) -> usize
-    ensures { λ r. ⌜ (r < 65536) × (r ≡ smallOf k) ⌝ }
+    ensures { λ r. ⌜ (r < wordRange) × (r ≡ smallOf k) ⌝ }
 {
-    if k < 65536 { k } else { 0 }
+    if k < WORD_RANGE { k } else { 0 }
 }
 
 // How many of so many regions are below the top one.
 pub fn inner_count(regions: usize) -> usize
-    ensures { λ r. ⌜ (r < 65536) × (r ≡ smallOf regions - 1) ⌝ }
+    ensures { λ r. ⌜ (r < wordRange) × (r ≡ smallOf regions - 1) ⌝ }
 {
     let k = small(regions);
     if 0 < k { k - 1 } else { 0 }
@@ -41,7 +45,7 @@ fn made_count(regions: usize, own: usize) -> usize
 
 // Past ports, which stand after their count.
 pub fn after_ports(s: &[u8], names: usize, at: usize) -> usize
-    requires { ⌜ length (now s) ≤ 65536 ⌝ }
+    requires { ⌜ length (now s) ≤ maxBytes ⌝ }
     ensures { λ r. ⌜ ((ns : List Name) → length ns ≡ names → r ≡ endOf (portsIn ns (now (s .entry)) at)) ⌝ }
 {
     reached(then_ports(s, names, Skipped::To(at)))
@@ -49,7 +53,7 @@ pub fn after_ports(s: &[u8], names: usize, at: usize) -> usize
 
 // From a machine to its own locals.
 pub fn to_locals(s: &[u8], names: usize, at: usize) -> usize
-    requires { ⌜ length (now s) ≤ 65536 ⌝ }
+    requires { ⌜ length (now s) ≤ maxBytes ⌝ }
     ensures { λ r. ⌜ ((ns : List Name) → length ns ≡ names → r ≡ localsIn ns (now (s .entry)) at) ⌝ }
 {
     let m = number(s, at);
@@ -59,7 +63,7 @@ pub fn to_locals(s: &[u8], names: usize, at: usize) -> usize
 
 // How many equations a machine makes.
 pub fn equation_count(s: &[u8], names: usize, at: usize, regions: usize) -> usize
-    requires { ⌜ length (now s) ≤ 65536 ⌝ }
+    requires { ⌜ length (now s) ≤ maxBytes ⌝ }
     ensures { λ r. ⌜ (r < 1048576) × ((ns : List Name) → length ns ≡ names → r ≡ equationCountT ns (now (s .entry)) at regions) ⌝ }
 {
     let m = number(s, at);
@@ -70,7 +74,7 @@ pub fn equation_count(s: &[u8], names: usize, at: usize, regions: usize) -> usiz
 
 // How many locals it has in the end.
 pub fn local_count(s: &[u8], names: usize, at: usize, regions: usize) -> usize
-    requires { ⌜ length (now s) ≤ 65536 ⌝ }
+    requires { ⌜ length (now s) ≤ maxBytes ⌝ }
     ensures { λ r. ⌜ (r < 1048576) × ((ns : List Name) → length ns ≡ names → r ≡ localCountT ns (now (s .entry)) at regions) ⌝ }
 {
     let a = to_locals(s, names, at);
@@ -102,7 +106,7 @@ pub fn brings_equations(
     k: usize,
     i: usize,
 ) -> usize
-    requires { ⌜ length (now s) ≤ 65536 ⌝ }
+    requires { ⌜ length (now s) ≤ maxBytes ⌝ }
     ensures { λ r. ⌜ (r < 1048576) × ((ns : List Name) → length ns ≡ names → r ≡ bringsEquationsT ns (now (s .entry)) (now (mats .entry)) (now (ats .entry)) (now (regs .entry)) k i) ⌝ }
 {
     let a = entry(ats, i);
@@ -124,7 +128,7 @@ fn brings_locals(
     k: usize,
     i: usize,
 ) -> usize
-    requires { ⌜ length (now s) ≤ 65536 ⌝ }
+    requires { ⌜ length (now s) ≤ maxBytes ⌝ }
     ensures { λ r. ⌜ (r < 1048576) × ((ns : List Name) → length ns ≡ names → r ≡ bringsLocalsT ns (now (s .entry)) (now (mats .entry)) (now (ats .entry)) (now (regs .entry)) k i) ⌝ }
 {
     let a = entry(ats, i);
@@ -146,7 +150,7 @@ pub fn brought_equations(
     n: usize,
     k: usize,
 ) -> usize
-    requires { ⌜ (length (now s) ≤ 65536) × (n ≤ 65536) ⌝ }
+    requires { ⌜ (length (now s) ≤ maxBytes) × (n ≤ wordRange) ⌝ }
     ensures { λ r. ⌜ (r ≤ 1048576 * n) × ((ns : List Name) → length ns ≡ names → r ≡ totalT (bringsEquationsT ns (now (s .entry)) (now (mats .entry)) (now (ats .entry)) (now (regs .entry)) k) n 0) ⌝ }
 {
     let mut c = 0;
@@ -168,7 +172,7 @@ pub fn brought_locals(
     n: usize,
     k: usize,
 ) -> usize
-    requires { ⌜ (length (now s) ≤ 65536) × (n ≤ 65536) ⌝ }
+    requires { ⌜ (length (now s) ≤ maxBytes) × (n ≤ wordRange) ⌝ }
     ensures { λ r. ⌜ (r ≤ 1048576 * n) × ((ns : List Name) → length ns ≡ names → r ≡ totalT (bringsLocalsT ns (now (s .entry)) (now (mats .entry)) (now (ats .entry)) (now (regs .entry)) k) n 0) ⌝ }
 {
     let mut c = 0;
@@ -182,7 +186,7 @@ pub fn brought_locals(
 
 // How many regions the first n machines have.
 pub fn sum_of(regs: &[usize], n: usize) -> usize
-    requires { ⌜ n ≤ 65536 ⌝ }
+    requires { ⌜ n ≤ wordRange ⌝ }
     ensures { λ r. ⌜ (r ≤ 1048576 * n) × (r ≡ totalT (regionsT (now (regs .entry))) n 0) ⌝ }
 {
     let mut i = 0;
@@ -202,12 +206,12 @@ pub fn owned(s: &[u8], mats: &[usize], i: usize) -> usize
     let a = entry(mats, i);
     let m = number(s, a);
     let o = number(s, m.next);
-    if o.value == 65535 { 0 } else { 1 }
+    if o.value == Pack::ABSENT { 0 } else { 1 }
 }
 
 // How many of the first n machines have an owner.
 pub fn owned_count(s: &[u8], mats: &[usize], n: usize) -> usize
-    requires { ⌜ n ≤ 65536 ⌝ }
+    requires { ⌜ n ≤ wordRange ⌝ }
     ensures { λ r. ⌜ (r ≤ 1048576 * n) × (r ≡ totalT (ownedT (now (s .entry)) (now (mats .entry))) n 0) ⌝ }
 {
     let mut i = 0;

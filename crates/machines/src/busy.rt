@@ -1,10 +1,14 @@
 // The nodes to which machines go: at the others none is asked, and at one of them none before the first or after the last that goes there.
 use crate::table::entry;
+use wire::number::WORD_RANGE;
 use wire::writer::capped;
 ghost use mathlib.Core.Path.{_≡_};
 ghost use Prim.Native.Nat.{ℕ, _+_, _-_, _<_, _≤_};
 ghost use lib.ListN.{drop, getD};
-ghost use Rattle.machines.specs.Busy.{askedT, busyT, goesT, nearerT, nextBusyT};
+ghost use Rattle.machines.specs.Busy.{askedT, busyT, goesT, nearerT, nextBusyT, noNode};
+
+// Stands for no node: none has an index so large.
+pub const NO_NODE: usize = WORD_RANGE;
 
 // The lesser of two goals, where a is not before k.
 pub fn nearer(k: usize, a: usize, b: usize) -> usize
@@ -16,12 +20,12 @@ pub fn nearer(k: usize, a: usize, b: usize) -> usize
     if a < b { a } else { b }
 }
 
-// The first node from k on to which one of n machines goes, 65,536 where there is none.
+// The first node from k on to which one of n machines goes, `NO_NODE` where there is none.
 fn busy(ats: &[usize], n: usize, k: usize) -> usize
-    ensures { λ r. ⌜ r ≡ busyT (goesT (now (ats .entry))) k n 0 65536 ⌝ }
+    ensures { λ r. ⌜ r ≡ busyT (goesT (now (ats .entry))) k n 0 noNode ⌝ }
 {
     let mut i = 0;
-    let mut b = 65536;
+    let mut b = NO_NODE;
     while i < n {
         let a = entry(ats, i);
         b = nearer(k, a, b);

@@ -25,7 +25,7 @@ ghost use mathlib.Core.List.{List, _++_};
 ghost use mathlib.Core.Path.{_≡_};
 ghost use Prim.Native.Nat.{ℕ, _-_, _≤_};
 ghost use lib.ListN.{length};
-ghost use Rattle.wire.specs.Bytes.{two};
+ghost use Rattle.wire.specs.Bytes.{two, wordRange};
 ghost use Rattle.pack.specs.Names.{Name};
 ghost use Rattle.pack.specs.Syntax.{Package};
 ghost use Rattle.pack.specs.Write.{Item};
@@ -33,6 +33,7 @@ ghost use Rattle.pack.specs.Table.{tabled};
 ghost use Rattle.pack.specs.Intern.{render, table, unwritten};
 ghost use Rattle.pack.specs.Outcome.{Gives, answered, outputOf, reportOf, reported, returned};
 ghost use Rattle.pack.specs.Verdict.{Stands};
+ghost use Rattle.pack.specs.Limits.{maxBytes};
 ghost use Rattle.machines.specs.Ends.{Blank, EndsRight, KeptRight};
 ghost use Rattle.machines.specs.Laid.{sliceOf};
 ghost use Rattle.machines.specs.Brought.{totalT};
@@ -59,7 +60,7 @@ fn fill_tables(
     ats: &mut [usize],
     regs: &mut [usize],
 ) -> usize
-    requires { ⌜ (length (now s) ≤ 65536) × Long (now t) (now reg) (now lets) × Blank (now ends) ⌝ }
+    requires { ⌜ (length (now s) ≤ maxBytes) × Long (now t) (now reg) (now lets) × Blank (now ends) ⌝ }
     ensures { λ r. ⌜ ((ns : List Name) → length ns ≡ k .names → Filled ns (now (s .entry)) k (now (spots .entry)) (now (to .entry)) (now (nodes .entry)) (now (mats .entry)) (now (ats .entry)) (now (regs .entry)) (now (spots .exit)) (now (to .exit)) (now (nodes .exit)) (now (mats .exit)) (now (ats .exit)) (now (regs .exit))) ⌝ }
     ensures { λ r. ⌜ r ≡ totalT (refusedT (now (ats .exit))) (machineCount (now (s .entry)) k) 0 ⌝ }
     ensures { λ r. ⌜ KeptRight (now (s .entry)) (k .names) (now (spots .exit)) (now (ends .exit)) ⌝ }
@@ -107,7 +108,7 @@ fn report_all(
     refused: usize,
     report: &mut [u8],
 ) -> Outcome
-    requires { ⌜ (length (now s) ≤ 65536) × Long (now t) (now reg) (now lets) × (n ≤ 65536) × Reports (now s) (now spots) (now to) (now mats) (now regs) (now ats) names n × KeptRight (now s) names (now spots) (now ends) ⌝ }
+    requires { ⌜ (length (now s) ≤ maxBytes) × Long (now t) (now reg) (now lets) × (n ≤ wordRange) × Reports (now s) (now spots) (now to) (now mats) (now regs) (now ats) names n × KeptRight (now s) names (now spots) (now ends) ⌝ }
     ensures { λ r. ⌜ ((ns : List Name) → length ns ≡ names → (es : ℕ → List ℕ) → EntersAll ns (now (s .entry)) (now (spots .entry)) (now (to .entry)) (now (mats .entry)) (now (regs .entry)) (now (ats .entry)) n es → (output : List ℕ) → Answers (reported (length (now (report .entry))) (two refused ++ bytesT (ofRefused (now (ats .entry)) es) n 0)) (r .number) (r .value) output output (now (report .entry)) (now (report .exit))) ⌝ }
 {
     let b = report_len(s, names, spots, to, ends, t, reg, lets, mats, ats, regs, n);
@@ -155,7 +156,7 @@ fn write_all(
     n: usize,
     output: &mut [u8],
 ) -> Outcome
-    requires { ⌜ (length (now s) ≤ 65536) × (n ≤ 65536) × Long (now t) (now reg) (now lets) × EndsRight (now s) (k .names) (now ends) ⌝ }
+    requires { ⌜ (length (now s) ≤ maxBytes) × (n ≤ wordRange) × Long (now t) (now reg) (now lets) × EndsRight (now s) (k .names) (now ends) ⌝ }
     ensures { λ r. ⌜ ((ns : List Name) → length ns ≡ k .names → (old : List ℕ) → old ≡ tabled (table (sliceOf (now (s .entry)) 2 (k .enums - 2))) → (eqs ens : ℕ → List Item) → AllWrite old (equationsAt ns (now (s .entry)) (now (spots .entry)) (now (to .entry))) (now (mats .entry)) n eqs → AllWrite old (enumsAt ns (now (s .entry)) (now (spots .entry)) (now (to .entry))) (now (mats .entry)) n ens → Gives (answered (length (now (output .entry))) (sliceOf (now (s .entry)) 2 (k .enums - 2)) (render old (sectionsT ns (now (s .entry)) (now (mats .entry)) (now (ats .entry)) (now (regs .entry)) (now (spots .entry)) n eqs ens k) unwritten)) (r .number) (r .value) (now (output .entry)) (now (output .exit))) ⌝ }
 {
     let mut out = [0u8; Pack::BYTES];
@@ -200,7 +201,7 @@ fn write_apart(
     n: usize,
     output: &mut [u8],
 ) -> Outcome
-    requires { ⌜ (length (now s) ≤ 65536) × (n ≤ 65536) × Long (now t) (now reg) (now lets) × EndsRight (now s) (k .names) (now ends) ⌝ }
+    requires { ⌜ (length (now s) ≤ maxBytes) × (n ≤ wordRange) × Long (now t) (now reg) (now lets) × EndsRight (now s) (k .names) (now ends) ⌝ }
     ensures { λ r. ⌜ ((ns : List Name) → length ns ≡ k .names → (old : List ℕ) → old ≡ tabled (table (sliceOf (now (s .entry)) 2 (k .enums - 2))) → (eqs ens : ℕ → List Item) → AllWrite old (equationsAt ns (now (s .entry)) (now (spots .entry)) (now (to .entry))) (now (mats .entry)) n eqs → AllWrite old (enumsAt ns (now (s .entry)) (now (spots .entry)) (now (to .entry))) (now (mats .entry)) n ens → Gives (answered (length (now (output .entry))) (sliceOf (now (s .entry)) 2 (k .enums - 2)) (render old (sectionsT ns (now (s .entry)) (now (mats .entry)) (now (ats .entry)) (now (regs .entry)) (now (spots .entry)) n eqs ens k) unwritten)) (r .number) (r .value) (now (output .entry)) (now (output .exit))) ⌝ }
 {
     if Pack::BYTES < s.len() {
@@ -258,7 +259,7 @@ fn lower_opened(
     output: &mut [u8],
     report: &mut [u8],
 ) -> Outcome
-    requires { ⌜ (length (now s) ≤ 65536) × Long (now t) (now reg) (now lets) × Empty (now spots) (now to) (now nodes) (now mats) (now ats) (now regs) × OpenedAs (now s) k × Blank (now ends) ⌝ }
+    requires { ⌜ (length (now s) ≤ maxBytes) × Long (now t) (now reg) (now lets) × Empty (now spots) (now to) (now nodes) (now mats) (now ats) (now regs) × OpenedAs (now s) k × Blank (now ends) ⌝ }
     ensures { λ r. ⌜ ((p : Package) → Stands (now (s .entry)) k p → Answers (machinesOf (length (now (output .entry))) (length (now (report .entry))) p) (r .number) (r .value) (now (output .entry)) (now (output .exit)) (now (report .entry)) (now (report .exit))) ⌝ }
 {
     let names = k.names;
@@ -300,10 +301,10 @@ fn lower_opened(
     )
 }
 
-// The scratch of a call: a pack of 65,536 bytes has at most 32,767 names, 5,957 nodes and 4,681 machines; the layout of
-// a machine is bounded by its 512 states.
+// The scratch of a call: a pack as long as may be has at most 32,767 names, 5,957 nodes and 4,681 machines; the layout of
+// a machine is bounded by the limit of its states.
 fn lower_whole(s: &[u8], k: Pack, output: &mut [u8], report: &mut [u8]) -> Outcome
-    requires { ⌜ (length (now s) ≤ 65536) × OpenedAs (now s) k ⌝ }
+    requires { ⌜ (length (now s) ≤ maxBytes) × OpenedAs (now s) k ⌝ }
     ensures { λ r. ⌜ ((p : Package) → Stands (now (s .entry)) k p → Answers (machinesOf (length (now (output .entry))) (length (now (report .entry))) p) (r .number) (r .value) (now (output .entry)) (now (output .exit)) (now (report .entry)) (now (report .exit))) ⌝ }
 {
     let mut spots = [0u16; 32768];
@@ -337,7 +338,7 @@ fn lower_whole(s: &[u8], k: Pack, output: &mut [u8], report: &mut [u8]) -> Outco
 // The same, kept apart: a function that calls itself is not inlined, so that the tables of a call and those of the check do not
 // stand on the stack at once. No pack is longer than the check allows.
 fn lower_apart(s: &[u8], k: Pack, output: &mut [u8], report: &mut [u8]) -> Outcome
-    requires { ⌜ (length (now s) ≤ 65536) × OpenedAs (now s) k ⌝ }
+    requires { ⌜ (length (now s) ≤ maxBytes) × OpenedAs (now s) k ⌝ }
     ensures { λ r. ⌜ ((p : Package) → Stands (now (s .entry)) k p → Answers (machinesOf (length (now (output .entry))) (length (now (report .entry))) p) (r .number) (r .value) (now (output .entry)) (now (output .exit)) (now (report .entry)) (now (report .exit))) ⌝ }
 {
     if Pack::BYTES < s.len() {
@@ -352,7 +353,7 @@ fn lower_apart(s: &[u8], k: Pack, output: &mut [u8], report: &mut [u8]) -> Outco
 
 // A pack that was opened. One without machines stays as it is, and needs no scratch.
 fn lower_checked(s: &[u8], k: Pack, output: &mut [u8], report: &mut [u8]) -> Outcome
-    requires { ⌜ (length (now s) ≤ 65536) × OpenedAs (now s) k ⌝ }
+    requires { ⌜ (length (now s) ≤ maxBytes) × OpenedAs (now s) k ⌝ }
     ensures { λ r. ⌜ Answers (lowerMachines (now (s .entry)) (length (now (output .entry))) (length (now (report .entry)))) (r .number) (r .value) (now (output .entry)) (now (output .exit)) (now (report .entry)) (now (report .exit)) ⌝ }
 {
     let m = number(s, k.machines);

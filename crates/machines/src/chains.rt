@@ -20,6 +20,7 @@ ghost use lib.ListN.{length, getD};
 ghost use Rattle.wire.specs.Writer.{stateOf};
 ghost use Rattle.pack.specs.Names.{Name};
 ghost use Rattle.pack.specs.Intern.{render};
+ghost use Rattle.pack.specs.Limits.{maxBytes};
 ghost use Rattle.machines.specs.Emits.{moveT, movesT, transitionsT, testT, chainT};
 
 // One transition, whose guard stands from `at` to e: where it holds, the target x.
@@ -61,7 +62,7 @@ fn put_moves(
     made: &mut [u8],
     w: Writer,
 ) -> Writer
-    requires { ⌜ length (now s) ≤ 65536 ⌝ }
+    requires { ⌜ length (now s) ≤ maxBytes ⌝ }
     ensures { λ r. ⌜ ((ns : List Name) → length ns ≡ names → stateOf (now (out .exit)) (now (made .exit)) r ≡ render (now (old .entry)) (movesT (now (s .entry)) (now (spots .entry)) (now (t .entry)) (now (lets .entry)) ns q count from) (stateOf (now (out .entry)) (now (made .entry)) w)) ⌝ }
 {
     let id = word(t, q, 5);
@@ -92,7 +93,7 @@ pub fn put_transitions(
     made: &mut [u8],
     w: Writer,
 ) -> Writer
-    requires { ⌜ length (now s) ≤ 65536 ⌝ }
+    requires { ⌜ length (now s) ≤ maxBytes ⌝ }
     ensures { λ r. ⌜ ((ns : List Name) → length ns ≡ names → stateOf (now (out .exit)) (now (made .exit)) r ≡ render (now (old .entry)) (transitionsT (now (s .entry)) (now (spots .entry)) (now (t .entry)) (now (lets .entry)) ns q p) (stateOf (now (out .entry)) (now (made .entry)) w)) ⌝ }
 {
     let at = word(t, p, 1);
@@ -145,7 +146,7 @@ pub fn put_next_chain(
     made: &mut [u8],
     w: Writer,
 ) -> Writer
-    requires { ⌜ length (now s) ≤ 65536 ⌝ }
+    requires { ⌜ length (now s) ≤ maxBytes ⌝ }
     ensures { λ r. ⌜ ((ns : List Name) → length ns ≡ names → stateOf (now (out .exit)) (now (made .exit)) r ≡ render (now (old .entry)) (chainT (now (s .entry)) (now (spots .entry)) (now (t .entry)) (now (lets .entry)) ns q (getD (now (t .entry)) (q + 6) 0) (q + 9)) (stateOf (now (out .entry)) (now (made .entry)) w)) ⌝ }
 {
     let mut v = w;

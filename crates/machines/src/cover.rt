@@ -11,6 +11,7 @@ ghost use mathlib.Core.Path.{_≡_};
 ghost use Prim.Native.Nat.{_≤_};
 ghost use lib.ListN.{length};
 ghost use Rattle.pack.specs.Names.{Name};
+ghost use Rattle.pack.specs.Limits.{maxBytes};
 ghost use Rattle.machines.specs.Ends.{EndsRight};
 ghost use Rattle.machines.specs.Covers.{missT, uncoveredT};
 ghost use Rattle.machines.specs.Told.{ToldRight};
@@ -27,7 +28,7 @@ fn uncovered_state(
     levels: usize,
     p: usize,
 ) -> usize
-    requires { ⌜ (length (now s) ≤ 65536) × EndsRight (now s) names (now ends) × ToldRight (now s) names (now ends) (now told) ⌝ }
+    requires { ⌜ (length (now s) ≤ maxBytes) × EndsRight (now s) names (now ends) × ToldRight (now s) names (now ends) (now told) ⌝ }
     ensures { λ r. ⌜ ((ns : List Name) → length ns ≡ names → r ≡ missT ns (now (s .entry)) (now (t .entry)) out (uncoveredT ns (now (s .entry)) (now (t .entry)) out levels) p) ⌝ }
     ensures { λ _. ⌜ ToldRight (now (s .entry)) names (now (ends .entry)) (now (told .exit)) ⌝ }
 {
@@ -63,7 +64,7 @@ pub fn uncovered_region(
     levels: usize,
     q: usize,
 ) -> usize
-    requires { ⌜ (length (now s) ≤ 65536) × EndsRight (now s) names (now ends) × ToldRight (now s) names (now ends) (now told) ⌝ }
+    requires { ⌜ (length (now s) ≤ maxBytes) × EndsRight (now s) names (now ends) × ToldRight (now s) names (now ends) (now told) ⌝ }
     ensures { λ r. ⌜ ((ns : List Name) → length ns ≡ names → r ≡ uncoveredT ns (now (s .entry)) (now (t .entry)) out levels q) ⌝ }
     ensures { λ _. ⌜ ToldRight (now (s .entry)) names (now (ends .entry)) (now (told .exit)) ⌝ }
 {

@@ -9,8 +9,10 @@ use crate::opening::region_from;
 use crate::sure::Num;
 use crate::sure::both;
 use crate::sure::region;
+use wire::number::WORD_RANGE;
 ghost use mathlib.Core.Path.{_≡_};
 ghost use Prim.Native.Nat.{_<_};
+ghost use Rattle.wire.specs.Bytes.{wordRange};
 ghost use Rattle.machines.specs.Empties.{AtOnce, EmptyRun, emptyAt, openedOf, takenOf};
 
 // How many there are, and the longest name of their initial states.
@@ -68,7 +70,7 @@ pub fn at_once(ends: &[u16], n: usize, at: usize) -> usize
     if n < k {
         return 1;
     }
-    if 65536 <= k {
+    if WORD_RANGE <= k {
         return 1;
     }
     k
@@ -76,7 +78,7 @@ pub fn at_once(ends: &[u16], n: usize, at: usize) -> usize
 
 // The k regions from `at` on that resolving passes at once.
 pub fn take_regions(s: &[u8], spots: &[u16], ends: &[u16], k: usize, at: usize) -> Taken
-    requires { ⌜ (k < 65536) × (1 < k → at < 65536) ⌝ }
+    requires { ⌜ (k < wordRange) × (1 < k → at < wordRange) ⌝ }
     ensures { λ r. ⌜ r ≡ takenOf (now (s .entry)) (now (spots .entry)) (now (ends .entry)) k at ⌝ }
 {
     if k < 2 {
@@ -96,7 +98,7 @@ pub fn take_regions(s: &[u8], spots: &[u16], ends: &[u16], k: usize, at: usize) 
 
 // The k regions from `at` on that laying out passes at once.
 pub fn open_regions(s: &[u8], k: usize, at: usize) -> Opening
-    requires { ⌜ (k < 65536) × (1 < k → at < 65536) ⌝ }
+    requires { ⌜ (k < wordRange) × (1 < k → at < wordRange) ⌝ }
     ensures { λ r. ⌜ r ≡ openedOf (now (s .entry)) k at ⌝ }
 {
     if k < 2 {

@@ -20,6 +20,7 @@ ghost use lib.ListN.{length};
 ghost use Rattle.wire.specs.Answer.{counted};
 ghost use Rattle.pack.specs.Names.{Name};
 ghost use Rattle.pack.specs.Read.{equationIn, exprIn, stateAt};
+ghost use Rattle.pack.specs.Limits.{maxBytes};
 ghost use Rattle.machines.specs.Stands.{endOf, overIn};
 ghost use Rattle.machines.specs.Lays.{movesAt, regionsAt};
 ghost use Rattle.machines.specs.Ends.{EndsRight};
@@ -32,7 +33,7 @@ pub struct Inside {
 
 // Past the equation at `at`.
 pub fn end_of(s: &[u8], names: usize, ends: &[u16], at: usize) -> usize
-    requires { ⌜ (length (now s) ≤ 65536) × EndsRight (now s) names (now ends) ⌝ }
+    requires { ⌜ (length (now s) ≤ maxBytes) × EndsRight (now s) names (now ends) ⌝ }
     ensures { λ r. ⌜ ((ns : List Name) → length ns ≡ names → r ≡ endOf (equationIn ns (now (s .entry)) at)) ⌝ }
 {
     let e = kept(ends, at, EQUATION);
@@ -44,7 +45,7 @@ pub fn end_of(s: &[u8], names: usize, ends: &[u16], at: usize) -> usize
 
 // Past the guard at `at`.
 pub fn guard_end(s: &[u8], names: usize, ends: &[u16], at: usize) -> usize
-    requires { ⌜ (length (now s) ≤ 65536) × EndsRight (now s) names (now ends) ⌝ }
+    requires { ⌜ (length (now s) ≤ maxBytes) × EndsRight (now s) names (now ends) ⌝ }
     ensures { λ r. ⌜ ((ns : List Name) → length ns ≡ names → r ≡ endOf (exprIn ns (now (s .entry)) at)) ⌝ }
 {
     let e = kept(ends, at, GUARD);
@@ -56,7 +57,7 @@ pub fn guard_end(s: &[u8], names: usize, ends: &[u16], at: usize) -> usize
 
 // Where the transitions of the state at `at` begin.
 pub fn moves_of(s: &[u8], names: usize, ends: &[u16], at: usize) -> usize
-    requires { ⌜ (length (now s) ≤ 65536) × EndsRight (now s) names (now ends) ⌝ }
+    requires { ⌜ (length (now s) ≤ maxBytes) × EndsRight (now s) names (now ends) ⌝ }
     ensures { λ r. ⌜ ((ns : List Name) → length ns ≡ names → r ≡ movesAt ns (now (s .entry)) at) ⌝ }
 {
     let r = kept_regions(ends, at);
@@ -69,7 +70,7 @@ pub fn moves_of(s: &[u8], names: usize, ends: &[u16], at: usize) -> usize
 
 // What is inside the state at `at`, by one look.
 pub fn inside_of(s: &[u8], names: usize, ends: &[u16], at: usize) -> Inside
-    requires { ⌜ (length (now s) ≤ 65536) × EndsRight (now s) names (now ends) ⌝ }
+    requires { ⌜ (length (now s) ≤ maxBytes) × EndsRight (now s) names (now ends) ⌝ }
     ensures { λ r. ⌜ ((ns : List Name) → length ns ≡ names → (r .moves ≡ movesAt ns (now (s .entry)) at) × (r .regions ≡ regionsAt ns (now (s .entry)) at)) ⌝ }
 {
     let r = kept_regions(ends, at);
@@ -85,7 +86,7 @@ pub fn inside_of(s: &[u8], names: usize, ends: &[u16], at: usize) -> Inside
 
 // Past the state at `at`.
 pub fn past_of(s: &[u8], names: usize, ends: &[u16], at: usize) -> usize
-    requires { ⌜ (length (now s) ≤ 65536) × EndsRight (now s) names (now ends) ⌝ }
+    requires { ⌜ (length (now s) ≤ maxBytes) × EndsRight (now s) names (now ends) ⌝ }
     ensures { λ r. ⌜ ((ns : List Name) → length ns ≡ names → r ≡ overIn ns (now (s .entry)) at) ⌝ }
 {
     let r = kept_regions(ends, at);
@@ -97,7 +98,7 @@ pub fn past_of(s: &[u8], names: usize, ends: &[u16], at: usize) -> usize
 
 // Past the states whose count stands at `at`.
 pub fn past_states(s: &[u8], names: usize, ends: &[u16], at: usize) -> usize
-    requires { ⌜ (length (now s) ≤ 65536) × EndsRight (now s) names (now ends) ⌝ }
+    requires { ⌜ (length (now s) ≤ maxBytes) × EndsRight (now s) names (now ends) ⌝ }
     ensures { λ r. ⌜ ((ns : List Name) → length ns ≡ names → r ≡ endOf (counted (stateAt ns (now (s .entry))) (now (s .entry)) at)) ⌝ }
 {
     let c = number(s, at);

@@ -15,6 +15,7 @@ ghost use mathlib.Core.Path.{_≡_};
 ghost use Prim.Native.Nat.{_+_, _≤_};
 ghost use lib.ListN.{length, getD};
 ghost use Rattle.pack.specs.Names.{Name};
+ghost use Rattle.pack.specs.Limits.{maxBytes};
 ghost use Rattle.machines.specs.Ends.{EndsRight};
 ghost use Rattle.machines.specs.Valid.{onward as onwardOf, rowDrawn, rowsDrawn, unknown, AllForeseen};
 
@@ -28,7 +29,7 @@ pub struct Foreseen {
 
 // Whether the row at the word p is that of the state drawn at `at`.
 fn row_drawn(s: &[u8], names: usize, ends: &[u16], t: &[usize], p: usize, at: usize) -> bool
-    requires { ⌜ (length (now s) ≤ 65536) × EndsRight (now s) names (now ends) ⌝ }
+    requires { ⌜ (length (now s) ≤ maxBytes) × EndsRight (now s) names (now ends) ⌝ }
     ensures { λ r. ⌜ ((ns : List Name) → length ns ≡ names → r ≡ rowDrawn ns (now (s .entry)) (now (t .entry)) p at) ⌝ }
 {
     if entry(t, p) == at {
@@ -48,7 +49,7 @@ fn rows_drawn(
     from: usize,
     f: usize,
 ) -> bool
-    requires { ⌜ (length (now s) ≤ 65536) × EndsRight (now s) names (now ends) ⌝ }
+    requires { ⌜ (length (now s) ≤ maxBytes) × EndsRight (now s) names (now ends) ⌝ }
     ensures { λ r. ⌜ ((ns : List Name) → length ns ≡ names → r ≡ rowsDrawn ns (now (s .entry)) (now (t .entry)) count from f) ⌝ }
 {
     let mut n = count;
@@ -79,7 +80,7 @@ fn nothing_known() -> Foreseen
 
 // What is kept of the states of the region at the word q, where they are those of a drawn region.
 pub fn foresee(s: &[u8], names: usize, ends: &[u16], t: &[usize], q: usize) -> Foreseen
-    requires { ⌜ (length (now s) ≤ 65536) × EndsRight (now s) names (now ends) ⌝ }
+    requires { ⌜ (length (now s) ≤ maxBytes) × EndsRight (now s) names (now ends) ⌝ }
     ensures { λ r. ⌜ AllForeseen (now (s .entry)) names (now (t .entry)) r q (getD (now (t .entry)) (q + 6) 0) (q + 9) ⌝ }
 {
     let n = word(t, q, 6);

@@ -11,6 +11,7 @@ ghost use mathlib.Core.Path.{_≡_};
 ghost use Prim.Native.Nat.{_≤_};
 ghost use lib.ListN.{length};
 ghost use Rattle.pack.specs.Names.{Name};
+ghost use Rattle.pack.specs.Limits.{maxBytes};
 ghost use Rattle.machines.specs.Walks.{lenAt, maxOf, targetT, headT};
 ghost use Rattle.machines.specs.Lays.{movesAt};
 ghost use Rattle.machines.specs.Ends.{EndsRight, KeptRight};
@@ -32,7 +33,7 @@ pub fn len_at(s: &[u8], spots: &[u16], at: usize) -> usize
 
 // A transition: its target's length.
 fn target_len(s: &[u8], names: usize, spots: &[u16], ends: &[u16], at: usize) -> Num
-    requires { ⌜ (length (now s) ≤ 65536) × EndsRight (now s) names (now ends) ⌝ }
+    requires { ⌜ (length (now s) ≤ maxBytes) × EndsRight (now s) names (now ends) ⌝ }
     ensures { λ r. ⌜ ((ns : List Name) → length ns ≡ names → r ≡ targetT ns (now (s .entry)) (now (spots .entry)) at) ⌝ }
 {
     let i = number(s, guard_end(s, names, ends, at));
@@ -44,7 +45,7 @@ fn target_len(s: &[u8], names: usize, spots: &[u16], ends: &[u16], at: usize) ->
 
 // The head of the state at `at`, whose transitions begin at m: the longest name, and where its regions' count stands.
 pub fn read_head(s: &[u8], names: usize, spots: &[u16], ends: &[u16], at: usize, m: usize) -> Num
-    requires { ⌜ (length (now s) ≤ 65536) × EndsRight (now s) names (now ends) ⌝ }
+    requires { ⌜ (length (now s) ≤ maxBytes) × EndsRight (now s) names (now ends) ⌝ }
     ensures { λ r. ⌜ ((ns : List Name) → length ns ≡ names → m ≡ movesAt ns (now (s .entry)) at → r ≡ headT ns (now (s .entry)) (now (spots .entry)) at) ⌝ }
 {
     let i = number(s, at);
@@ -63,7 +64,7 @@ pub fn read_head(s: &[u8], names: usize, spots: &[u16], ends: &[u16], at: usize,
 
 // The same, looked up where it is kept.
 pub fn head(s: &[u8], names: usize, spots: &[u16], ends: &[u16], at: usize) -> Num
-    requires { ⌜ (length (now s) ≤ 65536) × KeptRight (now s) names (now spots) (now ends) ⌝ }
+    requires { ⌜ (length (now s) ≤ maxBytes) × KeptRight (now s) names (now spots) (now ends) ⌝ }
     ensures { λ r. ⌜ ((ns : List Name) → length ns ≡ names → r ≡ headT ns (now (s .entry)) (now (spots .entry)) at) ⌝ }
 {
     let r = kept_regions(ends, at);

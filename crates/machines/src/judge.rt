@@ -24,6 +24,7 @@ ghost use mathlib.Core.Path.{_≡_};
 ghost use Prim.Native.Nat.{_≤_};
 ghost use lib.ListN.{length};
 ghost use Rattle.pack.specs.Names.{Name};
+ghost use Rattle.pack.specs.Limits.{maxBytes, maxLevel};
 ghost use Rattle.machines.specs.Covers.{uncoveredT};
 ghost use Rattle.machines.specs.Ends.{EndsRight, KeptRight};
 ghost use Rattle.machines.specs.Told.{GivenRight, ToldRight};
@@ -36,7 +37,7 @@ pub fn no_name() -> Called
     Called {
         letter: 0,
         letters: 0,
-        name: 65535,
+        name: Pack::ABSENT,
     }
 }
 
@@ -70,7 +71,7 @@ fn state_called(t: &[usize], p: usize) -> Called
     Called {
         letter: word(t, p, 2),
         letters: word(t, p, 3),
-        name: 65535,
+        name: Pack::ABSENT,
     }
 }
 
@@ -96,7 +97,7 @@ fn again_called(lets: &[u8], d: usize) -> Called
     Called {
         letter: d + 1,
         letters: n,
-        name: 65535,
+        name: Pack::ABSENT,
     }
 }
 
@@ -111,8 +112,8 @@ fn uncovered_output(
     given: &mut [u8],
     x: usize,
 ) -> usize
-    requires { ⌜ (length (now s) ≤ 65536) × EndsRight (now s) names (now ends) × ToldRight (now s) names (now ends) (now told) × GivenRight (now s) names (now t) (now given) ⌝ }
-    ensures { λ r. ⌜ ((ns : List Name) → length ns ≡ names → r ≡ uncoveredT ns (now (s .entry)) (now (t .entry)) x 8 0) ⌝ }
+    requires { ⌜ (length (now s) ≤ maxBytes) × EndsRight (now s) names (now ends) × ToldRight (now s) names (now ends) (now told) × GivenRight (now s) names (now t) (now given) ⌝ }
+    ensures { λ r. ⌜ ((ns : List Name) → length ns ≡ names → r ≡ uncoveredT ns (now (s .entry)) (now (t .entry)) x maxLevel 0) ⌝ }
     ensures { λ _. ⌜ ToldRight (now (s .entry)) names (now (ends .entry)) (now (told .exit)) ⌝ }
     ensures { λ _. ⌜ GivenRight (now (s .entry)) names (now (t .entry)) (now (given .exit)) ⌝ }
 {
@@ -139,7 +140,7 @@ fn judge_outputs(
     from: usize,
     regions: usize,
 ) -> Judged
-    requires { ⌜ (length (now s) ≤ 65536) × EndsRight (now s) names (now ends) ⌝ }
+    requires { ⌜ (length (now s) ≤ maxBytes) × EndsRight (now s) names (now ends) ⌝ }
     ensures { λ r. ⌜ ((ns : List Name) → length ns ≡ names → r ≡ outputsJ ns (now (s .entry)) (now (t .entry)) regions count from) ⌝ }
 {
     let mut told = [0u16; TOLD];
@@ -173,7 +174,7 @@ fn judge_checked(
     outputs: usize,
     regions: usize,
 ) -> Judged
-    requires { ⌜ (length (now s) ≤ 65536) × EndsRight (now s) names (now ends) ⌝ }
+    requires { ⌜ (length (now s) ≤ maxBytes) × EndsRight (now s) names (now ends) ⌝ }
     ensures { λ r. ⌜ ((ns : List Name) → length ns ≡ names → r ≡ checkedJ ns (now (s .entry)) (now (t .entry)) c outputs regions) ⌝ }
 {
     match c {
@@ -201,7 +202,7 @@ fn judge_laid(
     regions: usize,
     outputs: usize,
 ) -> Judged
-    requires { ⌜ (length (now s) ≤ 65536) × EndsRight (now s) names (now ends) ⌝ }
+    requires { ⌜ (length (now s) ≤ maxBytes) × EndsRight (now s) names (now ends) ⌝ }
     ensures { λ r. ⌜ ((ns : List Name) → length ns ≡ names → r ≡ laidJ ns (now (s .entry)) (now (t .entry)) (now (lets .entry)) letters regions outputs) ⌝ }
 {
     if entry(t, 6) == 0 {
@@ -227,7 +228,7 @@ pub fn judge(
     lets: &mut [u8],
     at: usize,
 ) -> Judged
-    requires { ⌜ (length (now s) ≤ 65536) × KeptRight (now s) names (now spots) (now ends) ⌝ }
+    requires { ⌜ (length (now s) ≤ maxBytes) × KeptRight (now s) names (now spots) (now ends) ⌝ }
     ensures { λ r. ⌜ ((ns : List Name) → length ns ≡ names → r ≡ judgeAt ns (now (s .entry)) (now (spots .entry)) (now (to .entry)) at (now (t .entry)) (now (reg .entry)) (now (lets .entry))) ⌝ }
     ensures { λ r. ⌜ ((ns : List Name) → length ns ≡ names → now (lets .exit) ≡ boardAt ns (now (s .entry)) (now (spots .entry)) (now (to .entry)) at (now (t .entry)) (now (reg .entry)) (now (lets .entry)) .lets) ⌝ }
 {

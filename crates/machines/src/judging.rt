@@ -9,13 +9,14 @@ ghost use mathlib.Core.Path.{_≡_};
 ghost use Prim.Native.Nat.{ℕ, _<_, _≤_};
 ghost use lib.ListN.{length};
 ghost use Rattle.pack.specs.Names.{Name};
+ghost use Rattle.pack.specs.Limits.{maxBytes};
 ghost use Rattle.machines.specs.Ends.{EndsRight, KeptRight};
 ghost use Rattle.machines.specs.Relaid.{Long};
 ghost use Rattle.machines.specs.Settling.{fillT, nth, machineEnd, HasRegions};
 
 // Past the machine at `at`.
 fn after_machine(s: &[u8], names: usize, ends: &[u16], at: usize) -> usize
-    requires { ⌜ (length (now s) ≤ 65536) × EndsRight (now s) names (now ends) ⌝ }
+    requires { ⌜ (length (now s) ≤ maxBytes) × EndsRight (now s) names (now ends) ⌝ }
     ensures { λ r. ⌜ ((ns : List Name) → length ns ≡ names → r ≡ machineEnd ns (now (s .entry)) at) ⌝ }
 {
     let m = number(s, at);
@@ -38,7 +39,7 @@ pub fn judge_all(
     mats: &mut [usize],
     regs: &mut [usize],
 )
-    requires { ⌜ (length (now s) ≤ 65536) × Long (now t) (now reg) (now lets) × KeptRight (now s) names (now spots) (now ends) ⌝ }
+    requires { ⌜ (length (now s) ≤ maxBytes) × Long (now t) (now reg) (now lets) × KeptRight (now s) names (now spots) (now ends) ⌝ }
     ensures { λ _. ⌜ ((ns : List Name) → length ns ≡ names → now (mats .exit) ≡ fillT (nth (machineEnd ns (now (s .entry))) from) count 0 (now (mats .entry))) ⌝ }
     ensures { λ _. ⌜ ((ns : List Name) → length ns ≡ names → (gs : ℕ → ℕ) → ((i : ℕ) → i < count → HasRegions ns (now (s .entry)) (now (spots .entry)) (now (to .entry)) (nth (machineEnd ns (now (s .entry))) from i) (gs i)) → now (regs .exit) ≡ fillT gs count 0 (now (regs .entry))) ⌝ }
 {

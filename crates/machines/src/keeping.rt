@@ -21,13 +21,15 @@ use pack::parts::then_name;
 use pack::parts::then_optional;
 use pack::record::Pack;
 use wire::answer::Skipped;
+use wire::number::WORD_MAX;
+use wire::number::WORD_RANGE;
 use wire::number::then_below;
 ghost use mathlib.Core.List.{List};
 ghost use mathlib.Core.Path.{_≡_};
 ghost use Prim.Native.Nat.{ℕ, _-_, _<_, _≤_};
 ghost use lib.ListN.{length};
 ghost use Rattle.wire.specs.Answer.{Answer, counted, many};
-ghost use Rattle.pack.specs.Limits.{maxLevel};
+ghost use Rattle.pack.specs.Limits.{maxLevel, maxBytes};
 ghost use Rattle.pack.specs.Names.{Name};
 ghost use Rattle.pack.specs.Read.{OneRegion, equationIn, regionAt, stateWith, transitionIn};
 ghost use Rattle.machines.specs.Stands.{endOf, overIn};
@@ -44,7 +46,7 @@ struct Head {
 
 // Keeps where the equation at `at` ends, and answers it.
 fn put_end(s: &[u8], names: usize, ends: &mut [u16], at: usize) -> usize
-    requires { ⌜ length (now s) ≤ 65536 ⌝ }
+    requires { ⌜ length (now s) ≤ maxBytes ⌝ }
     ensures { λ r. ⌜ ((ns : List Name) → length ns ≡ names → r ≡ endOf (equationIn ns (now (s .entry)) at)) ⌝ }
     ensures { λ _. ⌜ ((spots : List ℕ) → KeptRight (now (s .entry)) names spots (now (ends .entry)) → KeptRight (now (s .entry)) names spots (now (ends .exit))) ⌝ }
 {
@@ -55,7 +57,7 @@ fn put_end(s: &[u8], names: usize, ends: &mut [u16], at: usize) -> usize
 
 // The ends of `count` equations from `from` on; the offset after them, 0 where one does not read.
 fn put_ends(s: &[u8], names: usize, ends: &mut [u16], count: usize, from: usize) -> usize
-    requires { ⌜ length (now s) ≤ 65536 ⌝ }
+    requires { ⌜ length (now s) ≤ maxBytes ⌝ }
     ensures { λ r. ⌜ ((ns : List Name) → length ns ≡ names → r ≡ endOf (many (equationIn ns (now (s .entry))) count from)) ⌝ }
     ensures { λ _. ⌜ ((spots : List ℕ) → KeptRight (now (s .entry)) names spots (now (ends .entry)) → KeptRight (now (s .entry)) names spots (now (ends .exit))) ⌝ }
 {
@@ -73,7 +75,7 @@ fn put_ends(s: &[u8], names: usize, ends: &mut [u16], count: usize, from: usize)
 
 // Keeps where the guard at `at` ends; the offset after its transition.
 fn put_guard(s: &[u8], names: usize, ends: &mut [u16], at: usize) -> usize
-    requires { ⌜ length (now s) ≤ 65536 ⌝ }
+    requires { ⌜ length (now s) ≤ maxBytes ⌝ }
     ensures { λ r. ⌜ ((ns : List Name) → length ns ≡ names → r ≡ endOf (transitionIn ns (now (s .entry)) at)) ⌝ }
     ensures { λ _. ⌜ ((spots : List ℕ) → KeptRight (now (s .entry)) names spots (now (ends .entry)) → KeptRight (now (s .entry)) names spots (now (ends .exit))) ⌝ }
 {
@@ -84,7 +86,7 @@ fn put_guard(s: &[u8], names: usize, ends: &mut [u16], at: usize) -> usize
 
 // The guards of `count` transitions from `from` on; the offset after them, 0 where one does not read.
 fn put_guards(s: &[u8], names: usize, ends: &mut [u16], count: usize, from: usize) -> usize
-    requires { ⌜ length (now s) ≤ 65536 ⌝ }
+    requires { ⌜ length (now s) ≤ maxBytes ⌝ }
     ensures { λ r. ⌜ ((ns : List Name) → length ns ≡ names → r ≡ endOf (many (transitionIn ns (now (s .entry))) count from)) ⌝ }
     ensures { λ _. ⌜ ((spots : List ℕ) → KeptRight (now (s .entry)) names spots (now (ends .entry)) → KeptRight (now (s .entry)) names spots (now (ends .exit))) ⌝ }
 {
@@ -115,7 +117,7 @@ fn put_state(ends: &mut [u16], at: usize, h: Head, o: usize)
     let a = most(at, l.value);
     let b = most(h.moves, h.regions);
     let c = most(a, b);
-    if 65536 <= most(c, o) {
+    if WORD_RANGE <= most(c, o) {
         return;
     }
     keep_state(ends, at, l.value, h.moves, o, h.regions);
@@ -123,7 +125,7 @@ fn put_state(ends: &mut [u16], at: usize, h: Head, o: usize)
 
 // Keeps the equations and the guards of the state at `at`; what is read of it before its regions.
 fn put_head(s: &[u8], names: usize, spots: &[u16], ends: &mut [u16], at: usize) -> Head
-    requires { ⌜ (length (now s) ≤ 65536) × KeptRight (now s) names (now spots) (now ends) ⌝ }
+    requires { ⌜ (length (now s) ≤ maxBytes) × KeptRight (now s) names (now spots) (now ends) ⌝ }
     ensures { λ r. ⌜ ((ns : List Name) → length ns ≡ names → r ≡ headOf ns (now (s .entry)) (now (spots .entry)) at) ⌝ }
     ensures { λ _. ⌜ KeptRight (now (s .entry)) names (now (spots .entry)) (now (ends .exit)) ⌝ }
 {
@@ -183,7 +185,7 @@ fn put_empties(
     known: usize,
     at: usize,
 ) -> usize
-    requires { ⌜ (length (now s) ≤ 65536) × KeptRight (now s) names (now spots) (now ends) ⌝ }
+    requires { ⌜ (length (now s) ≤ maxBytes) × KeptRight (now s) names (now spots) (now ends) ⌝ }
     ensures { λ _. ⌜ KeptRight (now (s .entry)) names (now (spots .entry)) (now (ends .exit)) ⌝ }
 {
     if 0 < known {
@@ -195,7 +197,7 @@ fn put_empties(
     if k < 2 {
         return 0;
     }
-    if 65536 <= l {
+    if WORD_RANGE <= l {
         return 0;
     }
     keep(ends, at, EMPTY, l, k);
@@ -206,7 +208,7 @@ fn put_empties(
 // before the states, where no equation and no guard begins; without states it is left to regions that have none. A region with more
 // states than a machine may have is never checked.
 fn put_strays(s: &[u8], names: usize, spots: &[u16], ends: &mut [u16], from: usize)
-    requires { ⌜ (length (now s) ≤ 65536) × KeptRight (now s) names (now spots) (now ends) ⌝ }
+    requires { ⌜ (length (now s) ≤ maxBytes) × KeptRight (now s) names (now spots) (now ends) ⌝ }
     ensures { λ _. ⌜ KeptRight (now (s .entry)) names (now (spots .entry)) (now (ends .exit)) ⌝ }
 {
     if from < 5 {
@@ -220,7 +222,7 @@ fn put_strays(s: &[u8], names: usize, spots: &[u16], ends: &mut [u16], from: usi
         return;
     }
     let r = drawn_strays(s, names, ends, c.value, from);
-    if 65535 <= most(r.fine, r.name) {
+    if WORD_MAX <= most(r.fine, r.name) {
         return;
     }
     keep(ends, from - 5, STRAYS, r.fine, r.name + 1);
@@ -235,7 +237,7 @@ fn keep_in_state(
     levels: usize,
     at: usize,
 ) -> usize
-    requires { ⌜ (length (now s) ≤ 65536) × KeptRight (now s) names (now spots) (now ends) × (levels < maxLevel) ⌝ }
+    requires { ⌜ (length (now s) ≤ maxBytes) × KeptRight (now s) names (now spots) (now ends) × (levels < maxLevel) ⌝ }
     ensures { λ r. ⌜ ((ns : List Name) → length ns ≡ names → 0 < r → r ≡ endOf (stateWith (regionAt levels ns (now (s .entry))) ns (now (s .entry)) at)) ⌝ }
     ensures { λ _. ⌜ KeptRight (now (s .entry)) names (now (spots .entry)) (now (ends .exit)) ⌝ }
 {
@@ -268,7 +270,7 @@ fn keep_in_states(
     count: usize,
     from: usize,
 ) -> usize
-    requires { ⌜ (length (now s) ≤ 65536) × KeptRight (now s) names (now spots) (now ends) × (levels ≤ maxLevel) ⌝ }
+    requires { ⌜ (length (now s) ≤ maxBytes) × KeptRight (now s) names (now spots) (now ends) × (levels ≤ maxLevel) ⌝ }
     ensures { λ r. ⌜ ((ns : List Name) → length ns ≡ names → 0 < r → (levels ≡ 0 → ⊥) × (r ≡ endOf (many (stateWith (regionAt (levels - 1) ns (now (s .entry))) ns (now (s .entry))) count from))) ⌝ }
     ensures { λ _. ⌜ KeptRight (now (s .entry)) names (now (spots .entry)) (now (ends .exit)) ⌝ }
 {
@@ -290,7 +292,7 @@ fn keep_in_states(
 
 // Those of all machines, whose count stands at `at`.
 pub fn keep_machines(s: &[u8], names: usize, spots: &[u16], at: usize, ends: &mut [u16])
-    requires { ⌜ (length (now s) ≤ 65536) × KeptRight (now s) names (now spots) (now ends) ⌝ }
+    requires { ⌜ (length (now s) ≤ maxBytes) × KeptRight (now s) names (now spots) (now ends) ⌝ }
     ensures { λ _. ⌜ KeptRight (now (s .entry)) names (now (spots .entry)) (now (ends .exit)) ⌝ }
 {
     let c = number(s, at);

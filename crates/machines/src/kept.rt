@@ -2,8 +2,10 @@
 // many times is read once. Nothing depends on its being complete: what it does not have is read.
 use pack::cells::cell;
 use pack::cells::put_cell;
+use wire::number::WORD_RANGE;
 ghost use mathlib.Core.Path.{_≡_};
 ghost use Prim.Native.Nat.{_+_, _%_, _<_, _≤_};
+ghost use Rattle.wire.specs.Bytes.{wordRange};
 ghost use Rattle.machines.specs.Kept.{besideIn, keptIn, rowMark, rowPut, stateRow, longestIn, movesIn, pastIn, regionsIn, statePut};
 
 // The kinds of things that have rows of two cells (specs/Kept).
@@ -20,7 +22,7 @@ pub fn kept(ends: &[u16], p: usize, k: usize) -> usize
     requires { ⌜ k ≤ 16 ⌝ }
     ensures { λ r. ⌜ r ≡ keptIn (now (ends .entry)) p k ⌝ }
 {
-    if 65536 <= p {
+    if WORD_RANGE <= p {
         return 0;
     }
     let b = 2 * (p / 5);
@@ -42,13 +44,13 @@ pub fn kept_beside(ends: &[u16], p: usize) -> usize
 fn put_row(ends: &mut [u16], p: usize, m: usize, v: usize)
     ensures { λ _. ⌜ now (ends .exit) ≡ rowPut (now (ends .entry)) p m v ⌝ }
 {
-    if 65536 <= p {
+    if WORD_RANGE <= p {
         return;
     }
-    if 65536 <= m {
+    if WORD_RANGE <= m {
         return;
     }
-    if 65536 <= v {
+    if WORD_RANGE <= v {
         return;
     }
     let b = 2 * (p / 5);
@@ -58,7 +60,7 @@ fn put_row(ends: &mut [u16], p: usize, m: usize, v: usize)
 
 // Keeps the value v of the thing of the kind k at p, and the number x beside it.
 pub fn keep(ends: &mut [u16], p: usize, k: usize, x: usize, v: usize)
-    requires { ⌜ (k ≤ 16) × (x < 65536) ⌝ }
+    requires { ⌜ (k ≤ 16) × (x < wordRange) ⌝ }
     ensures { λ _. ⌜ now (ends .exit) ≡ rowPut (now (ends .entry)) p (rowMark p k x) v ⌝ }
 {
     put_row(ends, p, p % 5 + k + 32 * x, v);
@@ -109,7 +111,7 @@ pub fn kept_regions(ends: &[u16], p: usize) -> usize
 
 // Keeps the state at p: its longest name, where its transitions begin, where it ends, where its regions' count stands.
 pub fn keep_state(ends: &mut [u16], p: usize, l: usize, m: usize, o: usize, r: usize)
-    requires { ⌜ (p < 65536) × (l < 65536) × (m < 65536) × (o < 65536) × (r < 65536) ⌝ }
+    requires { ⌜ (p < wordRange) × (l < wordRange) × (m < wordRange) × (o < wordRange) × (r < wordRange) ⌝ }
     ensures { λ _. ⌜ now (ends .exit) ≡ statePut (now (ends .entry)) p l m o r ⌝ }
 {
     let b = state_row(p);

@@ -21,6 +21,7 @@ ghost use mathlib.Core.Path.{_≡_};
 ghost use Prim.Native.Nat.{ℕ, _<_, _≤_};
 ghost use lib.ListN.{length};
 ghost use Rattle.pack.specs.Names.{Name};
+ghost use Rattle.pack.specs.Limits.{maxBytes};
 ghost use Rattle.machines.specs.Empties.{AtOnce};
 ghost use Rattle.machines.specs.Ends.{EndsRight};
 ghost use Rattle.machines.specs.Laid.{holed};
@@ -95,7 +96,7 @@ fn open_state(
     m: usize,
     c: Lay,
 ) -> Entered
-    requires { ⌜ (length (now s) ≤ 65536) × EndsRight (now s) names (now ends) ⌝ }
+    requires { ⌜ (length (now s) ≤ maxBytes) × EndsRight (now s) names (now ends) ⌝ }
     ensures { λ r. ⌜ ((ns : List Name) → length ns ≡ names → ((reg : List ℕ) → (r ≡ enteredOf ns (now (s .entry)) (now (spots .entry)) a m (board (now (t .entry)) reg (now (lets .entry)) c)) × (board (now (t .exit)) reg (now (lets .exit)) (laid (r .next) (r .words) (c .regions) (r .letters) (c .hole)) ≡ openState ns (now (s .entry)) (now (spots .entry)) a m (board (now (t .entry)) reg (now (lets .entry)) c)))) ⌝ }
 {
     let i = number(s, c.next);
@@ -183,7 +184,7 @@ fn lay_state(
     m: usize,
     c: Lay,
 ) -> Lay
-    requires { ⌜ (length (now s) ≤ 65536) × EndsRight (now s) names (now ends) ⌝ }
+    requires { ⌜ (length (now s) ≤ maxBytes) × EndsRight (now s) names (now ends) ⌝ }
     ensures { λ r. ⌜ ((ns : List Name) → length ns ≡ names → board (now (t .exit)) (now (reg .exit)) (now (lets .exit)) r ≡ layState ns (now (s .entry)) (now (spots .entry)) (now (to .entry)) (layRegion ns (now (s .entry)) (now (spots .entry)) (now (to .entry)) levels) up a m (board (now (t .entry)) (now (reg .entry)) (now (lets .entry)) c)) ⌝ }
 {
     let b = open_state(s, names, spots, ends, t, lets, a, m, c);
@@ -221,7 +222,7 @@ fn lay_state(
         e = d;
     }
     let f = number(s, e.next);
-    if f.value == 65535 {
+    if f.value == Pack::ABSENT {
         return close_state(t, c.words, k, f.next, e);
     }
     let h = machine_as(s, 0, cell(to, f.value));
@@ -264,7 +265,7 @@ fn lay_region(
     h: Opening,
     c: Lay,
 ) -> Lay
-    requires { ⌜ (length (now s) ≤ 65536) × EndsRight (now s) names (now ends) ⌝ }
+    requires { ⌜ (length (now s) ≤ maxBytes) × EndsRight (now s) names (now ends) ⌝ }
     ensures { λ r. ⌜ ((ns : List Name) → length ns ≡ names → board (now (t .exit)) (now (reg .exit)) (now (lets .exit)) r ≡ layRegion ns (now (s .entry)) (now (spots .entry)) (now (to .entry)) levels st up a m h (board (now (t .entry)) (now (reg .entry)) (now (lets .entry)) c)) ⌝ }
 {
     if levels == 0 {
@@ -309,7 +310,7 @@ pub fn lay_machine(
     lets: &mut [u8],
     at: usize,
 ) -> Lay
-    requires { ⌜ (length (now s) ≤ 65536) × EndsRight (now s) names (now ends) ⌝ }
+    requires { ⌜ (length (now s) ≤ maxBytes) × EndsRight (now s) names (now ends) ⌝ }
     ensures { λ r. ⌜ ((ns : List Name) → length ns ≡ names → board (now (t .exit)) (now (reg .exit)) (now (lets .exit)) r ≡ layMachine ns (now (s .entry)) (now (spots .entry)) (now (to .entry)) at (now (t .entry)) (now (reg .entry)) (now (lets .entry))) ⌝ }
 {
     let c = Lay {

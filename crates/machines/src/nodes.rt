@@ -12,12 +12,14 @@ ghost use mathlib.Core.List.{List};
 ghost use mathlib.Core.Path.{_≡_};
 ghost use Prim.Native.Nat.{_<_, _≤_};
 ghost use lib.ListN.{length};
+ghost use Rattle.wire.specs.Bytes.{wordRange};
 ghost use Rattle.pack.specs.Names.{Name};
+ghost use Rattle.pack.specs.Limits.{maxBytes};
 ghost use Rattle.machines.specs.Brought.{nodeLocalsIn, nodeEquationsIn, oldT};
 
 // From a node to its locals.
 pub fn to_node_locals(s: &[u8], names: usize, at: usize) -> usize
-    requires { ⌜ length (now s) ≤ 65536 ⌝ }
+    requires { ⌜ length (now s) ≤ maxBytes ⌝ }
     ensures { λ r. ⌜ ((ns : List Name) → length ns ≡ names → r ≡ nodeLocalsIn ns (now (s .entry)) at) ⌝ }
 {
     let i = number(s, at);
@@ -29,7 +31,7 @@ pub fn to_node_locals(s: &[u8], names: usize, at: usize) -> usize
 
 // From a node to its equations.
 pub fn to_node_equations(s: &[u8], names: usize, at: usize) -> usize
-    requires { ⌜ length (now s) ≤ 65536 ⌝ }
+    requires { ⌜ length (now s) ≤ maxBytes ⌝ }
     ensures { λ r. ⌜ ((ns : List Name) → length ns ≡ names → r ≡ nodeEquationsIn ns (now (s .entry)) at) ⌝ }
 {
     let a = to_node_locals(s, names, at);
@@ -38,8 +40,8 @@ pub fn to_node_equations(s: &[u8], names: usize, at: usize) -> usize
 
 // How many equations the node k of `count` nodes from `from` on has.
 pub fn old_equations(s: &[u8], names: usize, count: usize, from: usize, k: usize) -> usize
-    requires { ⌜ length (now s) ≤ 65536 ⌝ }
-    ensures { λ r. ⌜ (r < 65536) × ((ns : List Name) → length ns ≡ names → r ≡ oldT ns (now (s .entry)) count from k) ⌝ }
+    requires { ⌜ length (now s) ≤ maxBytes ⌝ }
+    ensures { λ r. ⌜ (r < wordRange) × ((ns : List Name) → length ns ≡ names → r ≡ oldT ns (now (s .entry)) count from k) ⌝ }
 {
     let mut n = count;
     let mut p = from;

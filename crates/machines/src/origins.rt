@@ -7,6 +7,7 @@ use crate::nodes::old_equations;
 use crate::rows::left;
 use crate::sure::number;
 use crate::table::entry;
+use pack::record::Pack;
 use wire::writer::Writer;
 use wire::writer::put_byte;
 use wire::writer::put_u16;
@@ -15,8 +16,10 @@ ghost use mathlib.Core.Path.{_≡_};
 ghost use Prim.Native.Nat.{ℕ, _+_, _*_, _<_, _≤_};
 ghost use lib.ListN.{length};
 ghost use Rattle.wire.specs.Writer.{stateOf};
+ghost use Rattle.wire.specs.Bytes.{wordRange};
 ghost use Rattle.pack.specs.Names.{Name};
 ghost use Rattle.pack.specs.Intern.{render};
+ghost use Rattle.pack.specs.Limits.{maxBytes};
 ghost use Rattle.machines.specs.Brought.{countedT, eachT, givenOriginT, originT, ownOriginT, passedT};
 
 // What is counted from one machine to the next: the equations of a node before the machine.
@@ -49,13 +52,13 @@ fn put_origin(
     out: &mut [u8],
     w: Writer,
 ) -> Writer
-    requires { ⌜ (length (now s) ≤ 65536) × (first < 1099511627776) ⌝ }
+    requires { ⌜ (length (now s) ≤ maxBytes) × (first < 1099511627776) ⌝ }
     ensures { λ r. ⌜ ((ns : List Name) → length ns ≡ names → (old l : List ℕ) → stateOf (now (out .exit)) l r ≡ render old (givenOriginT ns (now (s .entry)) (now (mats .entry)) (now (regs .entry)) first i) (stateOf (now (out .entry)) l w)) ⌝ }
 {
     let at = entry(mats, i);
     let m = number(s, at);
     let o = number(s, m.next);
-    if o.value == 65535 {
+    if o.value == Pack::ABSENT {
         return w;
     }
     let g = entry(regs, i);
@@ -76,8 +79,8 @@ fn count_before(
     i: usize,
     d: Counted,
 ) -> Counted
-    requires { ⌜ (length (now s) ≤ 65536) × (i ≤ 65536) × (d .first ≤ 65536 + 1048576 * i) ⌝ }
-    ensures { λ r. ⌜ (r .first ≤ 65536 + 1048576 * i) × ((ns : List Name) → length ns ≡ names → r ≡ countedT ns (now (s .entry)) (now (mats .entry)) (now (ats .entry)) (now (regs .entry)) count from d i) ⌝ }
+    requires { ⌜ (length (now s) ≤ maxBytes) × (i ≤ wordRange) × (d .first ≤ wordRange + 1048576 * i) ⌝ }
+    ensures { λ r. ⌜ (r .first ≤ wordRange + 1048576 * i) × ((ns : List Name) → length ns ≡ names → r ≡ countedT ns (now (s .entry)) (now (mats .entry)) (now (ats .entry)) (now (regs .entry)) count from d i) ⌝ }
 {
     let o = owned(s, mats, i);
     let k = entry(ats, i);
@@ -105,8 +108,8 @@ fn count_past(
     i: usize,
     d: Counted,
 ) -> Counted
-    requires { ⌜ (length (now s) ≤ 65536) × (i ≤ 65536) × (d .first ≤ 65536 + 1048576 * i) ⌝ }
-    ensures { λ r. ⌜ (r .first ≤ 65536 + 1048576 * (i + 1)) × ((ns : List Name) → length ns ≡ names → r ≡ passedT ns (now (s .entry)) (now (mats .entry)) (now (ats .entry)) (now (regs .entry)) d i) ⌝ }
+    requires { ⌜ (length (now s) ≤ maxBytes) × (i ≤ wordRange) × (d .first ≤ wordRange + 1048576 * i) ⌝ }
+    ensures { λ r. ⌜ (r .first ≤ wordRange + 1048576 * (i + 1)) × ((ns : List Name) → length ns ≡ names → r ≡ passedT ns (now (s .entry)) (now (mats .entry)) (now (ats .entry)) (now (regs .entry)) d i) ⌝ }
 {
     let b = brings_equations(s, names, mats, ats, regs, d.node, i);
     Counted {
@@ -128,7 +131,7 @@ pub fn put_origins(
     out: &mut [u8],
     w: Writer,
 ) -> Writer
-    requires { ⌜ (length (now s) ≤ 65536) × (n ≤ 65536) ⌝ }
+    requires { ⌜ (length (now s) ≤ maxBytes) × (n ≤ wordRange) ⌝ }
     ensures { λ r. ⌜ ((ns : List Name) → length ns ≡ names → (old l : List ℕ) → stateOf (now (out .exit)) l r ≡ render old (eachT (ownOriginT ns (now (s .entry)) (now (mats .entry)) (now (ats .entry)) (now (regs .entry)) count from) n 0) (stateOf (now (out .entry)) l w)) ⌝ }
 {
     let b = old_equations(s, names, count, from, 0);

@@ -7,17 +7,20 @@ use crate::table::entry;
 use crate::table::put;
 use pack::cells::cell;
 use pack::cells::put_cell;
+use pack::record::Pack;
 ghost use mathlib.Core.List.{List};
 ghost use mathlib.Core.Path.{_≡_};
 ghost use Prim.Native.Nat.{_+_, _≤_};
 ghost use lib.ListN.{length};
+ghost use Rattle.wire.specs.Bytes.{wordRange};
 ghost use Rattle.pack.specs.Names.{Name};
+ghost use Rattle.pack.specs.Limits.{maxBytes};
 ghost use Rattle.machines.specs.Brought.{totalT};
 ghost use Rattle.machines.specs.Settling.{fillT, nodeEnd, nodeNameT, findT, goesTo, nodesOf, settledT, settleT, refusedT};
 
 // Past the node at `at`.
 fn after_node(s: &[u8], names: usize, at: usize) -> usize
-    requires { ⌜ length (now s) ≤ 65536 ⌝ }
+    requires { ⌜ length (now s) ≤ maxBytes ⌝ }
     ensures { λ r. ⌜ ((ns : List Name) → length ns ≡ names → r ≡ nodeEnd ns (now (s .entry)) at) ⌝ }
 {
     let e = to_node_equations(s, names, at);
@@ -26,7 +29,7 @@ fn after_node(s: &[u8], names: usize, at: usize) -> usize
 
 // The names of `count` nodes from `from` on.
 pub fn place_nodes(s: &[u8], names: usize, count: usize, from: usize, nodes: &mut [u16])
-    requires { ⌜ length (now s) ≤ 65536 ⌝ }
+    requires { ⌜ length (now s) ≤ maxBytes ⌝ }
     ensures { λ _. ⌜ ((ns : List Name) → length ns ≡ names → now (nodes .exit) ≡ fillT (nodeNameT ns (now (s .entry)) from) count 0 (now (nodes .entry))) ⌝ }
 {
     let mut k = 0;
@@ -54,19 +57,19 @@ fn find_node(nodes: &[u16], n: usize, x: usize) -> usize
     i
 }
 
-// Where a machine of so many regions and the owner o goes among n nodes; 65535 where it is refused or its owner is not
+// Where a machine of so many regions and the owner o goes among n nodes; `Pack::ABSENT` where it is refused or its owner is not
 // there.
 fn goes_to(nodes: &[u16], n: usize, regions: usize, o: usize) -> usize
     ensures { λ r. ⌜ r ≡ goesTo (now (nodes .entry)) n regions o ⌝ }
 {
     if regions == 0 {
-        return 65535;
+        return Pack::ABSENT;
     }
-    if o == 65535 {
+    if o == Pack::ABSENT {
         return n;
     }
     let k = find_node(nodes, n, o);
-    if k < n { k } else { 65535 }
+    if k < n { k } else { Pack::ABSENT }
 }
 
 // Settles the machine i among n nodes: how many there are then.
@@ -105,7 +108,7 @@ pub fn settle_all(
     nodes: &mut [u16],
     old: usize,
 ) -> usize
-    requires { ⌜ (count ≤ 65536) × (old ≤ 65536) ⌝ }
+    requires { ⌜ (count ≤ wordRange) × (old ≤ wordRange) ⌝ }
     ensures { λ r. ⌜ nodesOf (now (ats .exit)) (now (nodes .exit)) r ≡ settleT (now (s .entry)) (now (mats .entry)) (now (regs .entry)) count 0 (nodesOf (now (ats .entry)) (now (nodes .entry)) old) ⌝ }
 {
     let mut i = 0;
@@ -122,12 +125,12 @@ fn refused(ats: &[usize], i: usize) -> usize
     ensures { λ r. ⌜ (r ≤ 1) × (r ≡ refusedT (now (ats .entry)) i) ⌝ }
 {
     let e = entry(ats, i);
-    if e == 65535 { 1 } else { 0 }
+    if e == Pack::ABSENT { 1 } else { 0 }
 }
 
 // How many of the first n machines are refused.
 pub fn refused_count(ats: &[usize], n: usize) -> usize
-    requires { ⌜ n ≤ 65536 ⌝ }
+    requires { ⌜ n ≤ wordRange ⌝ }
     ensures { λ r. ⌜ r ≡ totalT (refusedT (now (ats .entry))) n 0 ⌝ }
 {
     let mut i = 0;

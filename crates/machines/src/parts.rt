@@ -25,9 +25,11 @@ ghost use mathlib.Core.Path.{_≡_};
 ghost use Prim.Native.Nat.{ℕ, _-_, _≤_};
 ghost use lib.ListN.{length};
 ghost use Rattle.wire.specs.Writer.{stateOf};
+ghost use Rattle.wire.specs.Bytes.{wordRange};
 ghost use Rattle.pack.specs.Names.{Name};
 ghost use Rattle.pack.specs.Write.{Item};
 ghost use Rattle.pack.specs.Intern.{render};
+ghost use Rattle.pack.specs.Limits.{maxBytes};
 ghost use Rattle.machines.specs.Ends.{EndsRight};
 ghost use Rattle.machines.specs.Brought.{eachT, ownedT, totalT};
 ghost use Rattle.machines.specs.NodeHeads.{newHeadT};
@@ -57,7 +59,7 @@ fn put_node_equations(
     made: &mut [u8],
     w: Writer,
 ) -> Writer
-    requires { ⌜ (length (now s) ≤ 65536) × (n ≤ 65536) × Long (now t) (now reg) (now lets) × EndsRight (now s) names (now ends) ⌝ }
+    requires { ⌜ (length (now s) ≤ maxBytes) × (n ≤ wordRange) × Long (now t) (now reg) (now lets) × EndsRight (now s) names (now ends) ⌝ }
     ensures { λ r. ⌜ ((ns : List Name) → length ns ≡ names → (eqs : ℕ → List Item) → AllWrite (now (old .entry)) (equationsAt ns (now (s .entry)) (now (spots .entry)) (now (to .entry))) (now (mats .entry)) n eqs → stateOf (now (out .exit)) (now (made .exit)) r ≡ render (now (old .entry)) (nodeEquationsT ns (now (s .entry)) (now (mats .entry)) (now (ats .entry)) (now (regs .entry)) (now (spots .entry)) n eqs k own from end) (stateOf (now (out .entry)) (now (made .entry)) w)) ⌝ }
 {
     let o = small(own);
@@ -106,7 +108,7 @@ fn put_old_node(
     made: &mut [u8],
     w: Writer,
 ) -> Writer
-    requires { ⌜ (length (now s) ≤ 65536) × (n ≤ 65536) × Long (now t) (now reg) (now lets) × EndsRight (now s) names (now ends) ⌝ }
+    requires { ⌜ (length (now s) ≤ maxBytes) × (n ≤ wordRange) × Long (now t) (now reg) (now lets) × EndsRight (now s) names (now ends) ⌝ }
     ensures { λ r. ⌜ ((ns : List Name) → length ns ≡ names → (eqs : ℕ → List Item) → AllWrite (now (old .entry)) (equationsAt ns (now (s .entry)) (now (spots .entry)) (now (to .entry))) (now (mats .entry)) n eqs → stateOf (now (out .exit)) (now (made .exit)) r ≡ render (now (old .entry)) (oldNodeT ns (now (s .entry)) (now (mats .entry)) (now (ats .entry)) (now (regs .entry)) (now (spots .entry)) n eqs k at) (stateOf (now (out .entry)) (now (made .entry)) w)) ⌝ }
 {
     let e = to_node_equations(s, names, at);
@@ -172,7 +174,7 @@ fn put_old_nodes(
     made: &mut [u8],
     w: Writer,
 ) -> Writer
-    requires { ⌜ (length (now s) ≤ 65536) × (n ≤ 65536) × Long (now t) (now reg) (now lets) × EndsRight (now s) names (now ends) ⌝ }
+    requires { ⌜ (length (now s) ≤ maxBytes) × (n ≤ wordRange) × Long (now t) (now reg) (now lets) × EndsRight (now s) names (now ends) ⌝ }
     ensures { λ r. ⌜ ((ns : List Name) → length ns ≡ names → (eqs : ℕ → List Item) → AllWrite (now (old .entry)) (equationsAt ns (now (s .entry)) (now (spots .entry)) (now (to .entry))) (now (mats .entry)) n eqs → stateOf (now (out .exit)) (now (made .exit)) r ≡ render (now (old .entry)) (oldNodesT ns (now (s .entry)) (now (mats .entry)) (now (ats .entry)) (now (regs .entry)) (now (spots .entry)) n eqs count 0 from) (stateOf (now (out .entry)) (now (made .entry)) w)) ⌝ }
 {
     let mut v = w;
@@ -232,7 +234,7 @@ fn put_begun(
     made: &mut [u8],
     w: Writer,
 ) -> Writer
-    requires { ⌜ (length (now s) ≤ 65536) × (n ≤ 65536) × Long (now t) (now reg) (now lets) × EndsRight (now s) names (now ends) ⌝ }
+    requires { ⌜ (length (now s) ≤ maxBytes) × (n ≤ wordRange) × Long (now t) (now reg) (now lets) × EndsRight (now s) names (now ends) ⌝ }
     ensures { λ r. ⌜ ((ns : List Name) → length ns ≡ names → (eqs : ℕ → List Item) → AllWrite (now (old .entry)) (equationsAt ns (now (s .entry)) (now (spots .entry)) (now (to .entry))) (now (mats .entry)) n eqs → stateOf (now (out .exit)) (now (made .exit)) r ≡ render (now (old .entry)) (newHeadT ns (now (s .entry)) (now (mats .entry)) (now (ats .entry)) (now (regs .entry)) (now (spots .entry)) n k at ++ nodeEquationsT ns (now (s .entry)) (now (mats .entry)) (now (ats .entry)) (now (regs .entry)) (now (spots .entry)) n eqs k 0 0 0) (stateOf (now (out .entry)) (now (made .entry)) w)) ⌝ }
 {
     let f = next_to(ats, n, k, 0);
@@ -285,7 +287,7 @@ fn put_new_node(
     made: &mut [u8],
     w: Writer,
 ) -> Writer
-    requires { ⌜ (length (now s) ≤ 65536) × (n ≤ 65536) × Long (now t) (now reg) (now lets) × EndsRight (now s) names (now ends) ⌝ }
+    requires { ⌜ (length (now s) ≤ maxBytes) × (n ≤ wordRange) × Long (now t) (now reg) (now lets) × EndsRight (now s) names (now ends) ⌝ }
     ensures { λ r. ⌜ ((ns : List Name) → length ns ≡ names → (eqs : ℕ → List Item) → AllWrite (now (old .entry)) (equationsAt ns (now (s .entry)) (now (spots .entry)) (now (to .entry))) (now (mats .entry)) n eqs → stateOf (now (out .exit)) (now (made .exit)) r ≡ render (now (old .entry)) (newNodeT ns (now (s .entry)) (now (mats .entry)) (now (ats .entry)) (now (regs .entry)) (now (spots .entry)) n eqs i) (stateOf (now (out .entry)) (now (made .entry)) w)) ⌝ }
 {
     let o = owned(s, mats, i);
@@ -335,7 +337,7 @@ fn put_new_nodes(
     made: &mut [u8],
     w: Writer,
 ) -> Writer
-    requires { ⌜ (length (now s) ≤ 65536) × (n ≤ 65536) × Long (now t) (now reg) (now lets) × EndsRight (now s) names (now ends) ⌝ }
+    requires { ⌜ (length (now s) ≤ maxBytes) × (n ≤ wordRange) × Long (now t) (now reg) (now lets) × EndsRight (now s) names (now ends) ⌝ }
     ensures { λ r. ⌜ ((ns : List Name) → length ns ≡ names → (eqs : ℕ → List Item) → AllWrite (now (old .entry)) (equationsAt ns (now (s .entry)) (now (spots .entry)) (now (to .entry))) (now (mats .entry)) n eqs → stateOf (now (out .exit)) (now (made .exit)) r ≡ render (now (old .entry)) (eachT (newNodeT ns (now (s .entry)) (now (mats .entry)) (now (ats .entry)) (now (regs .entry)) (now (spots .entry)) n eqs) n 0) (stateOf (now (out .entry)) (now (made .entry)) w)) ⌝ }
 {
     let mut v = w;
@@ -369,7 +371,7 @@ fn put_new_nodes(
 
 // How many of the first n machines begin a node.
 fn begun(s: &[u8], mats: &[usize], n: usize) -> usize
-    requires { ⌜ n ≤ 65536 ⌝ }
+    requires { ⌜ n ≤ wordRange ⌝ }
     ensures { λ r. ⌜ (r ≤ n) × (r ≡ n - totalT (ownedT (now (s .entry)) (now (mats .entry))) n 0) ⌝ }
 {
     let o = owned_count(s, mats, n);
@@ -396,7 +398,7 @@ pub fn put_nodes(
     made: &mut [u8],
     w: Writer,
 ) -> Writer
-    requires { ⌜ (length (now s) ≤ 65536) × (n ≤ 65536) × Long (now t) (now reg) (now lets) × EndsRight (now s) names (now ends) ⌝ }
+    requires { ⌜ (length (now s) ≤ maxBytes) × (n ≤ wordRange) × Long (now t) (now reg) (now lets) × EndsRight (now s) names (now ends) ⌝ }
     ensures { λ r. ⌜ ((ns : List Name) → length ns ≡ names → (eqs : ℕ → List Item) → AllWrite (now (old .entry)) (equationsAt ns (now (s .entry)) (now (spots .entry)) (now (to .entry))) (now (mats .entry)) n eqs → stateOf (now (out .exit)) (now (made .exit)) r ≡ render (now (old .entry)) (nodesT ns (now (s .entry)) (now (mats .entry)) (now (ats .entry)) (now (regs .entry)) (now (spots .entry)) n eqs at) (stateOf (now (out .entry)) (now (made .entry)) w)) ⌝ }
 {
     let c = number(s, at);

@@ -1,10 +1,11 @@
 // The machines on the way from the top machine to where a walk is. Eight suffice: each is a level further down.
+use pack::record::Pack;
 ghost use mathlib.Core.Path.{_≡_};
 ghost use mathlib.Core.Bool.{_||_};
 ghost use lib.Dec.{eqb};
 ghost use Rattle.machines.specs.Paths.{onOf, pushedOf, startOf};
 
-// Name indexes, the machine entered last first; 65535 where there is none.
+// Name indexes, the machine entered last first; `Pack::ABSENT` where there is none.
 pub struct Path {
     pub a: usize,
     pub b: usize,
@@ -22,13 +23,13 @@ pub fn start(m: usize) -> Path
 {
     Path {
         a: m,
-        b: 65535,
-        c: 65535,
-        d: 65535,
-        e: 65535,
-        f: 65535,
-        g: 65535,
-        h: 65535,
+        b: Pack::ABSENT,
+        c: Pack::ABSENT,
+        d: Pack::ABSENT,
+        e: Pack::ABSENT,
+        f: Pack::ABSENT,
+        g: Pack::ABSENT,
+        h: Pack::ABSENT,
     }
 }
 

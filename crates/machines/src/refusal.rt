@@ -1,7 +1,7 @@
 // A machine that was judged.
 
 // A name in a refusal: `letters` letters of the layout from `letter` on; or the pack's name, in a region whose names
-// have these letters and `_` in front. The name is 65535 where there is none.
+// have these letters and `_` in front. The name is `Pack::ABSENT` where there is none.
 pub struct Called {
     pub letter: usize,
     pub letters: usize,

@@ -23,6 +23,7 @@ ghost use lib.ListN.{length};
 ghost use Rattle.wire.specs.Writer.{stateOf};
 ghost use Rattle.pack.specs.Names.{Name};
 ghost use Rattle.pack.specs.Intern.{render};
+ghost use Rattle.pack.specs.Limits.{maxBytes};
 ghost use Rattle.machines.specs.Emits.{activeT, stateT, nextRhsT, nextT, regionT, regionsT};
 
 // Whether the region at the word q is active, by its holder; of the top region nothing is said.
@@ -88,7 +89,7 @@ fn put_next_rhs(
     made: &mut [u8],
     w: Writer,
 ) -> Writer
-    requires { ⌜ length (now s) ≤ 65536 ⌝ }
+    requires { ⌜ length (now s) ≤ maxBytes ⌝ }
     ensures { λ r. ⌜ ((ns : List Name) → length ns ≡ names → stateOf (now (out .exit)) (now (made .exit)) r ≡ render (now (old .entry)) (nextRhsT (now (s .entry)) (now (spots .entry)) (now (t .entry)) (now (lets .entry)) ns q) (stateOf (now (out .entry)) (now (made .entry)) w)) ⌝ }
 {
     let id = word(t, q, 5);
@@ -114,7 +115,7 @@ pub fn put_next_equation(
     made: &mut [u8],
     w: Writer,
 ) -> Writer
-    requires { ⌜ length (now s) ≤ 65536 ⌝ }
+    requires { ⌜ length (now s) ≤ maxBytes ⌝ }
     ensures { λ r. ⌜ ((ns : List Name) → length ns ≡ names → stateOf (now (out .exit)) (now (made .exit)) r ≡ render (now (old .entry)) (nextT (now (s .entry)) (now (spots .entry)) (now (t .entry)) (now (lets .entry)) ns q) (stateOf (now (out .entry)) (now (made .entry)) w)) ⌝ }
 {
     let id = word(t, q, 5);
@@ -135,7 +136,7 @@ pub fn put_region_equations(
     made: &mut [u8],
     w: Writer,
 ) -> Writer
-    requires { ⌜ length (now s) ≤ 65536 ⌝ }
+    requires { ⌜ length (now s) ≤ maxBytes ⌝ }
     ensures { λ r. ⌜ ((ns : List Name) → length ns ≡ names → stateOf (now (out .exit)) (now (made .exit)) r ≡ render (now (old .entry)) (regionT (now (s .entry)) (now (spots .entry)) (now (t .entry)) (now (lets .entry)) ns q) (stateOf (now (out .entry)) (now (made .entry)) w)) ⌝ }
 {
     let a = put_active(old, t, lets, q, out, made, w);
@@ -157,7 +158,7 @@ pub fn put_regions_equations(
     made: &mut [u8],
     w: Writer,
 ) -> Writer
-    requires { ⌜ length (now s) ≤ 65536 ⌝ }
+    requires { ⌜ length (now s) ≤ maxBytes ⌝ }
     ensures { λ r. ⌜ ((ns : List Name) → length ns ≡ names → stateOf (now (out .exit)) (now (made .exit)) r ≡ render (now (old .entry)) (regionsT (now (s .entry)) (now (spots .entry)) (now (t .entry)) (now (lets .entry)) ns (now (reg .entry)) 0 n) (stateOf (now (out .entry)) (now (made .entry)) w)) ⌝ }
 {
     let mut v = w;

@@ -4,6 +4,7 @@ use crate::refusal::Called;
 use crate::refusal::Judged;
 use crate::rows::pack_name;
 use crate::rows::part;
+use pack::record::Pack;
 use wire::writer::append;
 ghost use mathlib.Core.List.{[], _∷_, _++_};
 ghost use mathlib.Core.Path.{_≡_};
@@ -11,6 +12,7 @@ ghost use Prim.Native.Nat.{_+_, _≤_, _%_};
 ghost use lib.ListN.{length};
 ghost use Rattle.wire.specs.Bytes.{two};
 ghost use Rattle.wire.specs.Writer.{overwritten};
+ghost use Rattle.pack.specs.Limits.{maxBytes};
 ghost use Rattle.machines.specs.Laid.{prefixOf};
 ghost use Rattle.machines.specs.Entries.{calledOf, entryBytes, nameBytes, namesBytes};
 
@@ -23,13 +25,13 @@ fn prefix_len(p: &[u8]) -> usize
 
 // How many bytes a name takes, where there is one.
 fn called_len(s: &[u8], spots: &[u16], lets: &[u8], c: Called) -> usize
-    requires { ⌜ (length (now s) ≤ 65536) × (length (now lets) ≤ 4294967296) ⌝ }
+    requires { ⌜ (length (now s) ≤ maxBytes) × (length (now lets) ≤ 4294967296) ⌝ }
     ensures { λ r. ⌜ r ≡ length (namesBytes (calledOf (now (s .entry)) (now (spots .entry)) (now (lets .entry)) c)) ⌝ }
 {
     let letters = c.letters;
     let name = c.name;
     let p = part(lets, c.letter, letters);
-    if name == 65535 {
+    if name == Pack::ABSENT {
         if letters == 0 {
             return 0;
         }
@@ -41,7 +43,7 @@ fn called_len(s: &[u8], spots: &[u16], lets: &[u8], c: Called) -> usize
 
 // How many bytes the refusal of the machine of the name m takes.
 pub fn entry_len(s: &[u8], spots: &[u16], lets: &[u8], m: usize, j: Judged) -> usize
-    requires { ⌜ (length (now s) ≤ 65536) × (length (now lets) ≤ 4294967296) ⌝ }
+    requires { ⌜ (length (now s) ≤ maxBytes) × (length (now lets) ≤ 4294967296) ⌝ }
     ensures { λ r. ⌜ r ≡ length (entryBytes (now (s .entry)) (now (spots .entry)) (now (lets .entry)) m j) ⌝ }
 {
     let second = j.second;
@@ -113,7 +115,7 @@ fn put_called(
     let letters = c.letters;
     let name = c.name;
     let p = part(lets, c.letter, letters);
-    if name == 65535 {
+    if name == Pack::ABSENT {
         if letters == 0 {
             return at;
         }

@@ -10,13 +10,15 @@ use crate::report::put_count;
 use crate::report::put_entry;
 use crate::sure::number;
 use crate::table::entry;
+use pack::record::Pack;
 ghost use mathlib.Core.List.{List, _++_};
 ghost use mathlib.Core.Path.{_≡_};
 ghost use Prim.Native.Nat.{ℕ, _+_, _<_, _≤_};
 ghost use lib.ListN.{length};
-ghost use Rattle.wire.specs.Bytes.{two};
+ghost use Rattle.wire.specs.Bytes.{two, wordRange};
 ghost use Rattle.pack.specs.Names.{Name};
 ghost use Rattle.wire.specs.Writer.{overwritten};
+ghost use Rattle.pack.specs.Limits.{maxBytes};
 ghost use Rattle.machines.specs.Ends.{KeptRight};
 ghost use Rattle.machines.specs.Relaid.{Long};
 ghost use Rattle.machines.specs.Reporting.{bytesT, ofRefused, refusalT, lettersT, refusedEntryT, EntersAll, RoomAt, RoomForAll};
@@ -35,7 +37,7 @@ fn refusal_of(
     regs: &[usize],
     i: usize,
 ) -> Judged
-    requires { ⌜ (length (now s) ≤ 65536) × KeptRight (now s) names (now spots) (now ends) ⌝ }
+    requires { ⌜ (length (now s) ≤ maxBytes) × KeptRight (now s) names (now spots) (now ends) ⌝ }
     ensures { λ r. ⌜ ((ns : List Name) → length ns ≡ names → r ≡ refusalT ns (now (s .entry)) (now (spots .entry)) (now (to .entry)) (now (mats .entry)) (now (regs .entry)) i (now (t .entry)) (now (reg .entry)) (now (lets .entry))) ⌝ }
     ensures { λ r. ⌜ ((ns : List Name) → length ns ≡ names → now (lets .exit) ≡ lettersT ns (now (s .entry)) (now (spots .entry)) (now (to .entry)) (now (mats .entry)) (now (regs .entry)) i (now (t .entry)) (now (reg .entry)) (now (lets .entry))) ⌝ }
 {
@@ -64,11 +66,11 @@ fn refusal_len(
     regs: &[usize],
     i: usize,
 ) -> usize
-    requires { ⌜ (length (now s) ≤ 65536) × Long (now t) (now reg) (now lets) × KeptRight (now s) names (now spots) (now ends) ⌝ }
+    requires { ⌜ (length (now s) ≤ maxBytes) × Long (now t) (now reg) (now lets) × KeptRight (now s) names (now spots) (now ends) ⌝ }
     ensures { λ r. ⌜ (r ≤ 34359738368) × ((ns : List Name) → length ns ≡ names → r ≡ length (refusedEntryT ns (now (s .entry)) (now (spots .entry)) (now (to .entry)) (now (mats .entry)) (now (regs .entry)) (now (ats .entry)) i (now (t .entry)) (now (reg .entry)) (now (lets .entry)))) ⌝ }
 {
     let a = entry(ats, i);
-    if a != 65535 {
+    if a != Pack::ABSENT {
         return 0;
     }
     let at = entry(mats, i);
@@ -92,7 +94,7 @@ pub fn report_len(
     regs: &[usize],
     n: usize,
 ) -> usize
-    requires { ⌜ (length (now s) ≤ 65536) × Long (now t) (now reg) (now lets) × (n ≤ 65536) × KeptRight (now s) names (now spots) (now ends) ⌝ }
+    requires { ⌜ (length (now s) ≤ maxBytes) × Long (now t) (now reg) (now lets) × (n ≤ wordRange) × KeptRight (now s) names (now spots) (now ends) ⌝ }
     ensures { λ r. ⌜ ((ns : List Name) → length ns ≡ names → (es : ℕ → List ℕ) → EntersAll ns (now (s .entry)) (now (spots .entry)) (now (to .entry)) (now (mats .entry)) (now (regs .entry)) (now (ats .entry)) n es → r ≡ 2 + length (bytesT (ofRefused (now (ats .entry)) es) n 0)) ⌝ }
 {
     let mut i = 0;
@@ -121,11 +123,11 @@ fn put_refusal(
     report: &mut [u8],
     at: usize,
 ) -> usize
-    requires { ⌜ (length (now s) ≤ 65536) × RoomAt (now s) (now spots) (now to) (now mats) (now regs) (now ats) (now t) (now reg) (now lets) names i at (length (now report)) × KeptRight (now s) names (now spots) (now ends) ⌝ }
+    requires { ⌜ (length (now s) ≤ maxBytes) × RoomAt (now s) (now spots) (now to) (now mats) (now regs) (now ats) (now t) (now reg) (now lets) names i at (length (now report)) × KeptRight (now s) names (now spots) (now ends) ⌝ }
     ensures { λ r. ⌜ ((ns : List Name) → length ns ≡ names → (r ≡ at + length (refusedEntryT ns (now (s .entry)) (now (spots .entry)) (now (to .entry)) (now (mats .entry)) (now (regs .entry)) (now (ats .entry)) i (now (t .entry)) (now (reg .entry)) (now (lets .entry)))) × (now (report .exit) ≡ overwritten at (refusedEntryT ns (now (s .entry)) (now (spots .entry)) (now (to .entry)) (now (mats .entry)) (now (regs .entry)) (now (ats .entry)) i (now (t .entry)) (now (reg .entry)) (now (lets .entry))) (now (report .entry)))) ⌝ }
 {
     let a = entry(ats, i);
-    if a != 65535 {
+    if a != Pack::ABSENT {
         return at;
     }
     let p = entry(mats, i);
@@ -151,7 +153,7 @@ pub fn put_report(
     refused: usize,
     report: &mut [u8],
 )
-    requires { ⌜ (length (now s) ≤ 65536) × Long (now t) (now reg) (now lets) × RoomForAll (now s) (now spots) (now to) (now mats) (now regs) (now ats) names n (length (now report)) × KeptRight (now s) names (now spots) (now ends) ⌝ }
+    requires { ⌜ (length (now s) ≤ maxBytes) × Long (now t) (now reg) (now lets) × RoomForAll (now s) (now spots) (now to) (now mats) (now regs) (now ats) names n (length (now report)) × KeptRight (now s) names (now spots) (now ends) ⌝ }
     ensures { λ _. ⌜ ((ns : List Name) → length ns ≡ names → (es : ℕ → List ℕ) → EntersAll ns (now (s .entry)) (now (spots .entry)) (now (to .entry)) (now (mats .entry)) (now (regs .entry)) (now (ats .entry)) n es → now (report .exit) ≡ overwritten 0 (two refused ++ bytesT (ofRefused (now (ats .entry)) es) n 0) (now (report .entry))) ⌝ }
 {
     put_count(refused, report);

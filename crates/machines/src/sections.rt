@@ -17,9 +17,11 @@ ghost use mathlib.Core.Path.{_≡_};
 ghost use Prim.Native.Nat.{ℕ, _≤_};
 ghost use lib.ListN.{length};
 ghost use Rattle.wire.specs.Writer.{stateOf};
+ghost use Rattle.wire.specs.Bytes.{wordRange};
 ghost use Rattle.pack.specs.Names.{Name};
 ghost use Rattle.pack.specs.Write.{Item};
 ghost use Rattle.pack.specs.Intern.{render, started};
+ghost use Rattle.pack.specs.Limits.{maxBytes};
 ghost use Rattle.machines.specs.Ends.{EndsRight};
 ghost use Rattle.machines.specs.Relaid.{AllWrite, Long, enumsAt, equationsAt};
 ghost use Rattle.machines.specs.Parts.{enumsPartT, originsPartT, sectionsT};
@@ -44,7 +46,7 @@ fn put_enums_part(
     made: &mut [u8],
     w: Writer,
 ) -> Writer
-    requires { ⌜ (length (now s) ≤ 65536) × (n ≤ 65536) × Long (now t) (now reg) (now lets) × EndsRight (now s) names (now ends) ⌝ }
+    requires { ⌜ (length (now s) ≤ maxBytes) × (n ≤ wordRange) × Long (now t) (now reg) (now lets) × EndsRight (now s) names (now ends) ⌝ }
     ensures { λ r. ⌜ ((ns : List Name) → length ns ≡ names → (ats : List ℕ) (ens : ℕ → List Item) → AllWrite (now (old .entry)) (enumsAt ns (now (s .entry)) (now (spots .entry)) (now (to .entry))) (now (mats .entry)) n ens → stateOf (now (out .exit)) (now (made .exit)) r ≡ render (now (old .entry)) (enumsPartT ns (now (s .entry)) (now (mats .entry)) ats (now (regs .entry)) (now (spots .entry)) n ens at end) (stateOf (now (out .entry)) (now (made .entry)) w)) ⌝ }
 {
     let c = number(s, at);
@@ -85,7 +87,7 @@ fn put_origins_part(
     out: &mut [u8],
     w: Writer,
 ) -> Writer
-    requires { ⌜ (length (now s) ≤ 65536) × (n ≤ 65536) ⌝ }
+    requires { ⌜ (length (now s) ≤ maxBytes) × (n ≤ wordRange) ⌝ }
     ensures { λ r. ⌜ ((ns : List Name) → length ns ≡ names → (spots old l : List ℕ) → stateOf (now (out .exit)) l r ≡ render old (originsPartT ns (now (s .entry)) (now (mats .entry)) (now (ats .entry)) (now (regs .entry)) spots n at end nodes) (stateOf (now (out .entry)) l w)) ⌝ }
 {
     let c = number(s, at);
@@ -116,7 +118,7 @@ pub fn put_sections(
     out: &mut [u8],
     made: &mut [u8],
 ) -> Writer
-    requires { ⌜ (length (now s) ≤ 65536) × (n ≤ 65536) × Long (now t) (now reg) (now lets) × EndsRight (now s) (k .names) (now ends) ⌝ }
+    requires { ⌜ (length (now s) ≤ maxBytes) × (n ≤ wordRange) × Long (now t) (now reg) (now lets) × EndsRight (now s) (k .names) (now ends) ⌝ }
     ensures { λ r. ⌜ ((ns : List Name) → length ns ≡ k .names → (eqs ens : ℕ → List Item) → AllWrite (now (old .entry)) (equationsAt ns (now (s .entry)) (now (spots .entry)) (now (to .entry))) (now (mats .entry)) n eqs → AllWrite (now (old .entry)) (enumsAt ns (now (s .entry)) (now (spots .entry)) (now (to .entry))) (now (mats .entry)) n ens → stateOf (now (out .exit)) (now (made .exit)) r ≡ render (now (old .entry)) (sectionsT ns (now (s .entry)) (now (mats .entry)) (now (ats .entry)) (now (regs .entry)) (now (spots .entry)) n eqs ens k) (started (now (out .entry)) (now (made .entry)))) ⌝ }
 {
     let w = start();

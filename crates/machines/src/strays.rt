@@ -10,6 +10,7 @@ ghost use mathlib.Core.Path.{_≡_};
 ghost use Prim.Native.Nat.{_≤_};
 ghost use lib.ListN.{length};
 ghost use Rattle.pack.specs.Names.{Name};
+ghost use Rattle.pack.specs.Limits.{maxBytes};
 ghost use Rattle.machines.specs.Drawn.{Among, amongD, aimedD, straysD};
 ghost use Rattle.machines.specs.Known.{Known};
 ghost use Rattle.machines.specs.Ends.{EndsRight};
@@ -28,7 +29,7 @@ pub struct Strays {
 
 // Whether one of `count` states drawn from `from` on has the pack's name x.
 fn drawn_among(s: &[u8], names: usize, ends: &[u16], x: usize, count: usize, from: usize) -> bool
-    requires { ⌜ (length (now s) ≤ 65536) × EndsRight (now s) names (now ends) ⌝ }
+    requires { ⌜ (length (now s) ≤ maxBytes) × EndsRight (now s) names (now ends) ⌝ }
     ensures { λ r. ⌜ ((ns : List Name) → length ns ≡ names → r ≡ amongD ns (now (s .entry)) x count from) ⌝ }
 {
     let mut n = count;
@@ -56,7 +57,7 @@ fn drawn_known(
     last: usize,
     x: usize,
 ) -> bool
-    requires { ⌜ (length (now s) ≤ 65536) × EndsRight (now s) names (now ends) × Known known (Among (now s) names n f) last ⌝ }
+    requires { ⌜ (length (now s) ≤ maxBytes) × EndsRight (now s) names (now ends) × Known known (Among (now s) names n f) last ⌝ }
     ensures { λ r. ⌜ ((ns : List Name) → length ns ≡ names → r ≡ amongD ns (now (s .entry)) x n f) ⌝ }
 {
     if both(known, x == last) {
@@ -75,7 +76,7 @@ fn drawn_aimed(
     count: usize,
     from: usize,
 ) -> Aim
-    requires { ⌜ (length (now s) ≤ 65536) × EndsRight (now s) names (now ends) ⌝ }
+    requires { ⌜ (length (now s) ≤ maxBytes) × EndsRight (now s) names (now ends) ⌝ }
     ensures { λ r. ⌜ ((ns : List Name) → length ns ≡ names → r ≡ aimedD ns (now (s .entry)) n f count from) ⌝ }
 {
     let mut k = count;
@@ -98,7 +99,7 @@ fn drawn_aimed(
 
 // The first of the n states drawn from f on that strays.
 pub fn drawn_strays(s: &[u8], names: usize, ends: &[u16], n: usize, f: usize) -> Strays
-    requires { ⌜ (length (now s) ≤ 65536) × EndsRight (now s) names (now ends) ⌝ }
+    requires { ⌜ (length (now s) ≤ maxBytes) × EndsRight (now s) names (now ends) ⌝ }
     ensures { λ r. ⌜ ((ns : List Name) → length ns ≡ names → r ≡ straysD ns (now (s .entry)) n f) ⌝ }
 {
     let mut fine = 0;

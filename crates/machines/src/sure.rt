@@ -19,6 +19,7 @@ ghost use lib.ListN.{length};
 ghost use Rattle.wire.specs.Answer.{counted};
 ghost use Rattle.pack.specs.Names.{Name};
 ghost use Rattle.pack.specs.Read.{equationIn, equationsIn, exprIn, portIn, transitionIn};
+ghost use Rattle.pack.specs.Limits.{maxBytes};
 ghost use Rattle.machines.specs.Stands.{endOf, overIn};
 ghost use Rattle.machines.specs.Sure.{sureOf, firstSome, numberIn, regionIn, machineFrom};
 
@@ -78,7 +79,7 @@ pub fn machine(s: &[u8], at: usize) -> Num
 
 // Past an expression.
 pub fn after_expr(s: &[u8], names: usize, at: usize) -> usize
-    requires { ⌜ length (now s) ≤ 65536 ⌝ }
+    requires { ⌜ length (now s) ≤ maxBytes ⌝ }
     ensures { λ r. ⌜ ((ns : List Name) → length ns ≡ names → r ≡ endOf (exprIn ns (now (s .entry)) at)) ⌝ }
 {
     reached(then_expr(s, names, Skipped::To(at)))
@@ -86,7 +87,7 @@ pub fn after_expr(s: &[u8], names: usize, at: usize) -> usize
 
 // Past a port.
 pub fn after_port(s: &[u8], names: usize, at: usize) -> usize
-    requires { ⌜ length (now s) ≤ 65536 ⌝ }
+    requires { ⌜ length (now s) ≤ maxBytes ⌝ }
     ensures { λ r. ⌜ ((ns : List Name) → length ns ≡ names → r ≡ endOf (portIn ns (now (s .entry)) at)) ⌝ }
 {
     reached(then_port(s, names, Skipped::To(at)))
@@ -94,7 +95,7 @@ pub fn after_port(s: &[u8], names: usize, at: usize) -> usize
 
 // Past an equation.
 pub fn after_equation(s: &[u8], names: usize, at: usize) -> usize
-    requires { ⌜ length (now s) ≤ 65536 ⌝ }
+    requires { ⌜ length (now s) ≤ maxBytes ⌝ }
     ensures { λ r. ⌜ ((ns : List Name) → length ns ≡ names → r ≡ endOf (equationIn ns (now (s .entry)) at)) ⌝ }
 {
     reached(then_equation(s, names, Skipped::To(at)))
@@ -102,7 +103,7 @@ pub fn after_equation(s: &[u8], names: usize, at: usize) -> usize
 
 // Past equations, which stand after their count.
 pub fn after_equations(s: &[u8], names: usize, at: usize) -> usize
-    requires { ⌜ length (now s) ≤ 65536 ⌝ }
+    requires { ⌜ length (now s) ≤ maxBytes ⌝ }
     ensures { λ r. ⌜ ((ns : List Name) → length ns ≡ names → r ≡ endOf (equationsIn ns (now (s .entry)) at)) ⌝ }
 {
     reached(then_equations(s, names, Skipped::To(at)))
@@ -110,7 +111,7 @@ pub fn after_equations(s: &[u8], names: usize, at: usize) -> usize
 
 // Past transitions, which stand after their count.
 pub fn after_transitions(s: &[u8], names: usize, at: usize) -> usize
-    requires { ⌜ length (now s) ≤ 65536 ⌝ }
+    requires { ⌜ length (now s) ≤ maxBytes ⌝ }
     ensures { λ r. ⌜ ((ns : List Name) → length ns ≡ names → r ≡ endOf (counted (transitionIn ns (now (s .entry))) (now (s .entry)) at)) ⌝ }
 {
     reached(then_transitions(s, names, Skipped::To(at)))
@@ -118,7 +119,7 @@ pub fn after_transitions(s: &[u8], names: usize, at: usize) -> usize
 
 // A state with all that is drawn inside.
 pub fn after_state(s: &[u8], names: usize, at: usize) -> usize
-    requires { ⌜ length (now s) ≤ 65536 ⌝ }
+    requires { ⌜ length (now s) ≤ maxBytes ⌝ }
     ensures { λ r. ⌜ ((ns : List Name) → length ns ≡ names → r ≡ overIn ns (now (s .entry)) at) ⌝ }
 {
     reached(then_state(s, names, Pack::LEVELS - 1, Skipped::To(at)))

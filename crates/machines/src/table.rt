@@ -13,6 +13,7 @@ ghost use mathlib.Core.Path.{_≡_};
 ghost use Prim.Native.Nat.{_≤_};
 ghost use lib.ListN.{length, getD, set};
 ghost use Rattle.pack.specs.Names.{Name};
+ghost use Rattle.pack.specs.Limits.{maxBytes};
 ghost use Rattle.machines.specs.Ends.{EndsRight};
 ghost use Rattle.machines.specs.Tables.{initialIn, outputsIn, statesEnd, machinesPlaced, namesPlaced, nextName, lenOf};
 
@@ -66,7 +67,7 @@ pub fn name_len(s: &[u8], spots: &[u16], i: usize) -> usize
 
 // From a machine's owner, past its inputs: where its outputs are.
 pub fn to_outputs(s: &[u8], names: usize, at: usize) -> usize
-    requires { ⌜ length (now s) ≤ 65536 ⌝ }
+    requires { ⌜ length (now s) ≤ maxBytes ⌝ }
     ensures { λ r. ⌜ ((ns : List Name) → length ns ≡ names → r ≡ outputsIn ns (now (s .entry)) at) ⌝ }
 {
     let o = then_optional(s, names, Skipped::To(at));
@@ -75,7 +76,7 @@ pub fn to_outputs(s: &[u8], names: usize, at: usize) -> usize
 
 // From a machine's owner, past its ports: where its initial state is.
 pub fn to_initial(s: &[u8], names: usize, at: usize) -> usize
-    requires { ⌜ length (now s) ≤ 65536 ⌝ }
+    requires { ⌜ length (now s) ≤ maxBytes ⌝ }
     ensures { λ r. ⌜ ((ns : List Name) → length ns ≡ names → r ≡ initialIn ns (now (s .entry)) at) ⌝ }
 {
     let o = then_optional(s, names, Skipped::To(at));
@@ -87,7 +88,7 @@ pub fn to_initial(s: &[u8], names: usize, at: usize) -> usize
 
 // From a machine's initial state, past its states.
 pub fn after_states(s: &[u8], names: usize, ends: &[u16], at: usize) -> usize
-    requires { ⌜ (length (now s) ≤ 65536) × EndsRight (now s) names (now ends) ⌝ }
+    requires { ⌜ (length (now s) ≤ maxBytes) × EndsRight (now s) names (now ends) ⌝ }
     ensures { λ r. ⌜ ((ns : List Name) → length ns ≡ names → r ≡ statesEnd ns (now (s .entry)) at) ⌝ }
 {
     let i = number(s, at);
@@ -96,7 +97,7 @@ pub fn after_states(s: &[u8], names: usize, ends: &[u16], at: usize) -> usize
 
 // Where the initial state of the last machine of each name is. In a table of zeros, 0 stays where there is none.
 pub fn place_machines(s: &[u8], names: usize, ends: &[u16], at: usize, to: &mut [u16])
-    requires { ⌜ (length (now s) ≤ 65536) × EndsRight (now s) names (now ends) ⌝ }
+    requires { ⌜ (length (now s) ≤ maxBytes) × EndsRight (now s) names (now ends) ⌝ }
     ensures { λ r. ⌜ ((ns : List Name) → length ns ≡ names → now (to .exit) ≡ machinesPlaced ns (now (s .entry)) at (now (to .entry))) ⌝ }
 {
     let c = number(s, at);

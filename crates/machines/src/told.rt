@@ -7,11 +7,13 @@ use crate::sure::number;
 use crate::table::entry;
 use pack::cells::cell;
 use pack::cells::put_cell;
+use wire::number::WORD_RANGE;
 ghost use mathlib.Core.List.{List};
 ghost use mathlib.Core.Path.{_≡_};
 ghost use Prim.Native.Nat.{_<_, _≤_};
 ghost use lib.ListN.{length};
 ghost use Rattle.pack.specs.Names.{Name};
+ghost use Rattle.pack.specs.Limits.{maxBytes};
 ghost use Rattle.machines.specs.Ends.{EndsRight};
 ghost use Rattle.machines.specs.Kept.{regionsIn};
 ghost use Rattle.machines.specs.Covers.{givesT, ownT};
@@ -33,7 +35,7 @@ pub struct Told {
 
 // Whether `out` is an equation's only left name.
 fn gives(s: &[u8], names: usize, ends: &[u16], out: usize, at: usize) -> Told
-    requires { ⌜ (length (now s) ≤ 65536) × EndsRight (now s) names (now ends) ⌝ }
+    requires { ⌜ (length (now s) ≤ maxBytes) × EndsRight (now s) names (now ends) ⌝ }
     ensures { λ r. ⌜ ((ns : List Name) → length ns ≡ names → r ≡ givesT ns (now (s .entry)) out at) ⌝ }
 {
     let k = number(s, at);
@@ -54,7 +56,7 @@ struct Found {
 
 // Whether an equation of the state at `at` gives `out`.
 fn own(s: &[u8], names: usize, ends: &[u16], out: usize, at: usize) -> Found
-    requires { ⌜ (length (now s) ≤ 65536) × EndsRight (now s) names (now ends) ⌝ }
+    requires { ⌜ (length (now s) ≤ maxBytes) × EndsRight (now s) names (now ends) ⌝ }
     ensures { λ r. ⌜ ((ns : List Name) → length ns ≡ names → r .yes ≡ ownT ns (now (s .entry)) out at) ⌝ }
     ensures { λ r. ⌜ RestOf (now (s .entry)) names at (r .left) (r .next) ⌝ }
 {
@@ -84,7 +86,7 @@ fn own(s: &[u8], names: usize, ends: &[u16], out: usize, at: usize) -> Found
 // The same, with the equation after the one found last tried first: outputs mostly come in the order of the equations, and a
 // state may have thousands.
 fn own_near(s: &[u8], names: usize, ends: &[u16], told: &[u16], out: usize, at: usize) -> Found
-    requires { ⌜ (length (now s) ≤ 65536) × EndsRight (now s) names (now ends) × ToldRight (now s) names (now ends) (now told) ⌝ }
+    requires { ⌜ (length (now s) ≤ maxBytes) × EndsRight (now s) names (now ends) × ToldRight (now s) names (now ends) (now told) ⌝ }
     ensures { λ r. ⌜ ((ns : List Name) → length ns ≡ names → r .yes ≡ ownT ns (now (s .entry)) out at) ⌝ }
     ensures { λ r. ⌜ RestOf (now (s .entry)) names at (r .left) (r .next) ⌝ }
 {
@@ -111,13 +113,13 @@ fn own_near(s: &[u8], names: usize, ends: &[u16], told: &[u16], out: usize, at: 
 fn put_rest(told: &mut [u16], p: usize, n: usize, q: usize)
     ensures { λ _. ⌜ now (told .exit) ≡ restPut (now (told .entry)) p n q ⌝ }
 {
-    if 65536 <= p {
+    if WORD_RANGE <= p {
         return;
     }
-    if 65536 <= n {
+    if WORD_RANGE <= n {
         return;
     }
-    if 65536 <= q {
+    if WORD_RANGE <= q {
         return;
     }
     let b = 3 * (p / 10 % RESTS);
@@ -137,7 +139,7 @@ fn mark(out: usize, given: bool) -> usize
 // Whether an equation of the state at `at`, which is kept, gives `out`. A state that is drawn once may stand hundreds of times in
 // a resolved machine: its equations are looked at only where its cell says nothing of `out`.
 fn own_kept(s: &[u8], names: usize, ends: &[u16], told: &mut [u16], out: usize, at: usize) -> bool
-    requires { ⌜ (length (now s) ≤ 65536) × EndsRight (now s) names (now ends) × ToldRight (now s) names (now ends) (now told) × (out < 32767) × (0 < regionsIn (now ends) at) ⌝ }
+    requires { ⌜ (length (now s) ≤ maxBytes) × EndsRight (now s) names (now ends) × ToldRight (now s) names (now ends) (now told) × (out < 32767) × (0 < regionsIn (now ends) at) ⌝ }
     ensures { λ r. ⌜ ((ns : List Name) → length ns ≡ names → r ≡ ownT ns (now (s .entry)) out at) ⌝ }
     ensures { λ _. ⌜ ToldRight (now (s .entry)) names (now (ends .entry)) (now (told .exit)) ⌝ }
 {
@@ -167,7 +169,7 @@ pub fn own_told(
     out: usize,
     at: usize,
 ) -> bool
-    requires { ⌜ (length (now s) ≤ 65536) × EndsRight (now s) names (now ends) × ToldRight (now s) names (now ends) (now told) ⌝ }
+    requires { ⌜ (length (now s) ≤ maxBytes) × EndsRight (now s) names (now ends) × ToldRight (now s) names (now ends) (now told) ⌝ }
     ensures { λ r. ⌜ ((ns : List Name) → length ns ≡ names → r ≡ ownT ns (now (s .entry)) out at) ⌝ }
     ensures { λ _. ⌜ ToldRight (now (s .entry)) names (now (ends .entry)) (now (told .exit)) ⌝ }
 {

@@ -17,6 +17,7 @@ ghost use mathlib.Core.Path.{_≡_};
 ghost use Prim.Native.Nat.{_≤_};
 ghost use lib.ListN.{length};
 ghost use Rattle.pack.specs.Names.{Name};
+ghost use Rattle.pack.specs.Limits.{maxBytes};
 ghost use Rattle.machines.specs.Known.{Known};
 ghost use Rattle.machines.specs.Ends.{EndsRight};
 ghost use Rattle.machines.specs.Valid.{amongT, hasT, targetsT, checkedState, checkedRegion, foretold as foretoldOf, Has, OneForeseen};
@@ -72,7 +73,7 @@ fn has_target(s: &[u8], t: &[usize], q: usize, known: bool, last: usize, x: usiz
 
 // The targets of the state at the word p, in the region at the word q.
 fn check_targets(s: &[u8], names: usize, ends: &[u16], t: &[usize], q: usize, p: usize) -> Checked
-    requires { ⌜ (length (now s) ≤ 65536) × EndsRight (now s) names (now ends) ⌝ }
+    requires { ⌜ (length (now s) ≤ maxBytes) × EndsRight (now s) names (now ends) ⌝ }
     ensures { λ r. ⌜ ((ns : List Name) → length ns ≡ names → r ≡ targetsT ns (now (s .entry)) (now (t .entry)) q p) ⌝ }
 {
     let c = number(s, word(t, p, 1));
@@ -122,7 +123,7 @@ fn check_moves(
     q: usize,
     p: usize,
 ) -> Checked
-    requires { ⌜ (length (now s) ≤ 65536) × EndsRight (now s) names (now ends) × OneForeseen (now s) names (now t) v q p ⌝ }
+    requires { ⌜ (length (now s) ≤ maxBytes) × EndsRight (now s) names (now ends) × OneForeseen (now s) names (now t) v q p ⌝ }
     ensures { λ r. ⌜ ((ns : List Name) → length ns ≡ names → r ≡ targetsT ns (now (s .entry)) (now (t .entry)) q p) ⌝ }
 {
     if v.known {
@@ -142,7 +143,7 @@ fn check_state(
     q: usize,
     p: usize,
 ) -> Checked
-    requires { ⌜ (length (now s) ≤ 65536) × EndsRight (now s) names (now ends) × OneForeseen (now s) names (now t) v q p ⌝ }
+    requires { ⌜ (length (now s) ≤ maxBytes) × EndsRight (now s) names (now ends) × OneForeseen (now s) names (now t) v q p ⌝ }
     ensures { λ r. ⌜ ((ns : List Name) → length ns ≡ names → r ≡ checkedState ns (now (s .entry)) (now (t .entry)) (checkedRegion ns (now (s .entry)) (now (t .entry)) levels) q p) ⌝ }
 {
     let c = check_moves(s, names, ends, t, v, q, p);
@@ -171,7 +172,7 @@ pub fn check_region(
     levels: usize,
     q: usize,
 ) -> Checked
-    requires { ⌜ (length (now s) ≤ 65536) × EndsRight (now s) names (now ends) ⌝ }
+    requires { ⌜ (length (now s) ≤ maxBytes) × EndsRight (now s) names (now ends) ⌝ }
     ensures { λ r. ⌜ ((ns : List Name) → length ns ≡ names → r ≡ checkedRegion ns (now (s .entry)) (now (t .entry)) levels q) ⌝ }
 {
     if levels == 0 {

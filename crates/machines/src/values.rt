@@ -25,6 +25,7 @@ ghost use lib.ListN.{length, getD};
 ghost use Rattle.wire.specs.Writer.{puts, stateOf};
 ghost use Rattle.pack.specs.Names.{Name};
 ghost use Rattle.pack.specs.Intern.{render};
+ghost use Rattle.pack.specs.Limits.{maxBytes};
 ghost use Rattle.machines.specs.Ends.{EndsRight};
 ghost use Rattle.machines.specs.Covers.{uncoveredT};
 ghost use Rattle.machines.specs.Told.{ToldRight};
@@ -32,7 +33,7 @@ ghost use Rattle.machines.specs.Values.{sideT, sideBytes, enteredT, inSt
 
 // Where the right side stands of the first equation of the state at `at` that has x as its only left name; 0 where there is none.
 fn own_side(s: &[u8], names: usize, ends: &[u16], x: usize, at: usize) -> usize
-    requires { ⌜ (length (now s) ≤ 65536) × EndsRight (now s) names (now ends) ⌝ }
+    requires { ⌜ (length (now s) ≤ maxBytes) × EndsRight (now s) names (now ends) ⌝ }
     ensures { λ r. ⌜ ((ns : List Name) → length ns ≡ names → r ≡ sideT ns (now (s .entry)) x at) ⌝ }
 {
     let i = number(s, at);
@@ -62,7 +63,7 @@ fn put_own(
     out: &mut [u8],
     w: Writer,
 ) -> Writer
-    requires { ⌜ (length (now s) ≤ 65536) × EndsRight (now s) names (now ends) ⌝ }
+    requires { ⌜ (length (now s) ≤ maxBytes) × EndsRight (now s) names (now ends) ⌝ }
     ensures { λ r. ⌜ ((ns : List Name) → length ns ≡ names → (m : List ℕ) → stateOf (now (out .exit)) m r ≡ puts (sideBytes ns (now (s .entry)) x (getD (now (t .entry)) p 0)) (stateOf (now (out .entry)) m w)) ⌝ }
 {
     let a = own_side(s, names, ends, x, entry(t, p));
@@ -81,7 +82,7 @@ fn entered(
     levels: usize,
     p: usize,
 ) -> usize
-    requires { ⌜ (length (now s) ≤ 65536) × EndsRight (now s) names (now ends) × ToldRight (now s) names (now ends) (now told) ⌝ }
+    requires { ⌜ (length (now s) ≤ maxBytes) × EndsRight (now s) names (now ends) × ToldRight (now s) names (now ends) (now told) ⌝ }
     ensures { λ r. ⌜ ((ns : List Name) → length ns ≡ names → r ≡ enteredT (now (t .entry)) (uncoveredT ns (now (s .entry)) (now (t .entry)) x levels) p) ⌝ }
     ensures { λ _. ⌜ ToldRight (now (s .entry)) names (now (ends .entry)) (now (told .exit)) ⌝ }
 {
@@ -114,7 +115,7 @@ fn put_state_value(
     made: &mut [u8],
     w: Writer,
 ) -> Writer
-    requires { ⌜ (length (now s) ≤ 65536) × EndsRight (now s) names (now ends) × ToldRight (now s) names (now ends) (now told) ⌝ }
+    requires { ⌜ (length (now s) ≤ maxBytes) × EndsRight (now s) names (now ends) × ToldRight (now s) names (now ends) (now told) ⌝ }
     ensures { λ r. ⌜ ((ns : List Name) → length ns ≡ names → stateOf (now (out .exit)) (now (made .exit)) r ≡ render (now (old .entry)) (inStateT (now (s .entry)) (now (t .entry)) (now (lets .entry)) ns x (valueT (now (s .entry)) (now (t .entry)) (now (lets .entry)) ns x levels) (uncoveredT ns (now (s .entry)) (now (t .entry)) x levels) p) (stateOf (now (out .entry)) (now (made .entry)) w)) ⌝ }
     ensures { λ _. ⌜ ToldRight (now (s .entry)) names (now (ends .entry)) (now (told .exit)) ⌝ }
 {
@@ -155,7 +156,7 @@ fn put_value(
     made: &mut [u8],
     w: Writer,
 ) -> Writer
-    requires { ⌜ (length (now s) ≤ 65536) × EndsRight (now s) names (now ends) × ToldRight (now s) names (now ends) (now told) ⌝ }
+    requires { ⌜ (length (now s) ≤ maxBytes) × EndsRight (now s) names (now ends) × ToldRight (now s) names (now ends) (now told) ⌝ }
     ensures { λ r. ⌜ ((ns : List Name) → length ns ≡ names → stateOf (now (out .exit)) (now (made .exit)) r ≡ render (now (old .entry)) (valueT (now (s .entry)) (now (t .entry)) (now (lets .entry)) ns x levels q) (stateOf (now (out .entry)) (now (made .entry)) w)) ⌝ }
     ensures { λ _. ⌜ ToldRight (now (s .entry)) names (now (ends .entry)) (now (told .exit)) ⌝ }
 {
@@ -192,7 +193,7 @@ fn put_output(
     made: &mut [u8],
     w: Writer,
 ) -> Writer
-    requires { ⌜ (length (now s) ≤ 65536) × EndsRight (now s) names (now ends) × ToldRight (now s) names (now ends) (now told) ⌝ }
+    requires { ⌜ (length (now s) ≤ maxBytes) × EndsRight (now s) names (now ends) × ToldRight (now s) names (now ends) (now told) ⌝ }
     ensures { λ r. ⌜ ((ns : List Name) → length ns ≡ names → stateOf (now (out .exit)) (now (made .exit)) r ≡ render (now (old .entry)) (outputT (now (s .entry)) (now (t .entry)) (now (lets .entry)) ns x) (stateOf (now (out .entry)) (now (made .entry)) w)) ⌝ }
     ensures { λ _. ⌜ ToldRight (now (s .entry)) names (now (ends .entry)) (now (told .exit)) ⌝ }
 {
@@ -228,7 +229,7 @@ pub fn put_outputs(
     made: &mut [u8],
     w: Writer,
 ) -> Writer
-    requires { ⌜ (length (now s) ≤ 65536) × EndsRight (now s) names (now ends) ⌝ }
+    requires { ⌜ (length (now s) ≤ maxBytes) × EndsRight (now s) names (now ends) ⌝ }
     ensures { λ r. ⌜ ((ns : List Name) → length ns ≡ names → stateOf (now (out .exit)) (now (made .exit)) r ≡ render (now (old .entry)) (portOutputsT (now (s .entry)) (now (t .entry)) (now (lets .entry)) ns at) (stateOf (now (out .entry)) (now (made .entry)) w)) ⌝ }
 {
     let mut told = [0u16; TOLD];

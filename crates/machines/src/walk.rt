@@ -19,6 +19,7 @@ ghost use mathlib.Core.Path.{_≡_};
 ghost use Prim.Native.Nat.{_≤_};
 ghost use lib.ListN.{length};
 ghost use Rattle.pack.specs.Names.{Name};
+ghost use Rattle.pack.specs.Limits.{maxBytes};
 ghost use Rattle.machines.specs.Ends.{KeptRight};
 ghost use Rattle.machines.specs.Walks.{enterW, qualifyOf, stateW, walk as walkIn, machineW};
 
@@ -70,7 +71,7 @@ fn walk_state(
     at: usize,
     count: usize,
 ) -> Walked
-    requires { ⌜ (length (now s) ≤ 65536) × KeptRight (now s) names (now spots) (now ends) ⌝ }
+    requires { ⌜ (length (now s) ≤ maxBytes) × KeptRight (now s) names (now spots) (now ends) ⌝ }
     ensures { λ r. ⌜ ((ns : List Name) → length ns ≡ names → r ≡ stateW ns (now (s .entry)) (now (spots .entry)) (now (to .entry)) (walkIn ns (now (s .entry)) (now (spots .entry)) (now (to .entry)) levels) p at count) ⌝ }
 {
     if Pack::STATES <= count {
@@ -95,7 +96,7 @@ fn walk_state(
         c = states;
     }
     let f = number(s, o);
-    if f.value == 65535 {
+    if f.value == Pack::ABSENT {
         return Walked::Went(f.next, c, a);
     }
     let i = number(s, at);
@@ -124,7 +125,7 @@ fn walk_states(
     at: usize,
     done: usize,
 ) -> Walked
-    requires { ⌜ (length (now s) ≤ 65536) × KeptRight (now s) names (now spots) (now ends) ⌝ }
+    requires { ⌜ (length (now s) ≤ maxBytes) × KeptRight (now s) names (now spots) (now ends) ⌝ }
     ensures { λ r. ⌜ ((ns : List Name) → length ns ≡ names → r ≡ walkIn ns (now (s .entry)) (now (spots .entry)) (now (to .entry)) levels p count at done) ⌝ }
 {
     if levels == 0 {
@@ -157,7 +158,7 @@ pub fn walk_machine(
     m: usize,
     at: usize,
 ) -> Walked
-    requires { ⌜ (length (now s) ≤ 65536) × KeptRight (now s) names (now spots) (now ends) ⌝ }
+    requires { ⌜ (length (now s) ≤ maxBytes) × KeptRight (now s) names (now spots) (now ends) ⌝ }
     ensures { λ r. ⌜ ((ns : List Name) → length ns ≡ names → r ≡ machineW ns (now (s .entry)) (now (spots .entry)) (now (to .entry)) m at) ⌝ }
 {
     let k = machine(s, at);

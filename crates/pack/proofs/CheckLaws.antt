@@ -28,7 +28,6 @@ use Rattle.wire.proofs.Steps.{found, never-is}
 use Rattle.wire.proofs.Bounds.{offsetIn}
 use Rattle.pack.proofs.Bounds.{within-pack}
 use Rattle.pack.proofs.RoundTrip.{bodyIn, read-value}
-use Rattle.pack.specs.Limits.{maxBytes}
 use Rattle.pack.specs.Names.{Name, member}
 use Rattle.pack.specs.Syntax.{Package}
 use Rattle.pack.specs.Read.{Reading, activationIn, bytesAfter, deepAt, endsEarly, enumIn, illegalAt, machineIn, name, nameSection, namesAfter, nodeIn, originIn, packAt, read, readingOf, tooLong, whole}
@@ -241,19 +240,19 @@ judged-reading n (illegal o) = refl
 judged-reading n (deep o) = refl
 
 pub open-long : (s : List ℕ) → 65536 < length s → vd.TooLong ≡ verdictOf (read s)
-unfolding read maxBytes verdictOf
+unfolding read verdictOf
 open-long s h = rw (lt-ltb 65536 (length s) h)
 
 pub record-long : (s : List ℕ) → 65536 < length s → emptyRecord ≡ recordOf s
-unfolding recordOf maxBytes
+unfolding recordOf
 record-long s h = rw (lt-ltb 65536 (length s) h)
 
 pub record-short : (s : List ℕ) → length s ≤ 65536 → sectionsOf s ≡ recordOf s
-unfolding recordOf maxBytes
+unfolding recordOf
 record-short s h = rw (le-ltb 65536 (length s) h)
 
 read-short : (s : List ℕ) → length s ≤ 65536 → read s ≡ readingOf (length s) (packAt s 0)
-unfolding read maxBytes
+unfolding read
 read-short s h = rw (le-ltb 65536 (length s) h)
 
 pub open-short : (s : List ℕ) (v : Verdict) → length s ≤ 65536 → v ≡ judgedOf (skip (packAt s 0)) (length s) → v ≡ verdictOf (read s)
@@ -261,7 +260,6 @@ open-short s v h e = e ∙ judged-reading (length s) (packAt s 0) ∙ ap verdict
 
 -- a whole pack's sections stand where its record says
 pub record-stands : (s : List ℕ) (p : Package) → read s ≡ whole p → Stands s (recordOf s) p
-unfolding maxBytes
 record-stands s p e =
     let r = read-value s p e in
     subst (λ (k : Pack). Stands s k p) (record-short s (r .0)) (sections-stand s p (r .1) (r .2))
@@ -310,7 +308,7 @@ reading-small n (illegal o) h l = omega arith
 reading-small n (deep o) h l = omega arith
 
 pub value-small : (s : List ℕ) (v : Verdict) → v ≡ verdictOf (read s) → valueFor v (length s) ≤ 65536
-unfolding read maxBytes verdictOf valueFor
+unfolding read verdictOf valueFor
 value-small s v e = subst (λ (x : Verdict). valueFor x (length s) ≤ 65536) (sym e) (go (ltb 65536 (length s)) refl)
   where
     go : (t : Bool) → ltb 65536 (length s) ≡ t → valueFor (verdictOf (cond t tooLong (readingOf (length s) (packAt s 0)))) (length s) ≤ 65536

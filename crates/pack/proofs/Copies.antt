@@ -15,7 +15,6 @@ use Rattle.wire.proofs.Writers.{puts-append}
 use Rattle.wire.proofs.Answers.{guard-value}
 use Rattle.wire.proofs.Formats.{Below, formatBelow, single}
 use Rattle.wire.proofs.Bounds.{Within, offsetIn, within-below}
-use Rattle.pack.specs.Limits.{maxName}
 use Rattle.pack.specs.Names.{Name}
 use Rattle.pack.specs.Syntax.{Equation, Expr, Port, eArray, eArrow, eBinary, eCall, eCast, eConst, eField, eIf, eIndex, eIterate, eMerge, ePre, eStruct, eTuple, eUnary, eVar, eWhen}
 use Rattle.pack.specs.Read.{equationsIn, exprIn, kindOf, nameIn, portsIn}
@@ -33,7 +32,7 @@ use Rattle.pack.proofs.WrittenBack.{all-known}
 
 -- an old name keeps its number
 name-known : (ns : List Name) (n : Name) (z : State) → All LegalName ns → Known ns n → putName (tabled ns) n z ≡ puts (two (place ns n)) z
-unfolding putName putFound maxName
+unfolding putName putFound
 name-known ns n z a k =
     let l = all-known LegalName ns n a k in
     ap (λ b. cond b full (putFound (seek (tabled ns) n) n z)) (le-ltb 255 (length n) (let h = l .1 in omega arith))

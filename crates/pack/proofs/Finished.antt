@@ -13,7 +13,6 @@ use Rattle.wire.specs.declared.writer.Writer.{Writer}
 use Rattle.wire.specs.Bytes.{two}
 use Rattle.wire.specs.Writer.{stateOf, overwritten}
 use Rattle.wire.proofs.Writers.{lt-or-le, take-part}
-use Rattle.pack.specs.Limits.{maxBytes}
 use Rattle.pack.specs.Table.{table, textsFrom}
 use Rattle.pack.specs.Outcome.{Outcome, answers, writes, numberOf, valueOf, outputOf, Gives, begins, sized, packOf, answered}
 
@@ -29,11 +28,11 @@ begins-none d = refl
 -- the answer by size, of a pack that is not too long
 module _ (b : List ℕ) (room : ℕ) (h : length b ≤ 65536) where
   pub sized-nine : room < length b → sized room b ≡ answers 9 (length b)
-  unfolding sized maxBytes
+  unfolding sized
   sized-nine g = rw (le-ltb 65536 (length b) h, lt-ltb room (length b) g)
 
   pub sized-zero : length b ≤ room → sized room b ≡ writes b
-  unfolding sized maxBytes
+  unfolding sized
   sized-zero g = rw (le-ltb 65536 (length b) h, le-ltb room (length b) g)
 
 -- the answer by size: k is the pack's length, or 65537 where that is less
@@ -43,7 +42,7 @@ module _ (a b c : List ℕ) (room k : ℕ) (size : k ≡ min (2 + length a + len
   whole-length = simp length-append (omega arith)
 
   pub sized-large : 65536 < k → sized room (packOf a b c) ≡ answers 8 0
-  unfolding sized maxBytes
+  unfolding sized
   sized-large h = rw (lt-ltb 65536 (length (packOf a b c)) (omega (arith, whole-length)))
 
   pub sized-short : k ≤ 65536 → room < k → sized room (packOf a b c) ≡ answers 9 k

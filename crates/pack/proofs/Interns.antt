@@ -179,11 +179,11 @@ putNew-is o m n w b e f p q = go (w .full)
 
 -- a name by its length, and by what was found
 pub name-long : (old n : List ℕ) (s : State) → 255 < length n → full ≡ putName old n s
-unfolding putName maxName
+unfolding putName
 name-long old n s h = rw (lt-ltb 255 (length n) h)
 
 pub name-found : (old n : List ℕ) (s : State) (f : Found) → length n ≤ 255 → f ≡ seek old n → putFound f n s ≡ putName old n s
-unfolding putName maxName
+unfolding putName
 name-found old n s f h e = rw (le-ltb 255 (length n) h, e)
 
 -- a full writer stays full
@@ -201,7 +201,7 @@ name-stopped old out made n w e = rw e (name-full old n)
 
 -- a made name that was written to a buffer of 255 bytes is that name
 pub built-is : (old n : List ℕ) (cm : ℕ) (md : List ℕ) (s : State) → putBuilt old (puts n (st 255 cm [] md)) s ≡ putName old n s
-unfolding putBuilt putName maxName
+unfolding putBuilt putName
 built-is old n cm md s = rw (puts-fit 255 cm md n [] zero-le, zero-add) (⊎-elim over fits (lt-or-le 255 (length n)))
   where
     over : 255 < length n

@@ -260,7 +260,7 @@ module _ (ns : List Name) (fresh : Fresh [] ns) (small : length ns < 65536) wher
   ok-place i = (i < 65536) × ((ltb i (length ns) || eqb i absent) ≡ true)
 
   option-down : (o : Option Name) → Any o × Each (Known ns) (optionItems o) → ok-place (place-of o) × (optional ns (place-of o) ≡ o)
-  unfolding optional optionItems Each absent place-of
+  unfolding optional optionItems Each place-of
   option-down none h = ((omega arith, le-or), refl)
     where
       le-or : (ltb 65535 (length ns) || eqb 65535 65535) ≡ true

@@ -144,7 +144,6 @@ pub optional-name : (names : ℕ) (s : List ℕ) (at : ℕ) (r : Read) (v q : �
 optional-name names s at r v q h e l = goesR r (readOf (u16 s at)) _ (rd.Is v q) _ v q h e (guard-read _ at (u16 s at)) (rw (lt-ltb v names l))
 
 pub optional-none : (names : ℕ) (s : List ℕ) (at : ℕ) (r : Read) (v q : ℕ) → r ≡ rd.Is v q → r ≡ readOf (u16 s at) → v ≡ 65535 → rd.Is v q ≡ readOf (guard (λ i. ltb i names || eqb i absent) at (u16 s at))
-unfolding absent
 optional-none names s at r v q h e l = goesR r (readOf (u16 s at)) _ (rd.Is v q) _ v q h e (guard-read _ at (u16 s at)) (go (ltb v names))
   where
     go : (b : Bool) → rd.Is v q ≡ cond (b || eqb v 65535) (rd.Is v q) (rd.Illegal at)
@@ -152,7 +151,6 @@ optional-none names s at r v q h e l = goesR r (readOf (u16 s at)) _ (rd.Is v q)
     go false = rw (eq-eqb v 65535 l)
 
 pub optional-bad : (names : ℕ) (s : List ℕ) (at : ℕ) (r : Read) (v q : ℕ) → r ≡ rd.Is v q → r ≡ readOf (u16 s at) → names ≤ v → (v ≡ 65535 → ⊥) → rd.Illegal at ≡ readOf (guard (λ i. ltb i names || eqb i absent) at (u16 s at))
-unfolding absent
 optional-bad names s at r v q h e l d = goesR r (readOf (u16 s at)) _ (rd.Illegal at) _ v q h e (guard-read _ at (u16 s at)) (rw (le-ltb v names l, ne-eqb v 65535 d))
 
 pub optional-past : (ns : List Name) (s : List ℕ) (at names : ℕ) (r : Read) (q : Skipped) → length ns ≡ names → r ≡ readOf (guard (λ i. ltb i names || eqb i absent) at (u16 s at)) → q ≡ pastOf r → q ≡ skip (optionalIn ns s at)

@@ -101,7 +101,7 @@ enc-long [] a = omega arith
 enc-long (n ∷ ns) a = let i = enc-long ns (a .1) in let h = a .0 .0 in omega (arith, length-append n (enc ns))
 
 pub legal-sound : (p : Package) → Legal p → Sound p
-unfolding tabled maxBytes
+unfolding tabled
 legal-sound p o =
     let e = ap length (encode-known p (o .known)) in
     let w = enc-long (p .names) (o .names) in

@@ -7,7 +7,6 @@ use mathlib.Core.Path.{_≡_, refl, ap}
 use lib.ListN.{length}
 use borrow.Author.Tests.{le-leb}
 use Rattle.wire.specs.Lists.{Bytes}
-use Rattle.pack.specs.Limits.{maxName}
 use Rattle.pack.specs.Syntax.{Package}
 use Rattle.pack.specs.Legal.{Each, LegalName}
 use Rattle.pack.specs.Read.{read, whole}
@@ -18,7 +17,7 @@ use Rattle.pack.proofs.WrittenBack.{each-known}
 
 -- no legal name is too long
 legal-short : (is : List Item) → Each LegalName is → shorts is ≡ true
-unfolding Each shorts short maxName
+unfolding Each shorts short
 legal-short [] a = refl
 legal-short (raw xs ∷ is) a = legal-short is a
 legal-short (nm n ∷ is) a = rw (le-leb (length n) 255 (omega (arith, a .0 .1)), legal-short is (a .1))

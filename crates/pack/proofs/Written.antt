@@ -10,7 +10,7 @@ use borrow.Author.Tests.{lt-ltb, le-leb, lt-leb}
 use Rattle.wire.specs.Bytes.{two}
 use Rattle.wire.specs.Writer.{State, full, st, puts}
 use Rattle.wire.proofs.Writers.{lt-or-le, puts-fit, puts-full}
-use Rattle.pack.specs.Limits.{maxBytes, maxName}
+use Rattle.pack.specs.Limits.{maxBytes}
 use Rattle.pack.specs.Names.{Name}
 use Rattle.pack.specs.Syntax.{Package}
 use Rattle.pack.specs.Write.{Item, raw, nm, enc, Found, At, Missing, lookup, Spelt, spelt, newIn, oldIn, spellOne, before, andThen, spell, joined, encode, short, shorts, packageItems}
@@ -83,7 +83,7 @@ putFound-reach (Missing b) co cm bs n ns h g = rw (putNew-tabled co cm bs n b ns
 -- one item
 one-reach : (olds : List Name) (i : Item) (co cm : ℕ) (bs : List ℕ) (ns : List Name) → length bs ≤ co → length (enc ns) ≤ cm
     → Reached (putItem (tabled olds) i (st co (textsFrom + cm) bs (tabled ns))) co cm bs (short i) (bytesOf (spellOne olds i ns)) (newOf (spellOne olds i ns))
-unfolding putItem spellOne short maxName
+unfolding putItem spellOne short
 one-reach olds (raw xs) co cm bs ns h g = puts-reach co cm bs xs ns h g
 one-reach olds (nm n) co cm bs ns h g = ⊎-elim
     (λ (o : 255 < length n). inr (inl (lt-leb _ _ o), sym (name-long (tabled olds) n (st co (textsFrom + cm) bs (tabled ns)) o)))
@@ -240,7 +240,7 @@ finished-is room p names old s d e f = rw (f, e, d) (written-is room p)
 
 -- the two buffers of a caller, before anything is written
 pub empty-buffers : started (replicate 65536 0) (replicate tableRoom 0) ≡ unwritten
-unfolding unwritten maxBytes
+unfolding unwritten
 empty-buffers =
     ap (λ y. started (replicate 65536 0) (replicate y 0)) buffer-size
     ∙ started-blank (replicate 65536 0) 65536

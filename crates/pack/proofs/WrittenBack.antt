@@ -7,7 +7,7 @@ use mathlib.Core.Path.{_≡_, refl, sym, ap, subst, _∙_}
 use lib.ListN.{length}
 use lib.Dec.{ltb, leb}
 use borrow.Author.Tests.{ltb-true, ltb-false, leb-true}
-use Rattle.pack.specs.Limits.{maxBytes, maxName}
+use Rattle.pack.specs.Limits.{maxBytes}
 use Rattle.pack.specs.Names.{Name, eqName}
 use Rattle.pack.specs.Syntax.{Package}
 use Rattle.pack.specs.Read.{read, whole}
@@ -51,7 +51,7 @@ pub legal-ready : (p : Package) → Legal p → Ready p
 legal-ready p o = record { fresh = o .fresh; names = o .names; used = each-known LegalName (p .names) (packageItems p) (o .names) (o .known); formed = o .formed; fits = o .fits }
 
 pub shorts-legal : (is : List Item) → Each Allowed is → shorts is ≡ true → Each LegalName is
-unfolding Each shorts short maxName
+unfolding Each shorts short
 shorts-legal [] a h = tt
 shorts-legal (raw xs ∷ is) a h = shorts-legal is a h
 shorts-legal (nm n ∷ is) a h = go (leb (length n) 255) refl (shorts-legal is (a .1)) h

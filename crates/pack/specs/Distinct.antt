@@ -10,6 +10,7 @@ use mathlib.Core.List.{List}
 use mathlib.Core.Path.{_≡_}
 use lib.ListN.{length, take, getD, set}
 use lib.Dec.{eqb, ltb}
+use Rattle.wire.specs.Bytes.{wordMax, wordRange}
 use Rattle.pack.specs.Names.{Name, eqName, member}
 use Rattle.pack.specs.RawNames.{rawName, rawNames}
 use Rattle.pack.specs.Siphash.{hash, quadAt}
@@ -48,7 +49,7 @@ way key n = cond (eqb key 0 || ltb 16 (length n)) (longWay key n) (folded (produ
 
 -- what is kept of a way
 unfoldable pub tag : ℕ → ℕ
-tag h = h / 65536 % 65536
+tag h = h / wordRange % wordRange
 
 -- the first cell of a way
 unfoldable pub first : ℕ → ℕ → ℕ
@@ -82,7 +83,7 @@ telling t = eqb (length t) (cells + 1) && eqb (getD t cells 0) 0
 
 -- whether a name at p gets the cell i: it is one, and p fits
 unfoldable pub gets : ℕ → ℕ → Bool
-gets i p = ltb i cells && ltb p 65535
+gets i p = ltb i cells && ltb p wordMax
 
 -- the tag g beside the cell i, where there is no key
 unfoldable pub tagged : ℕ → ℕ → ℕ → List ℕ → List ℕ

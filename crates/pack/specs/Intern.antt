@@ -48,7 +48,7 @@ unfoldable pub putFound : Found → Name → State → State
 putFound (At k) n s = puts (two k) s
 putFound (Missing k) n s = putNew k n s
 
--- a name; one over 255 bytes fills the writer
+-- a name; one over the limit fills the writer
 unfoldable pub putName : List ℕ → Name → State → State
 putName old n s = cond (ltb maxName (length n)) full (putFound (seek old n) n s)
 

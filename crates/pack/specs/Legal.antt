@@ -5,15 +5,16 @@ use mathlib.Core.Bool.{true, false, cond}
 use mathlib.Core.Path.{_≡_}
 use lib.ListN.{length}
 use Rattle.wire.specs.Lists.{All}
+use Rattle.wire.specs.Bytes.{wordRange}
 use Rattle.pack.specs.Names.{Name, eqName, member}
-use Rattle.pack.specs.Limits.{maxBytes, maxLevel}
+use Rattle.pack.specs.Limits.{maxBytes, maxLevel, maxName}
 use Rattle.pack.specs.Read.{nameByte}
 use Rattle.pack.specs.Syntax.{Activation, Branch, Drawing, Drawn, DrawnRegions, Equation, Expr, Exprs, Lit, Node, Origin, Package, Port, Transition, Ty, dCons, dNil, eArray, eArrow, eBinary, eCall, eCast, eConst, eField, eIf, eIndex, eIterate, eMerge, ePre, eStruct, eTuple, eUnary, eVar, eWhen, lBool, lChar, lFloat, lInt, qCons, qNil, tArray, tBool, tChar, tFloat32, tFloat64, tInt16, tInt32, tInt64, tInt8, tNamed, tUint16, tUint32, tUint64, tUint8, xCons, xNil}
 use Rattle.pack.specs.Write.{Item, Spelt, arrays, countOf, encode, flagByte, nm, packageItems, raw, spell, spelt}
 
--- names of 1 to 255 letters, digits and underscores
+-- names of letters, digits and underscores, at least one and within the limit
 abbrev pub LegalName : Name → Type 0
-LegalName n = (0 < length n) × (length n < 256) × All (λ b. nameByte b ≡ true) n
+LegalName n = (0 < length n) × (length n < maxName + 1) × All (λ b. nameByte b ≡ true) n
 
 -- no name twice: none is among those before it
 unfoldable pub Fresh : List Name → List Name → Type 0
@@ -129,14 +130,14 @@ FormedActivation a = All ShapedPort (a .outputs) × All FormedBranch (a .branche
 
 -- equation numbers fit 16 bits
 abbrev pub FormedOrigin : Origin → Type 0
-FormedOrigin o = (o .first < 65536) × (o .after < 65536)
+FormedOrigin o = (o .first < wordRange) × (o .after < wordRange)
 
 -- a package is as its nodes, machines, activations and origins are
 abbrev pub FormedPackage : Package → Type 0
 FormedPackage p = All FormedNode (p .nodes) × All FormedMachine (p .machines) × All FormedActivation (p .activations) × All FormedOrigin (p .origins)
 
--- a package within the limits: no name twice, each of 1 to 255 allowed bytes, every used name in the table,
--- numbers in range and regions to level 8 (`FormedPackage`), and not too long; that the counts fit follows
+-- a package within the limits: no name twice, each of allowed bytes and within its limit, every used name in the table,
+-- numbers in range and regions to the deepest level (`FormedPackage`), and not too long; that the counts fit follows
 pub record Legal (p : Package) : Type 0 where
   pub fresh : Fresh [] (p .names)
   pub names : All LegalName (p .names)
@@ -168,6 +169,6 @@ pub record Ready (p : Package) : Type 0 where
   pub formed : FormedPackage p
   pub fits : length (encode p) ≤ maxBytes
 
--- allowed bytes, at least one; that there are no more than 255 is tested when a pack is written
+-- allowed bytes, at least one; that there are not too many is tested when a pack is written
 abbrev pub Allowed : Name → Type 0
 Allowed n = (0 < length n) × All (λ b. nameByte b ≡ true) n

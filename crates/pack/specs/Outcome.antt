@@ -74,7 +74,7 @@ reported room r = cond (ltb room (length r)) (answers 7 (length r)) (reports r)
 unfoldable pub sized : ℕ → List ℕ → Outcome
 sized room b = cond (ltb maxBytes (length b)) (answers 8 0) (cond (ltb room (length b)) (answers 9 (length b)) (writes b))
 
--- a package written to a buffer of so many bytes; a name over 255 bytes is 8
+-- a package written to a buffer of so many bytes; a name over the limit is 8
 unfoldable pub written : ℕ → Package → Outcome
 written room p = cond (shorts (packageItems p)) (sized room (encode p)) (answers 8 0)
 

@@ -24,7 +24,7 @@ nameBytes (b ∷ bs) = nameByte b && nameBytes bs
 unfoldable pub char : List ℕ → ℕ → Answer ℕ
 char s at = guard nameByte at (byte s at)
 
--- a length byte, 1 to 255; 0 is illegal at it
+-- a length byte; 0 is illegal at it
 unfoldable pub size : List ℕ → ℕ → Answer ℕ
 size s at = guard (λ n. ltb 0 n) at (byte s at)
 
@@ -41,7 +41,7 @@ namesAfter s t (suc n) at = bind (guard (λ x. not (member x t)) at (name s at))
 unfoldable pub nameSection : List ℕ → ℕ → Answer (List Name)
 nameSection s at = bind (u16 s at) λ n p. namesAfter s [] n p
 
--- a name by its index, or none, which is written 65535
+-- a name by its index, or none, which is written `absent`
 unfoldable pub optional : List Name → ℕ → Option Name
 optional ns i = cond (eqb i absent) none (some (nameAt ns i))
 
@@ -147,7 +147,7 @@ regionAt (suc levels) ns s at =
     mapA (λ (xs : List OneState). record { initial = i; history = flagOf h; states = drawnOf xs }) (counted (stateWith (regionAt levels ns s) ns s) s q)
 
 module _ (ns : List Name) (s : List ℕ) where
-  -- a top state: its regions open level 2, and level 8 is the last that may open
+  -- a top state: its regions open level 2, and the deepest level is the last that may open
   unfoldable pub stateAt : ℕ → Answer OneState
   stateAt = stateWith (regionAt (maxLevel - 1) ns s) ns s
 
@@ -169,7 +169,7 @@ module _ (ns : List Name) (s : List ℕ) where
       bind (exprIn ns s p) λ c q.
       mapA (λ (es : List Equation). record { name = n; condition = c; equations = es }) (equationsIn ns s q)
 
-  -- an activation: name, owner (65535 is illegal here), ports, branches, the equations of else
+  -- an activation: name, owner (`absent` is illegal here), ports, branches, the equations of else
   unfoldable pub activationIn : ℕ → Answer Activation
   activationIn at =
       bind (nameIn ns s at) λ n p.

@@ -4,6 +4,7 @@
 use Prim.Native.Nat.{ℕ, zero, suc, _+_, _*_, _-_, _/_, _%_, _^_}
 use lib.ListN.{length, getD}
 use lib.Bits.{bitOr, bitXor}
+use Rattle.wire.specs.Bytes.{wordRange}
 use Rattle.pack.specs.Names.{Name}
 use Rattle.pack.specs.declared.siphash.Lanes.{Lanes}
 
@@ -45,7 +46,7 @@ joined h = bitXor (bitXor (bitXor (ended h .a) (ended h .b)) (ended h .c)) (ende
 
 -- four bytes of a name from i on as one number, lowest first; those past its end are 0
 unfoldable pub quadAt : Name → ℕ → ℕ
-quadAt n i = getD n i 0 + 256 * getD n (i + 1) 0 + 65536 * getD n (i + 2) 0 + 16777216 * getD n (i + 3) 0
+quadAt n i = getD n i 0 + 256 * getD n (i + 1) 0 + wordRange * getD n (i + 2) 0 + 16777216 * getD n (i + 3) 0
 
 -- the bits of a name with so many times eight bytes from i on before its last, from the lanes of what stands before
 unfoldable pub hashFrom : ℕ → Lanes → Name → ℕ → ℕ

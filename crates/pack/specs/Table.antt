@@ -5,12 +5,14 @@ use mathlib.Core.Bool.{Bool, true, false, cond, _&&_}
 use mathlib.Core.List.{List, [], _∷_, _++_}
 use lib.ListN.{length, take, drop, getD, set, replicate}
 use lib.Dec.{ltb, leb}
+use Rattle.wire.specs.Bytes.{wordRange}
 use Rattle.pack.specs.Names.{Name, eqName}
 use Rattle.pack.specs.Siphash.{hash}
 use Rattle.pack.specs.RawNames.{rawName}
 use Rattle.pack.specs.Write.{Found, At, Missing, lookup}
 use Rattle.pack.specs.declared.table.Place.{Place}
 use Rattle.pack.specs.declared.table.Place.the-variants as pl
+use Rattle.pack.specs.Limits.{maxBytes}
 
 -- the names of a table, each after its length byte; the first number bounds the steps
 unfoldable pub tableF : ℕ → List ℕ → List Name
@@ -27,7 +29,7 @@ table t = tableF (length t) t
 -- and two more belong to each name. From a head on the names are a binary tree that branches by the bits of the hash, so that names
 -- are found in a few steps even where many share a head.
 
--- the names that have rows: by counting, 65,536 bytes hold no more that are different. That is not proved: with more there is no index
+-- the names that have rows: by counting, a pack holds no more that are different. That is not proved: with more there is no index
 unfoldable pub rowsMost : ℕ
 rowsMost = 17408
 
@@ -47,7 +49,7 @@ textsFrom = spotsFrom + 2 * 17408
 
 -- what a table of any pack's names takes
 abbrev pub tableRoom : ℕ
-tableRoom = spotsFrom + 2 * 17408 + 65536
+tableRoom = spotsFrom + 2 * 17408 + maxBytes
 
 -- where a cell stands, and the spot of a number
 abbrev pub cellAt : ℕ → ℕ
@@ -108,7 +110,7 @@ numberIn (Missing k) = k
 
 -- the numbers in a place are small, whatever the table's bytes
 unfoldable pub Near : Place → Type 0
-Near (pl.Taken k) = k < 65536
+Near (pl.Taken k) = k < wordRange
 Near (pl.Free i) = i < 200000
 Near pl.Lost = Unit {0}
 
@@ -120,7 +122,7 @@ isFree pl.Lost = false
 
 -- whether the number of one name more and its spot fit
 unfoldable pub spare : List ℕ → Bool
-spare t = ltb (word t 0) rowsMost && (leb textsFrom (length t) && ltb (length t) (textsFrom + 65536))
+spare t = ltb (word t 0) rowsMost && (leb textsFrom (length t) && ltb (length t) (textsFrom + maxBytes))
 
 -- a cell that the index does not have is none
 unfoldable pub inIndex : Place → Place

@@ -113,7 +113,7 @@ module _ (s : List ℕ) where
 unfoldable pub emptyRecord : Pack
 emptyRecord = sectionsOf (replicate 12 0)
 
--- the pack record of bytes: more than 65,536 of them are not looked at
+-- the pack record of bytes: more than a pack may have are not looked at
 unfoldable pub recordOf : List ℕ → Pack
 recordOf s = cond (ltb maxBytes (length s)) emptyRecord (sectionsOf s)
 

@@ -36,7 +36,7 @@ list f xs = raw (two (length xs)) ∷ each f xs
 unfoldable pub nameItems : Name → List Item
 nameItems n = nm n ∷ []
 
--- no name is written 65535
+-- no name is written `absent`
 unfoldable pub optionItems : Option Name → List Item
 optionItems none = raw (two absent) ∷ []
 optionItems (some n) = nm n ∷ []
@@ -274,7 +274,7 @@ joined olds (spelt b ns) = two (length olds + length ns) ++ (enc olds ++ (enc ns
 unfoldable pub encode : Package → List ℕ
 encode p = joined (p .names) (spell (p .names) (packageItems p) [])
 
--- no name is over 255 bytes
+-- no name is over the limit
 unfoldable pub short : Item → Bool
 short (raw xs) = true
 short (nm n) = leb (length n) maxName

@@ -17,10 +17,11 @@ ghost use Rattle.wire.specs.Code.{onward};
 ghost use Rattle.pack.specs.Names.{Name};
 ghost use Rattle.wire.specs.Answer.{below, counted};
 ghost use Rattle.pack.specs.Read.{nameIn, equationsIn, transitionIn, stateWith, regionAt, stateAt};
+ghost use Rattle.pack.specs.Limits.{maxBytes};
 
 // A state's name, equations and transitions.
 fn state_head(s: &[u8], names: usize, from: Skipped) -> Skipped
-    requires { ⌜ length (now s) ≤ 65536 ⌝ }
+    requires { ⌜ length (now s) ≤ maxBytes ⌝ }
     ensures { λ r. ⌜ ((ns : List Name) → length ns ≡ names → r ≡ onward (counted (transitionIn ns (now (s .entry))) (now (s .entry))) (onward (equationsIn ns (now (s .entry))) (onward (nameIn ns (now (s .entry))) from))) ⌝ }
 {
     let a = then_name(s, names, from);
@@ -38,7 +39,7 @@ fn region_head(s: &[u8], names: usize, from: Skipped) -> Skipped
 
 // A state, whose regions may open while a level is left.
 pub fn then_state(s: &[u8], names: usize, levels: usize, from: Skipped) -> Skipped
-    requires { ⌜ length (now s) ≤ 65536 ⌝ }
+    requires { ⌜ length (now s) ≤ maxBytes ⌝ }
     ensures { λ r. ⌜ ((ns : List Name) → length ns ≡ names → r ≡ onward (stateWith (regionAt levels ns (now (s .entry))) ns (now (s .entry))) from) ⌝ }
 {
     let c = then_count(s, state_head(s, names, from));
@@ -53,7 +54,7 @@ pub fn then_state(s: &[u8], names: usize, levels: usize, from: Skipped) -> Skipp
 
 // A region, whose states are one level further down.
 pub fn then_region(s: &[u8], names: usize, levels: usize, from: Skipped) -> Skipped
-    requires { ⌜ length (now s) ≤ 65536 ⌝ }
+    requires { ⌜ length (now s) ≤ maxBytes ⌝ }
     ensures { λ r. ⌜ ((ns : List Name) → length ns ≡ names → r ≡ onward (regionAt levels ns (now (s .entry))) from) ⌝ }
 {
     if levels == 0 {
@@ -71,7 +72,7 @@ pub fn then_region(s: &[u8], names: usize, levels: usize, from: Skipped) -> Skip
 
 // A machine's states after their count: top states are level 1.
 pub fn then_states(s: &[u8], names: usize, from: Skipped) -> Skipped
-    requires { ⌜ length (now s) ≤ 65536 ⌝ }
+    requires { ⌜ length (now s) ≤ maxBytes ⌝ }
     ensures { λ r. ⌜ ((ns : List Name) → length ns ≡ names → r ≡ onward (counted (stateAt ns (now (s .entry))) (now (s .entry))) from) ⌝ }
 {
     let c = then_count(s, from);

@@ -17,6 +17,7 @@ ghost use Rattle.wire.specs.Code.{skip};
 ghost use Rattle.pack.specs.Read.{packAt, read};
 ghost use Rattle.pack.specs.Outcome.{check as checked, returned};
 ghost use Rattle.pack.specs.Verdict.{verdictOf, judgedOf, nameCount, numberFor, offsetOf, recordOf, sectionsOf, valueFor};
+ghost use Rattle.pack.specs.Limits.{maxBytes};
 
 // What a byte slice is as a pack: the table's answers 1 to 5 with their offsets, or a whole pack.
 pub enum Verdict {
@@ -75,7 +76,7 @@ fn judged(r: Skipped, len: usize) -> Verdict
 
 // Reads all sections.
 fn read_sections(s: &[u8]) -> Opened
-    requires { ⌜ length (now s) ≤ 65536 ⌝ }
+    requires { ⌜ length (now s) ≤ maxBytes ⌝ }
     ensures { λ r. ⌜ r .verdict ≡ judgedOf (skip (packAt (now (s .entry)) 0)) (length (now (s .entry))) ⌝ }
     ensures { λ r. ⌜ r .pack ≡ sectionsOf (now (s .entry)) ⌝ }
 {

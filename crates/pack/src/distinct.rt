@@ -4,9 +4,12 @@ use crate::intern::is_at;
 use crate::siphash::hash;
 use crate::siphash::last;
 use crate::siphash::quad;
+use wire::number::WORD_MAX;
+use wire::number::WORD_RANGE;
 ghost use mathlib.Core.Path.{_≡_};
 ghost use Prim.Native.Nat.{_+_, _<_};
 ghost use lib.ListN.{length, getD};
+ghost use Rattle.wire.specs.Bytes.{wordRange};
 ghost use Rattle.pack.specs.Distinct.{letters as lettersOf, product as productOf, keyFor, folded as foldedOf, longWay, way as wayOf, tag as tagOf, first as firstOf, after as afterOf, isOf, freeFrom, freeOn, telling as tellingIn, gets, tagged, entered};
 
 // How many cells there are.
@@ -74,9 +77,9 @@ pub fn way(key: usize, n: &[u8]) -> usize
 
 // What is kept of a way.
 fn tag(h: usize) -> usize
-    ensures { λ r. ⌜ (r ≡ tagOf h) × (r < 65536) ⌝ }
+    ensures { λ r. ⌜ (r ≡ tagOf h) × (r < wordRange) ⌝ }
 {
-    h / 65536 % 65536
+    h / WORD_RANGE % WORD_RANGE
 }
 
 // The first cell of a way.
@@ -174,7 +177,7 @@ pub fn enter(t: &mut [u16], i: usize, key: usize, h: usize, p: usize) -> bool
     requires { ⌜ length (now t) ≡ 32769 ⌝ }
     ensures { λ r. ⌜ (now (t .exit) ≡ entered key (tagOf h) i p (now (t .entry))) × (r ≡ gets i p) ⌝ }
 {
-    if (i < CELLS) & (p < 65535) {
+    if (i < CELLS) & (p < WORD_MAX) {
         t[i] = (p + 1) as u16;
         keep_tag(t, i, key, h);
         return true;

@@ -18,6 +18,7 @@ ghost use Rattle.wire.specs.Code.{readOf, skip};
 ghost use Rattle.pack.specs.Forms.{literal, exprArity, callFields, structFields, whenFields, iterateFields, exprFields, exprHead, exprAt};
 ghost use Rattle.pack.specs.Heads.{exprMore, exprLeft};
 ghost use Rattle.pack.specs.Nodes.{decoded, namedOf};
+ghost use Rattle.pack.specs.Limits.{maxBytes};
 
 // A node taken apart: the names that a lowering looks at, and how many expressions stand under it.
 pub enum Node {
@@ -149,7 +150,7 @@ fn iterate_fields(s: &[u8], names: usize, at: usize) -> Read
 
 // How many expressions stand under a node of this tag.
 fn expr_fields(s: &[u8], names: usize, tag: usize, at: usize) -> Read
-    requires { ⌜ length (now s) ≤ 65536 ⌝ }
+    requires { ⌜ length (now s) ≤ maxBytes ⌝ }
     ensures { λ r. ⌜ r ≡ readOf (mapA exprArity (exprFields names tag (now (s .entry)) at)) ⌝ }
 {
     match tag {
@@ -176,7 +177,7 @@ fn expr_fields(s: &[u8], names: usize, tag: usize, at: usize) -> Read
 
 // How many expressions stand under the node at an offset.
 fn expr_head(s: &[u8], names: usize, at: usize) -> Read
-    requires { ⌜ length (now s) ≤ 65536 ⌝ }
+    requires { ⌜ length (now s) ≤ maxBytes ⌝ }
     ensures { λ r. ⌜ r ≡ readOf (exprMore names (now (s .entry)) at) ⌝ }
 {
     let r = read_below(s, 17, at);
@@ -193,7 +194,7 @@ fn expr_head(s: &[u8], names: usize, at: usize) -> Read
 // The first node of an expression, or all its nodes: how many expressions are to come after what was read. One function does both,
 // since the fields of 17 tags are compiled into the loop only where nothing else calls them.
 fn expr_nodes(s: &[u8], names: usize, one: bool, at: usize) -> Read
-    requires { ⌜ length (now s) ≤ 65536 ⌝ }
+    requires { ⌜ length (now s) ≤ maxBytes ⌝ }
     ensures { λ r. ⌜ r ≡ readOf (exprLeft one names (now (s .entry)) at) ⌝ }
 {
     let mut n: usize = 1;
@@ -234,7 +235,7 @@ fn named(tag: usize, under: usize, first: Read) -> Node
 
 // The node at an offset.
 pub fn read_node(s: &[u8], names: usize, at: usize) -> Decoded
-    requires { ⌜ length (now s) ≤ 65536 ⌝ }
+    requires { ⌜ length (now s) ≤ maxBytes ⌝ }
     ensures { λ r. ⌜ r ≡ decoded (exprHead names (now (s .entry)) at) ⌝ }
 {
     let r = expr_nodes(s, names, true, at);
@@ -251,7 +252,7 @@ pub fn read_node(s: &[u8], names: usize, at: usize) -> Decoded
 
 // An expression, with all its nodes.
 pub fn skip_expr(s: &[u8], names: usize, at: usize) -> Skipped
-    requires { ⌜ length (now s) ≤ 65536 ⌝ }
+    requires { ⌜ length (now s) ≤ maxBytes ⌝ }
     ensures { λ r. ⌜ r ≡ skip (exprAt names (now (s .entry)) at) ⌝ }
 {
     past(expr_nodes(s, names, false, at))

@@ -12,6 +12,7 @@ ghost use lib.ListN.{length};
 ghost use Rattle.wire.specs.Bytes.{two};
 ghost use Rattle.wire.specs.Writer.{stateOf};
 ghost use Rattle.pack.specs.Outcome.{Gives, begins, sized, packOf, answered};
+ghost use Rattle.pack.specs.Limits.{maxBytes};
 
 // A number and a value of the table of answers.
 pub struct Outcome {
@@ -31,9 +32,9 @@ fn join(count: usize, old: &[u8], made: &[u8], body: &[u8], dst: &mut [u8])
     append(body, dst, j);
 }
 
-// How many bytes the parts make; 65537 for any more than a pack may have, so that no sum wraps.
+// How many bytes the parts make; one more than the limit for any more than a pack may have, so that no sum wraps.
 fn size(old: &[u8], made: &[u8], body: &[u8]) -> usize
-    ensures { λ r. ⌜ r ≡ min (2 + length (now (old .entry)) + length (now (made .entry)) + length (now (body .entry))) 65537 ⌝ }
+    ensures { λ r. ⌜ r ≡ min (2 + length (now (old .entry)) + length (now (made .entry)) + length (now (body .entry))) (maxBytes + 1) ⌝ }
 {
     let a = capped(Pack::BYTES + 1, 2, old.len());
     let b = capped(Pack::BYTES + 1, a, made.len());
@@ -84,7 +85,7 @@ pub fn finish(old: &[u8], made: &[u8], body: &[u8], w: Writer, out: &mut [u8]) -
 
 // A pack that stays as it is, copied out where it fits.
 pub fn copy_pack(s: &[u8], out: &mut [u8]) -> Outcome
-    requires { ⌜ length (now s) ≤ 65536 ⌝ }
+    requires { ⌜ length (now s) ≤ maxBytes ⌝ }
     ensures { λ r. ⌜ Gives (sized (length (now (out .entry))) (now (s .entry))) (r .number) (r .value) (now (out .entry)) (now (out .exit)) ⌝ }
 {
     if out.len() < s.len() {

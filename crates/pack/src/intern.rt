@@ -21,6 +21,7 @@ ghost use Rattle.pack.specs.RawNames.{rawName};
 ghost use Rattle.pack.specs.Write.{lookup};
 ghost use Rattle.pack.specs.Table.{tableRoom, tabled};
 ghost use Rattle.pack.specs.Intern.{foundOf, table, putEntry, putEntries, putNew, putName, putBuilt, started};
+ghost use Rattle.pack.specs.Limits.{maxBytes, maxName};
 
 // A name's number in a table; where it is missing, how many names there are.
 pub enum Found {
@@ -109,7 +110,7 @@ pub fn start() -> Writer
 
 // A name more in the table of new names, after its length byte.
 pub fn put_entry(n: &[u8], made: &mut [u8], w: Writer) -> Writer
-    requires { ⌜ length (now n) ≤ 255 ⌝ }
+    requires { ⌜ length (now n) ≤ maxName ⌝ }
     ensures { λ r. ⌜ ((o : List ℕ) → stateOf o (now (made .exit)) r ≡ putEntry (now (n .entry)) (stateOf o (now (made .entry)) w)) ⌝ }
 {
     let end = capped(made.len(), 0, w.made);
@@ -135,7 +136,7 @@ fn put_entries(src: &[u8], made: &mut [u8], w: Writer) -> Writer
 
 // The table of a pack's names, in a buffer of zeros; how long it is.
 pub fn lay_names(names: &[u8], t: &mut [u8]) -> usize
-    requires { ⌜ (length (now names) ≤ 65536) × (now t ≡ replicate tableRoom 0) ⌝ }
+    requires { ⌜ (length (now names) ≤ maxBytes) × (now t ≡ replicate tableRoom 0) ⌝ }
     ensures { λ r. ⌜ (r ≤ length (now (t .exit))) × (take r (now (t .exit)) ≡ tabled (table (now (names .entry)))) ⌝ }
 {
     let w = put_entries(names, t, start());
@@ -144,7 +145,7 @@ pub fn lay_names(names: &[u8], t: &mut [u8]) -> usize
 
 // The number of a name that is not among the `old` old ones: found among the new ones, or added there.
 fn put_new(old: usize, n: &[u8], out: &mut [u8], made: &mut [u8], w: Writer) -> Writer
-    requires { ⌜ (length (now n) ≤ 255) × (old < 2 ^ 63) ⌝ }
+    requires { ⌜ (length (now n) ≤ maxName) × (old < 2 ^ 63) ⌝ }
     ensures { λ r. ⌜ stateOf (now (out .exit)) (now (made .exit)) r ≡ putNew old (now (n .entry)) (stateOf (now (out .entry)) (now (made .entry)) w) ⌝ }
 {
     let end = capped(made.len(), 0, w.made);

@@ -1,6 +1,7 @@
 // What definitions are made of: names, types, expressions, ports, equations, transitions.
 // Each function starts from where reading stands; what stopped stays so.
 use crate::exprs::skip_expr;
+use crate::record::Pack;
 use crate::types::skip_type;
 use wire::answer::Read;
 use wire::answer::Skipped;
@@ -17,7 +18,7 @@ ghost use Rattle.wire.specs.Code.{onward, readOf};
 ghost use lib.Dec.{ltb, eqb};
 ghost use mathlib.Core.Bool.{_||_};
 ghost use Rattle.wire.specs.Answer.{guard, u16, counted};
-ghost use Rattle.pack.specs.Limits.{absent};
+ghost use Rattle.pack.specs.Limits.{absent, maxBytes};
 ghost use Rattle.pack.specs.Names.{Name};
 ghost use Rattle.pack.specs.Read.{nameIn, optionalIn, namesIn, typeIn, exprIn, portIn, portsIn, equationIn, equationsIn, transitionIn};
 
@@ -28,7 +29,7 @@ pub fn then_name(s: &[u8], names: usize, from: Skipped) -> Skipped
     then_index(s, names, from)
 }
 
-// A name, or 65535 for none.
+// A name, or `Pack::ABSENT` for none.
 fn read_optional(s: &[u8], names: usize, at: usize) -> Read
     ensures { λ r. ⌜ r ≡ readOf (guard (λ i. ltb i names || eqb i absent) at (u16 (now (s .entry)) at)) ⌝ }
 {
@@ -39,7 +40,7 @@ fn read_optional(s: &[u8], names: usize, at: usize) -> Read
     if value < names {
         return r;
     }
-    if value == 65535 {
+    if value == Pack::ABSENT {
         return r;
     }
     Read::Illegal(at)
@@ -71,7 +72,7 @@ pub fn then_names(s: &[u8], names: usize, from: Skipped) -> Skipped
 
 // A type.
 pub fn then_type(s: &[u8], names: usize, from: Skipped) -> Skipped
-    requires { ⌜ length (now s) ≤ 65536 ⌝ }
+    requires { ⌜ length (now s) ≤ maxBytes ⌝ }
     ensures { λ r. ⌜ ((ns : List Name) → length ns ≡ names → r ≡ onward (typeIn ns (now (s .entry))) from) ⌝ }
 {
     let Skipped::To(at) = from else {
@@ -82,7 +83,7 @@ pub fn then_type(s: &[u8], names: usize, from: Skipped) -> Skipped
 
 // An expression.
 pub fn then_expr(s: &[u8], names: usize, from: Skipped) -> Skipped
-    requires { ⌜ length (now s) ≤ 65536 ⌝ }
+    requires { ⌜ length (now s) ≤ maxBytes ⌝ }
     ensures { λ r. ⌜ ((ns : List Name) → length ns ≡ names → r ≡ onward (exprIn ns (now (s .entry))) from) ⌝ }
 {
     let Skipped::To(at) = from else {
@@ -93,7 +94,7 @@ pub fn then_expr(s: &[u8], names: usize, from: Skipped) -> Skipped
 
 // A name and its type.
 pub fn then_port(s: &[u8], names: usize, from: Skipped) -> Skipped
-    requires { ⌜ length (now s) ≤ 65536 ⌝ }
+    requires { ⌜ length (now s) ≤ maxBytes ⌝ }
     ensures { λ r. ⌜ ((ns : List Name) → length ns ≡ names → r ≡ onward (portIn ns (now (s .entry))) from) ⌝ }
 {
     let a = then_name(s, names, from);
@@ -102,7 +103,7 @@ pub fn then_port(s: &[u8], names: usize, from: Skipped) -> Skipped
 
 // Ports after their count.
 pub fn then_ports(s: &[u8], names: usize, from: Skipped) -> Skipped
-    requires { ⌜ length (now s) ≤ 65536 ⌝ }
+    requires { ⌜ length (now s) ≤ maxBytes ⌝ }
     ensures { λ r. ⌜ ((ns : List Name) → length ns ≡ names → r ≡ onward (portsIn ns (now (s .entry))) from) ⌝ }
 {
     let c = then_count(s, from);
@@ -117,7 +118,7 @@ pub fn then_ports(s: &[u8], names: usize, from: Skipped) -> Skipped
 
 // Left names and an expression.
 pub fn then_equation(s: &[u8], names: usize, from: Skipped) -> Skipped
-    requires { ⌜ length (now s) ≤ 65536 ⌝ }
+    requires { ⌜ length (now s) ≤ maxBytes ⌝ }
     ensures { λ r. ⌜ ((ns : List Name) → length ns ≡ names → r ≡ onward (equationIn ns (now (s .entry))) from) ⌝ }
 {
     let a = then_names(s, names, from);
@@ -126,7 +127,7 @@ pub fn then_equation(s: &[u8], names: usize, from: Skipped) -> Skipped
 
 // Equations after their count.
 pub fn then_equations(s: &[u8], names: usize, from: Skipped) -> Skipped
-    requires { ⌜ length (now s) ≤ 65536 ⌝ }
+    requires { ⌜ length (now s) ≤ maxBytes ⌝ }
     ensures { λ r. ⌜ ((ns : List Name) → length ns ≡ names → r ≡ onward (equationsIn ns (now (s .entry))) from) ⌝ }
 {
     let c = then_count(s, from);
@@ -141,7 +142,7 @@ pub fn then_equations(s: &[u8], names: usize, from: Skipped) -> Skipped
 
 // A guard and its target.
 pub fn then_transition(s: &[u8], names: usize, from: Skipped) -> Skipped
-    requires { ⌜ length (now s) ≤ 65536 ⌝ }
+    requires { ⌜ length (now s) ≤ maxBytes ⌝ }
     ensures { λ r. ⌜ ((ns : List Name) → length ns ≡ names → r ≡ onward (transitionIn ns (now (s .entry))) from) ⌝ }
 {
     let a = then_expr(s, names, from);
@@ -150,7 +151,7 @@ pub fn then_transition(s: &[u8], names: usize, from: Skipped) -> Skipped
 
 // Transitions after their count.
 pub fn then_transitions(s: &[u8], names: usize, from: Skipped) -> Skipped
-    requires { ⌜ length (now s) ≤ 65536 ⌝ }
+    requires { ⌜ length (now s) ≤ maxBytes ⌝ }
     ensures { λ r. ⌜ ((ns : List Name) → length ns ≡ names → r ≡ onward (counted (transitionIn ns (now (s .entry))) (now (s .entry))) from) ⌝ }
 {
     let c = then_count(s, from);

@@ -21,6 +21,8 @@ impl Pack {
     pub const NAME: usize = 255;
     // States of a resolved machine.
     pub const STATES: usize = 512;
+    // The index that stands for no name.
+    pub const ABSENT: usize = 65535;
 
     // The record of the pack that holds nothing: twelve zero bytes.
     pub fn empty() -> Pack

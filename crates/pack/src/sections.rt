@@ -19,6 +19,7 @@ ghost use Rattle.wire.specs.Code.{onward};
 ghost use Rattle.pack.specs.Names.{Name};
 ghost use Rattle.wire.specs.Answer.{counted};
 ghost use Rattle.pack.specs.Read.{portsIn, enumIn, nodeIn, machineIn, branchIn, activationIn, originIn};
+ghost use Rattle.pack.specs.Limits.{maxBytes};
 
 // A name and its variants.
 fn then_enum(s: &[u8], names: usize, from: Skipped) -> Skipped
@@ -44,7 +45,7 @@ pub fn then_enums(s: &[u8], names: usize, from: Skipped) -> Skipped
 
 // Inputs, outputs, locals.
 fn then_interface(s: &[u8], names: usize, from: Skipped) -> Skipped
-    requires { ⌜ length (now s) ≤ 65536 ⌝ }
+    requires { ⌜ length (now s) ≤ maxBytes ⌝ }
     ensures { λ r. ⌜ ((ns : List Name) → length ns ≡ names → r ≡ onward (portsIn ns (now (s .entry))) (onward (portsIn ns (now (s .entry))) (onward (portsIn ns (now (s .entry))) from))) ⌝ }
 {
     let a = then_ports(s, names, from);
@@ -54,7 +55,7 @@ fn then_interface(s: &[u8], names: usize, from: Skipped) -> Skipped
 
 // A name, a kind, an interface and equations.
 fn then_node(s: &[u8], names: usize, from: Skipped) -> Skipped
-    requires { ⌜ length (now s) ≤ 65536 ⌝ }
+    requires { ⌜ length (now s) ≤ maxBytes ⌝ }
     ensures { λ r. ⌜ ((ns : List Name) → length ns ≡ names → r ≡ onward (nodeIn ns (now (s .entry))) from) ⌝ }
 {
     let a = then_name(s, names, from);
@@ -65,7 +66,7 @@ fn then_node(s: &[u8], names: usize, from: Skipped) -> Skipped
 
 // The nodes after their count.
 pub fn then_nodes(s: &[u8], names: usize, from: Skipped) -> Skipped
-    requires { ⌜ length (now s) ≤ 65536 ⌝ }
+    requires { ⌜ length (now s) ≤ maxBytes ⌝ }
     ensures { λ r. ⌜ ((ns : List Name) → length ns ≡ names → r ≡ onward (counted (nodeIn ns (now (s .entry))) (now (s .entry))) from) ⌝ }
 {
     let c = then_count(s, from);
@@ -80,7 +81,7 @@ pub fn then_nodes(s: &[u8], names: usize, from: Skipped) -> Skipped
 
 // A name, an owner, an interface, an initial state and states.
 fn then_machine(s: &[u8], names: usize, from: Skipped) -> Skipped
-    requires { ⌜ length (now s) ≤ 65536 ⌝ }
+    requires { ⌜ length (now s) ≤ maxBytes ⌝ }
     ensures { λ r. ⌜ ((ns : List Name) → length ns ≡ names → r ≡ onward (machineIn ns (now (s .entry))) from) ⌝ }
 {
     let a = then_name(s, names, from);
@@ -92,7 +93,7 @@ fn then_machine(s: &[u8], names: usize, from: Skipped) -> Skipped
 
 // The machines after their count.
 pub fn then_machines(s: &[u8], names: usize, from: Skipped) -> Skipped
-    requires { ⌜ length (now s) ≤ 65536 ⌝ }
+    requires { ⌜ length (now s) ≤ maxBytes ⌝ }
     ensures { λ r. ⌜ ((ns : List Name) → length ns ≡ names → r ≡ onward (counted (machineIn ns (now (s .entry))) (now (s .entry))) from) ⌝ }
 {
     let c = then_count(s, from);
@@ -107,7 +108,7 @@ pub fn then_machines(s: &[u8], names: usize, from: Skipped) -> Skipped
 
 // A name, a condition and equations.
 fn then_branch(s: &[u8], names: usize, from: Skipped) -> Skipped
-    requires { ⌜ length (now s) ≤ 65536 ⌝ }
+    requires { ⌜ length (now s) ≤ maxBytes ⌝ }
     ensures { λ r. ⌜ ((ns : List Name) → length ns ≡ names → r ≡ onward (branchIn ns (now (s .entry))) from) ⌝ }
 {
     let a = then_name(s, names, from);
@@ -117,7 +118,7 @@ fn then_branch(s: &[u8], names: usize, from: Skipped) -> Skipped
 
 // Branches after their count.
 fn then_branches(s: &[u8], names: usize, from: Skipped) -> Skipped
-    requires { ⌜ length (now s) ≤ 65536 ⌝ }
+    requires { ⌜ length (now s) ≤ maxBytes ⌝ }
     ensures { λ r. ⌜ ((ns : List Name) → length ns ≡ names → r ≡ onward (counted (branchIn ns (now (s .entry))) (now (s .entry))) from) ⌝ }
 {
     let c = then_count(s, from);
@@ -132,7 +133,7 @@ fn then_branches(s: &[u8], names: usize, from: Skipped) -> Skipped
 
 // A name, an owner, outputs, branches and the equations of else.
 fn then_activation(s: &[u8], names: usize, from: Skipped) -> Skipped
-    requires { ⌜ length (now s) ≤ 65536 ⌝ }
+    requires { ⌜ length (now s) ≤ maxBytes ⌝ }
     ensures { λ r. ⌜ ((ns : List Name) → length ns ≡ names → r ≡ onward (activationIn ns (now (s .entry))) from) ⌝ }
 {
     let a = then_name(s, names, from);
@@ -144,7 +145,7 @@ fn then_activation(s: &[u8], names: usize, from: Skipped) -> Skipped
 
 // The activations after their count.
 pub fn then_activations(s: &[u8], names: usize, from: Skipped) -> Skipped
-    requires { ⌜ length (now s) ≤ 65536 ⌝ }
+    requires { ⌜ length (now s) ≤ maxBytes ⌝ }
     ensures { λ r. ⌜ ((ns : List Name) → length ns ≡ names → r ≡ onward (counted (activationIn ns (now (s .entry))) (now (s .entry))) from) ⌝ }
 {
     let c = then_count(s, from);

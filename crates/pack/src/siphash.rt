@@ -2,6 +2,7 @@
 // at the end (specs/Siphash).
 use crate::cells::byte_at;
 use std::num::wrapping_add_u64;
+use wire::number::WORD_RANGE;
 ghost use mathlib.Core.Path.{_≡_};
 ghost use Prim.Native.Nat.{_-_, _≤_, _<_};
 ghost use lib.ListN.{length};
@@ -86,10 +87,10 @@ pub fn quad(n: &[u8], i: usize) -> usize
     if i + 3 < n.len() {
         return n[i] as usize
             + 256 * n[i + 1] as usize
-            + 65536 * n[i + 2] as usize
+            + WORD_RANGE * n[i + 2] as usize
             + 16777216 * n[i + 3] as usize;
     }
-    byte_at(n, i) + 256 * byte_at(n, i + 1) + 65536 * byte_at(n, i + 2)
+    byte_at(n, i) + 256 * byte_at(n, i + 1) + WORD_RANGE * byte_at(n, i + 2)
 }
 
 // Where the last k of l bytes begin, or all where there are fewer.

@@ -12,6 +12,7 @@ use wire::writer::capped;
 ghost use mathlib.Core.Path.{_≡_};
 ghost use Prim.Native.Nat.{_+_, _*_, _-_, _/_, _≤_, _<_};
 ghost use lib.ListN.{length};
+ghost use Rattle.wire.specs.Bytes.{wordMax, wordRange};
 ghost use Rattle.pack.specs.Intern.{foundOf};
 ghost use Rattle.pack.specs.Table.{word as wordIn, putWord, further as furtherOf, placeFrom, placeOf, Near, cellAt, seek, numberIn, spare as spareIn, inIndex, cellFor, linked, unindexed, linkedAt, noted};
 
@@ -38,7 +39,7 @@ pub enum Place {
 // 16 bits of t. Where both bytes are there they are compiled into one load.
 fn word(t: &[u8], i: usize) -> usize
     requires { ⌜ i < 1000000 ⌝ }
-    ensures { λ r. ⌜ (r ≡ wordIn (now (t .entry)) i) × (r < 65536) ⌝ }
+    ensures { λ r. ⌜ (r ≡ wordIn (now (t .entry)) i) × (r < wordRange) ⌝ }
 {
     if i + 1 < t.len() {
         return t[i] as usize + 256 * t[i + 1] as usize;
@@ -101,7 +102,7 @@ fn place_of(t: &[u8], n: &[u8]) -> Place
 
 // The place of the name n in a table with an index.
 pub fn seek_name(t: &[u8], n: &[u8]) -> Found
-    ensures { λ r. ⌜ (foundOf r ≡ seek (now (t .entry)) (now (n .entry))) × (numberIn (foundOf r) ≤ 65535 + (length (now (t .entry)) - 65535)) ⌝ }
+    ensures { λ r. ⌜ (foundOf r ≡ seek (now (t .entry)) (now (n .entry))) × (numberIn (foundOf r) ≤ wordMax + (length (now (t .entry)) - wordMax)) ⌝ }
 {
     let c = word(t, 0);
     if ROWS < c {

@@ -13,6 +13,7 @@ ghost use Rattle.wire.specs.Answer.{mapA};
 ghost use Rattle.wire.specs.Code.{readOf, skip};
 ghost use Rattle.pack.specs.Forms.{typeArity, typeFields, typeAt};
 ghost use Rattle.pack.specs.Heads.{typeMore};
+ghost use Rattle.pack.specs.Limits.{maxBytes};
 
 // How many types stand under a type of this tag: 1 under an array, and 0 under any other.
 pub fn type_fields(s: &[u8], names: usize, tag: usize, at: usize) -> Read
@@ -42,7 +43,7 @@ pub fn type_head(s: &[u8], names: usize, at: usize) -> Read
 
 // A type: heads are read until no type is to come.
 pub fn skip_type(s: &[u8], names: usize, at: usize) -> Skipped
-    requires { ⌜ length (now s) ≤ 65536 ⌝ }
+    requires { ⌜ length (now s) ≤ maxBytes ⌝ }
     ensures { λ r. ⌜ r ≡ skip (typeAt names (now (s .entry)) at) ⌝ }
 {
     let mut n: usize = 1;

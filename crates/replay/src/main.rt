@@ -1,6 +1,7 @@
 // Replays stored answers of the harness. Standard input holds records: a pack's length (4 bytes, lowest first), the pack,
 // and the word that the check returns for it (8 bytes, lowest first).
 use pack::check::ol_pack_check;
+use pack::record::Pack;
 use wire::answer::Read;
 use wire::number::read_u32;
 ghost use Prim.Native.Nat.{_+_, _<_};
@@ -105,7 +106,7 @@ fn replay(s: &[u8]) -> Tally {
 
 // Replays the records of standard input, and prints how many were compared and how many differ.
 fn main() {
-    let mut buf = [0u8; 65536];
+    let mut buf = [0u8; Pack::BYTES];
     let n = io::read_full(0, &mut buf);
     let t = replay(&buf[..n]);
     io::print_decimal(1, t.compared as u64);

@@ -249,5 +249,5 @@ stated (finds h ss ∷ cs) = found ss ∷ stated cs
 stated (gives s ss vs ∷ cs) = gave s true ss vs ∷ stated cs
 
 pub charts-hold : given charts ≡ stated charts
-unfolding given stated charts inner scope output finding packed packIn satisfying actBlock fed truth nested chart.nested run table tableRun openRun adding litValue look cellAt truths inStates numbers sometimes isPresent ifValue eval nameAt asMachine stateVar nextVar activeVar smPrefix decimal digits machinesGiven maxBytes choice scopeIn conditionsOf unlast acts.given first.act first.owner first.held first.run bothConditions actPrefix clockVar flagVar madeName noneVar tag valueVar eqName member
+unfolding given stated charts inner scope output finding packed packIn satisfying actBlock fed truth nested chart.nested run table tableRun openRun adding litValue look cellAt truths inStates numbers sometimes isPresent ifValue eval nameAt asMachine stateVar nextVar activeVar smPrefix decimal digits machinesGiven choice scopeIn conditionsOf unlast acts.given first.act first.owner first.held first.run bothConditions actPrefix clockVar flagVar madeName noneVar tag valueVar eqName member
 charts-hold = refl

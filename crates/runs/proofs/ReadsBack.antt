@@ -59,7 +59,6 @@ encode-size p =
     omega (arith, length-append (enc (p .names)) (enc (r .now) ++ r .bytes), length-append (enc (r .now)) (r .bytes))
 
 few : (p : Package) → length (encode p) ≤ maxBytes → total (p .nodes) < 65536
-unfolding maxBytes
 few p h = omega (arith, encode-size p, package-size p)
 
 -- the names of a legal package

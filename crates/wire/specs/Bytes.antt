@@ -1,6 +1,14 @@
 -- Numbers as bytes, lowest first.
-use Prim.Native.Nat.{ℕ, zero, suc, _/_, _%_}
+use Prim.Native.Nat.{ℕ, zero, suc, _*_, _-_, _/_, _%_}
 use mathlib.Core.List.{List, [], _∷_}
+
+-- how many values a word of 16 bits has
+abbrev pub wordRange : ℕ
+wordRange = 256 * 256
+
+-- the greatest of them
+abbrev pub wordMax : ℕ
+wordMax = wordRange - 1
 
 -- n bytes of a number, lowest first
 unfoldable pub bytes : ℕ → ℕ → List ℕ

@@ -9,6 +9,11 @@ ghost use Rattle.wire.specs.declared.answer.Skipped.{Skipped};
 ghost use Rattle.wire.specs.Answer.{byte, u16, u32, u64, index, below};
 ghost use Rattle.wire.specs.Code.{readOf, skip, next, onward, listed, rep};
 
+// How many values a word of 16 bits has.
+pub const WORD_RANGE: usize = 256 * 256;
+// The greatest of them.
+pub const WORD_MAX: usize = WORD_RANGE - 1;
+
 // A byte.
 pub fn read_byte(s: &[u8], at: usize) -> Read
     ensures { λ r. ⌜ r ≡ readOf (byte (now (s .entry)) at) ⌝ }
@@ -77,7 +82,7 @@ pub fn read_u32(s: &[u8], at: usize) -> Read
         return t;
     };
     Read::Is {
-        value: low + 65536 * high,
+        value: low + WORD_RANGE * high,
         next: q,
     }
 }

@@ -1,5 +1,4 @@
 use Rattle.machines.proofs.SureLaws.{end-is}
-use Rattle.pack.specs.Limits.{maxLevel}
 use Rattle.pack.specs.Read.{stateAt}
 use Rattle.machines.specs.Stands.{overIn}
 use borrow.Author.Needs.{needs}
@@ -16,7 +15,7 @@ reached-requires : tie.Need-reached-requires
 reached-requires c κs = search needs
 
 returns : tie.Need-returns
-unfolding overIn stateAt maxLevel
+unfolding overIn stateAt
 returns c = λ ns e. end-is (stateAt ns _) _ _ _ (c .before .then-state .ensures ns e) (c .reached .ensures)
 
 pub after-state-spec : {M : Type 1} → statement M

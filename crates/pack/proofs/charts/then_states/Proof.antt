@@ -5,7 +5,6 @@ use lib.ListN.{length}
 use borrow.Author.Needs.{needs}
 use Rattle.wire.specs.Code.{next, rep, skips}
 use Rattle.wire.proofs.Codes.{left-fewer, list-more, list-end, listed-counted}
-use Rattle.pack.specs.Limits.{maxLevel}
 use Rattle.pack.specs.Names.{Name}
 use Rattle.pack.specs.Read.{stateAt}
 use Rattle.pack.proofs.charts.then_states.Statement.{statement}
@@ -39,7 +38,7 @@ loop-less : tie.Need-loop-less Inv-loop μ-loop
 loop-less c = left-fewer _ _ _ (c .before .before .loop-test .taken) (c .left .ensures)
 
 loop-again : tie.Need-loop-again Inv-loop μ-loop
-unfolding stateAt maxLevel
+unfolding stateAt
 loop-again c =
     λ ns e. list-more (stateAt ns _) _ _ _ _ _ (c .before .before .loop-test .taken) (c .before .then-state .ensures ns e) (c .left .ensures) (c .before .before .before .loop .inv ns e)
 

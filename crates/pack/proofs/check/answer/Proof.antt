@@ -1,5 +1,4 @@
 use Rattle.pack.specs.Verdict.{numberFor, valueFor}
-use Rattle.pack.specs.Limits.{maxBytes}
 use Rattle.pack.proofs.CheckLaws.{table-is}
 use borrow.Author.Needs.{needs}
 use Rattle.pack.proofs.check.answer.Statement.{statement}
@@ -28,7 +27,7 @@ unfolding numberFor valueFor
 returns c = table-is _ _ _ (c .enum-told .given .1)
 
 returns-2 : tie.Need-returns-2
-unfolding numberFor valueFor maxBytes
+unfolding numberFor valueFor
 returns-2 c = table-is _ _ _ (c .enum-told2 .given .1)
 
 returns-3 : tie.Need-returns-3
