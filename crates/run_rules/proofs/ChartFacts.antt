@@ -10,6 +10,7 @@ use Rattle.pack.specs.Names.{Name, eqName, member}
 use Rattle.pack.specs.Syntax.{Activation, Enum, Equation, Expr, Package, Transition, eConst, eVar, lBool, lInt}
 use Rattle.machine_rules.specs.Checks.{allNamesS}
 use Rattle.machine_rules.specs.Lower.{coversS, isOnly, isSome, ownValue, sizeS}
+use Rattle.machine_rules.specs.MadeNames.{smPrefix}
 use Rattle.machine_rules.specs.Resolved.{Machine, States, rCons, rNil, sCons, sNil}
 use Rattle.activation_rules.specs.MadeNames.{Scope, branch, other}
 use Rattle.activation_rules.specs.Unlast.{conditionsOf, unlast}
@@ -17,7 +18,8 @@ use Rattle.run_rules.specs.AsDrawn.{enumValues, noneStarts, valuesIn}
 use Rattle.run_rules.specs.Chart.{Guards, Kept, anew, atFirst, choose, cycle, find, firstKept, firstTrue, foundIn, founds, keep, keptIn, kepts, selectS, selected, startS, topOf, turn, turnsS}
 use Rattle.run_rules.specs.Run.{Run, clockOf, eval, ifValue, literal, previous}
 use Rattle.run_rules.specs.Scopes.{choice, chosen, eqScope, givenBy, scopeClock, scopeIn}
-use Rattle.run_rules.specs.Words.{latest, stateOf, wasActive}
+use Rattle.run_rules.specs.Premises.{startsWith}
+use Rattle.run_rules.specs.Words.{latest, stateOf, wasActive, within}
 use Rattle.run_rules.proofs.PremisesTested.{fed, truth}
 use Rattle.run_rules.proofs.RunFacts.{ticksIn}
 use Rattle.run_rules.proofs.RunTables.{Column, cellAt, look, openRun, tableRun, truths}
@@ -100,6 +102,13 @@ refined =
     (rCons U false (sCons U (sets (eConst (lInt 1))) (to yes W) rNil (sCons W (sets (eConst (lInt 2))) [] rNil sNil)) rNil))
     (sCons B [] (to (eVar go) A) (rCons BX false (sCons BX (sets (eConst (lInt 3))) (to yes BY) rNil (sCons BY (sets (eConst (lInt 4))) [] rNil sNil)) rNil) sNil)
 
+-- A has a region P, whose state holds a region K, L and gives the output, and beside it a region U that gives it too; B has one with history
+unfoldable pub deep : States
+deep =
+    sCons A [] (to (eVar go) B)
+    (rCons P false (sCons P (sets (eConst (lInt 1))) [] (rCons K false (sCons K [] (to yes L) rNil (sCons L [] [] rNil sNil)) rNil) sNil) (rCons U false (sCons U (sets (eConst (lInt 2))) [] rNil sNil) rNil))
+    (sCons B [] (to (eVar go) A) (rCons BX true (sCons BX (sets (eConst (lInt 3))) (to yes BY) rNil (sCons BY (sets (eConst (lInt 4))) [] rNil sNil)) rNil) sNil)
+
 unfoldable pub machine : Name → States → Machine
 machine i ss = record { name = 77 ∷ []; inputs = []; outputs = []; locals = []; initial = i; states = ss }
 
@@ -174,6 +183,17 @@ chartFacts =
           ∷ step (A ∷ P ∷ L ∷ U ∷ BY ∷ []) (kept A true ∷ kept Q true ∷ kept L true ∷ kept W true ∷ kept BY false ∷ []) (some (eConst (lInt 1)))
           ∷ [];
     }
+    -- the first of two regions that give the output; a region whose state is held by one that is not active; history before the region was ever active
+    ∷ record {
+      machine = machine A deep;
+      guards = record { of = go; cells = truths (false ∷ true ∷ false ∷ false ∷ []) } ∷ [];
+      steps =
+          step (A ∷ P ∷ K ∷ U ∷ BX ∷ []) (kept A true ∷ kept P true ∷ kept L true ∷ kept U true ∷ kept BX false ∷ []) (some (eConst (lInt 1)))
+          ∷ step (A ∷ P ∷ L ∷ U ∷ BX ∷ []) (kept B true ∷ kept P true ∷ kept L true ∷ kept U true ∷ kept BX false ∷ []) (some (eConst (lInt 1)))
+          ∷ step (B ∷ P ∷ L ∷ U ∷ BX ∷ []) (kept B true ∷ kept P false ∷ kept L false ∷ kept U false ∷ kept BY true ∷ []) (some (eConst (lInt 3)))
+          ∷ step (B ∷ P ∷ L ∷ U ∷ BY ∷ []) (kept B true ∷ kept P false ∷ kept L false ∷ kept U false ∷ kept BY true ∷ []) (some (eConst (lInt 4)))
+          ∷ [];
+    }
     ∷ []
 
 unfoldable pub stepsFrom : Guards → Machine → ℕ → List Step → List Step
@@ -190,7 +210,7 @@ drawn (f ∷ fs) = f .steps ∷ drawn fs
 
 -- what the table says is what the plain chart does
 pub charts-do : charted chartFacts ≡ drawn chartFacts
-unfolding charted drawn chartFacts stepsFrom guardsBy machine nested owned refined tableRun openRun look cellAt truths fed truth eval literal ifValue foundIn founds keptIn kepts cycle topOf turnsS turn find keep anew choose firstTrue firstKept atFirst startS selected selectS coversS isOnly isSome ownValue sizeS nameAt eqName member
+unfolding charted drawn chartFacts stepsFrom guardsBy machine nested owned refined deep tableRun openRun look cellAt truths fed truth eval literal ifValue foundIn founds keptIn kepts cycle topOf turnsS turn find keep anew choose firstTrue firstKept atFirst startS selected selectS coversS isOnly isSome ownValue sizeS nameAt eqName member
 charts-do = refl
 
 -- A region by the demand's sentence: the cycles in which it is active, whether it has history, and its states. It is the inner one of
@@ -288,6 +308,35 @@ green = 103 ∷ []
 
 unfoldable pub coloured : Package
 coloured = record { names = []; enums = record { name = c; variants = red ∷ [] } ∷ record { name = d; variants = green ∷ [] } ∷ []; nodes = []; machines = []; activations = []; origins = [] }
+
+-- `__s`, `__sm_`, `__sm_x`, `a__sm_`
+abbrev short : Name
+short = 95 ∷ 95 ∷ 115 ∷ []
+
+abbrev made : Name
+made = 95 ∷ 95 ∷ 115 ∷ 109 ∷ 95 ∷ []
+
+abbrev longer : Name
+longer = 95 ∷ 95 ∷ 115 ∷ 109 ∷ 95 ∷ 120 ∷ []
+
+abbrev later : Name
+later = 97 ∷ 95 ∷ 95 ∷ 115 ∷ 109 ∷ 95 ∷ []
+
+pub prefixes-told :
+    startsWith smPrefix short ∷ startsWith smPrefix made ∷ startsWith smPrefix longer ∷ startsWith smPrefix later ∷ noneStarts smPrefix (On ∷ longer ∷ []) ∷ noneStarts smPrefix (short ∷ later ∷ []) ∷ []
+    ≡ false ∷ true ∷ true ∷ false ∷ false ∷ true ∷ []
+unfolding startsWith noneStarts smPrefix
+prefixes-told = refl
+
+-- a region is active where the region that holds its state is, and is in that state
+pub within-both :
+    within (ticksIn (true ∷ false ∷ true ∷ [])) (nameAt (P ∷ P ∷ Q ∷ [])) P 0
+    ∷ within (ticksIn (true ∷ false ∷ true ∷ [])) (nameAt (P ∷ P ∷ Q ∷ [])) P 1
+    ∷ within (ticksIn (true ∷ false ∷ true ∷ [])) (nameAt (P ∷ P ∷ Q ∷ [])) P 2
+    ∷ []
+    ≡ true ∷ false ∷ false ∷ []
+unfolding within ticksIn nameAt eqName
+within-both = refl
 
 pub values-drawn : valuesIn coloured (machine On (nested false)) ≡ red ∷ green ∷ On ∷ P ∷ Q ∷ Off ∷ []
 unfolding valuesIn enumValues allNamesS coloured machine nested

@@ -10,9 +10,10 @@ use Rattle.machine_rules.specs.Resolved.{Machine, Regions, States, rCons, rNil,
 use Rattle.machine_rules.specs.Checks.{allNamesS}
 use Rattle.machine_rules.specs.Lower.{equationsOf}
 use Rattle.machine_rules.specs.MadeNames.{smPrefix}
+use Rattle.activation_rules.specs.MadeNames.{actPrefix}
 use Rattle.activation_rules.specs.Unlast.{conditionsOf}
-use Rattle.run_rules.specs.AsDrawn.{DrawnMachine, enumValues, noneStarts, valuesIn}
-use Rattle.run_rules.specs.Premises.{ActPremises, HasValue, conditionsAre, guardsR, guardsS, guardsT, onEveryCycle, portsPresent, presents, sidesE, sidesR, sidesS}
+use Rattle.run_rules.specs.AsDrawn.{DrawnAct, DrawnMachine, enumValues, noneStarts, valuesIn}
+use Rattle.run_rules.specs.Premises.{HasValue, conditionsAre, guardsR, guardsS, guardsT, onEveryCycle, portsPresent, presents, sidesE, sidesR, sidesS}
 use Rattle.run_rules.specs.Run.{Run, Value, clockOf, eval, every, vBool, vEnum, vOther}
 use Rattle.run_rules.proofs.Booleans.{&&-true, or-right, three, ≡→T}
 use Rattle.run_rules.proofs.Tested.{isPresent, up-to, upTo}
@@ -147,7 +148,7 @@ machine-tested R N p m enums h =
       sides = q .1;
     }
 
--- an activation's, of a run without enum values
+-- an activation's premises as drawn, of a run whose enum values are those of the package
 unfoldable pub portTest : Run ℕ → ℕ → List Port → Bool
 portTest R N [] = true
 portTest R N (p ∷ ps) = presentTest R N (p .name) && portTest R N ps
@@ -156,8 +157,8 @@ unfoldable pub conditionTest : Run ℕ → ℕ → List Expr → Bool
 conditionTest R N [] = true
 conditionTest R N (c ∷ cs) = truthTest R N c && conditionTest R N cs
 
-unfoldable pub actTest : Run ℕ → ℕ → Activation → Bool
-actTest R N A = portTest R N (A .outputs) && conditionTest R N (conditionsOf (A .name) (A .branches))
+unfoldable pub actTest : Run ℕ → ℕ → Package → Activation → Bool
+actTest R N p A = noneStarts actPrefix (enumValues (p .enums)) && (portTest R N (A .outputs) && conditionTest R N (conditionsOf (A .name) (A .branches)))
 
 ports-tested : (R : Run ℕ) (N : ℕ) (ps : List Port) → portTest R N ps ≡ true → portsPresent R N ps
 unfolding portTest presentTest
@@ -169,8 +170,13 @@ unfolding conditionTest
 conditions-tested R N [] h = tt
 conditions-tested R N (c ∷ cs) h = let q = &&-true (truthTest R N c) (conditionTest R N cs) h in (truth-tested R N c (q .0), conditions-tested R N cs (q .1))
 
-pub act-tested : (R : Run ℕ) (N : ℕ) (A : Activation) → ((x : Name) → R .enums x ≡ false) → actTest R N A ≡ true → ActPremises R N (fed R) A
+pub act-tested : (R : Run ℕ) (N : ℕ) (p : Package) (A : Activation) → ((x : Name) → R .enums x ≡ member x (enumValues (p .enums))) → actTest R N p A ≡ true → DrawnAct R N (fed R) p A
 unfolding actTest
-act-tested R N A enums h =
-    let p = &&-true (portTest R N (A .outputs)) (conditionTest R N (conditionsOf (A .name) (A .branches))) h in
-    record { free = λ x s. enums x; base = ports-tested R N (A .outputs) (p .0); conditions = conditions-tested R N (conditionsOf (A .name) (A .branches)) (p .1) }
+act-tested R N p A enums h =
+    let t = three (noneStarts actPrefix (enumValues (p .enums))) (portTest R N (A .outputs)) (conditionTest R N (conditionsOf (A .name) (A .branches))) h in
+    record {
+      enums = λ x k. sym (enums x) ∙ k;
+      free = t .0;
+      base = ports-tested R N (A .outputs) (t .1);
+      conditions = conditions-tested R N (conditionsOf (A .name) (A .branches)) (t .2);
+    }

@@ -11,13 +11,13 @@ use Rattle.wire.specs.Lists.{Bytes}
 use Rattle.wire.proofs.Writers.{lt-or-le}
 use Rattle.pack.specs.Names.{Name}
 use Rattle.pack.specs.Outcome.{writes}
-use Rattle.pack.specs.Syntax.{Equation, Node, Origin, OriginKind, Package}
+use Rattle.pack.specs.Syntax.{Activation, Equation, Node, Origin, OriginKind, Package}
 use Rattle.machine_rules.specs.Resolved.{Machine}
 use Rattle.machine_rules.specs.Lower.{equationsOf}
 use Rattle.machine_rules.specs.Machines.{Made, start}
 use Rattle.machine_rules.specs.Resolve.{asMachine}
 use Rattle.activation_rules.specs.Call.{lowerActivations}
-use Rattle.runs.specs.Claim.{MachinesKept, MachinesLowered}
+use Rattle.runs.specs.Claim.{ActClaim, ActivationsKept, MachinesKept, MachinesLowered}
 use Rattle.run_rules.specs.Run.{Run, satisfies}
 use Rattle.runs.specs.Standing.{Block, Stands, entry, machineStanding, machinesBefore, slice}
 use Rattle.runs.proofs.ActsStand.{acts-grow}
@@ -111,4 +111,15 @@ both-lowered O s b c output report L by e =
             stands = stands-kept (d .owner) (asMachine d (m .states)) k (L .got .nodes) (A .got .nodes) (L .got .origins) (A .got .origins) nodes origins (m .stands);
             runs = λ R N G P sat. m .runs R N G P (runs-kept R N (d .owner) (asMachine d (m .states)) k (L .got .nodes) (A .got .nodes) (L .got .origins) (A .got .origins) nodes origins (m .stands) sat);
           };
+    }
+
+-- and of the activations, which the first call left as they were
+pub acts-kept : (O : Type 0) (s b c : List ℕ) (output report : ℕ) → MachinesLowered O s b → Bytes b → lowerActivations b output report ≡ writes c → ActivationsKept O s b c
+acts-kept O s b c output report m by e =
+    let L = activations-lowered O b output report c by e in
+    let q : L .held ≡ m .got = whole-same (L .held) (m .got) (sym (L .reads) ∙ m .back) in
+    record {
+      machines = m;
+      activations = L;
+      each = λ pre A post h. subst (λ (x : Package). x .activations ≡ pre ++ (A ∷ post) → ActClaim O x (L .got) pre A) q (λ k. L .each pre A post k) (m .activations ∙ h);
     }

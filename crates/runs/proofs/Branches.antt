@@ -11,6 +11,7 @@ use Rattle.pack.specs.Syntax.{Activation, Equation, Node, Package, Port, eArrow
 use Rattle.activation_rules.specs.LastCalls.{lastName}
 use Rattle.activation_rules.specs.MadeNames.{actPrefix, branch, clockVar, flagVar, lastInfix, lastVar, madeName, noneVar, other, sampleVar, tag, valueVar}
 use Rattle.runs.specs.Claim.{mayRead}
+use Rattle.run_rules.specs.AsDrawn.{enumValues}
 use Rattle.run_rules.specs.Run.{Run, ifValue}
 use Rattle.run_rules.specs.Scopes.{OutputsGiven}
 use Rattle.runs.proofs.Computing.{actBlock, actPremises, activationsNumber, holding, ownerOf, reading, satisfying, small}
@@ -84,8 +85,8 @@ run =
     ∷ [])
 
 pub branches-instance : ActInstance held act owner (port (lastVar a v) ∷ []) holders run 4
-unfolding held owner act holders run tableRun openRun look cellAt truths sometimes ifValue lastName lastVar lastInfix flagVar noneVar clockVar sampleVar valueVar tag madeName actPrefix decimal digits small reading activationsNumber ownerOf holding actPremises satisfying actBlock member
-branches-instance = record { only = refl; bytes = refl; reads = refl; answers = refl; owner = refl; holds = refl; none = λ x. refl; premises = refl; satisfied = refl }
+unfolding held owner act holders run tableRun openRun look cellAt truths sometimes ifValue lastName lastVar lastInfix flagVar noneVar clockVar sampleVar valueVar tag madeName actPrefix decimal digits small reading activationsNumber ownerOf holding actPremises satisfying actBlock member enumValues
+branches-instance = record { only = refl; bytes = refl; reads = refl; answers = refl; owner = refl; holds = refl; enums = λ x. refl; premises = refl; satisfied = refl }
 
 pub branches-run : OutputsGiven run 4 (fed run) act (mayRead act owner (port (lastVar a v) ∷ [])) (act .outputs)
 branches-run = act-instance held act owner (port (lastVar a v) ∷ []) holders run 4 branches-instance

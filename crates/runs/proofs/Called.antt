@@ -10,6 +10,7 @@ use Rattle.pack.specs.Names.{Name, member}
 use Rattle.pack.specs.Syntax.{Activation, Node, Package, Port, Ty, eCall, eConst, eVar, kOperator, lInt, tBool, tInt32, xCons, xNil}
 use Rattle.activation_rules.specs.MadeNames.{actPrefix, branch, clockVar, flagVar, madeName, other, sampleVar, tag, valueVar}
 use Rattle.runs.specs.Claim.{mayRead}
+use Rattle.run_rules.specs.AsDrawn.{enumValues}
 use Rattle.run_rules.specs.Run.{Run, ifValue, vOther}
 use Rattle.run_rules.specs.Scopes.{OutputsGiven}
 use Rattle.runs.proofs.Computing.{actBlock, actPremises, activationsNumber, holding, ownerOf, reading, satisfying, small}
@@ -74,8 +75,8 @@ run =
     []
 
 pub called-instance : ActInstance held act owner [] [] run 4
-unfolding held owner act run openRun adding litValue digit number joined look cellAt truths numbers ifValue isPresent flagVar clockVar sampleVar valueVar tag madeName actPrefix decimal digits small reading activationsNumber ownerOf holding actPremises satisfying actBlock member
-called-instance = record { only = refl; bytes = refl; reads = refl; answers = refl; owner = refl; holds = refl; none = λ x. refl; premises = refl; satisfied = refl }
+unfolding held owner act run openRun adding litValue digit number joined look cellAt truths numbers ifValue isPresent flagVar clockVar sampleVar valueVar tag madeName actPrefix decimal digits small reading activationsNumber ownerOf holding actPremises satisfying actBlock member enumValues
+called-instance = record { only = refl; bytes = refl; reads = refl; answers = refl; owner = refl; holds = refl; enums = λ x. refl; premises = refl; satisfied = refl }
 
 pub called-run : OutputsGiven run 4 (fed run) act (mayRead act owner []) (act .outputs)
 called-run = act-instance held act owner [] [] run 4 called-instance

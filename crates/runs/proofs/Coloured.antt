@@ -25,13 +25,13 @@ use Rattle.runs.proofs.Using.{MachineInstance, machine-instance}
 abbrev M : Name
 M = 77 ∷ []
 
-abbrev Lamp : Name
+abbrev pub Lamp : Name
 Lamp = 76 ∷ []
 
-abbrev red : Name
+abbrev pub red : Name
 red = 114 ∷ []
 
-abbrev green : Name
+abbrev pub green : Name
 green = 103 ∷ []
 
 -- o is red in A and green in B

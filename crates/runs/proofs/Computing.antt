@@ -149,9 +149,9 @@ unfoldable pub machinePremises : Run ℕ → ℕ → Package → Machine → Boo
 unfolding Premises.startsWith AsDrawn.noneStarts AsDrawn.enumValues AsDrawn.valuesIn Checks.allNamesS Decimal.digits Decimal.decimal Names.eqName Names.member MadeNames.smPrefix MadeNames.stateVar MadeNames.nextVar MadeNames.activeVar MadeNames.enumName MadeNames.regionPrefix Lower.sizeS Lower.transitionsOf Lower.isName Lower.orElse Lower.nextChain Lower.held Lower.topEquations Lower.justEntered Lower.stateRhs Lower.regionEquations Lower.activeIn Lower.equationsS Lower.namesOf Lower.regionLocals Lower.localsS Lower.enumsS Lower.isOnly Lower.ownValue Lower.isSome Lower.coversS Lower.defaultOf Lower.fromOption Lower.valueS Lower.outputEquations Lower.equationsOf Lower.enumsOf Lower.localsOf Run.previous Tested.isPresent Run.isBool Run.ticks Run.history Run.ifValue Run.applyTo Run.bools Run.equals Run.binaryValue Run.binary Run.notValue Run.unary Run.literal Run.preAt Run.arrowAt Run.clockOf Run.sub Run.ifOf Run.eval Tested.eqValue Tested.eqCell Tested.upTo Tested.sameTest Tested.fitsTest Tested.sideTest Tested.agreeTest Tested.satisfied PremisesTested.truth PremisesTested.fed PremisesTested.isTruth PremisesTested.truthTest PremisesTested.presentTest PremisesTested.presentsTest PremisesTested.baseTest PremisesTested.guardTest PremisesTested.sideHas PremisesTested.stateTest PremisesTested.machineTest PremisesTested.portTest PremisesTested.conditionTest PremisesTested.actTest
 machinePremises R N p m = machineTest R N p m
 
-unfoldable pub actPremises : Run ℕ → ℕ → Activation → Bool
-unfolding Decimal.digits Decimal.decimal Names.eqName Names.member ActNames.actPrefix ActNames.madeName ActNames.flagVar ActNames.noneVar ActNames.clockVar ActNames.scopeAt ActNames.tag ActNames.valueVar ActNames.sampleVar ActNames.lastInfix ActNames.lastVar LastCalls.lastName LastCalls.asVar LastCalls.lastRest LastCalls.lastShape LastCalls.callKind Unlast.unlast Unlast.conditionsOf Run.previous Tested.isPresent Run.isBool Run.ticks Run.history Run.ifValue Run.applyTo Run.bools Run.equals Run.binaryValue Run.binary Run.notValue Run.unary Run.literal Run.preAt Run.arrowAt Run.clockOf Run.sub Run.ifOf Run.eval Tested.eqValue Tested.eqCell Tested.upTo Tested.sameTest Tested.fitsTest Tested.sideTest Tested.agreeTest Tested.satisfied PremisesTested.truth PremisesTested.fed PremisesTested.isTruth PremisesTested.truthTest PremisesTested.presentTest PremisesTested.presentsTest PremisesTested.baseTest PremisesTested.guardTest PremisesTested.sideHas PremisesTested.stateTest PremisesTested.machineTest PremisesTested.portTest PremisesTested.conditionTest PremisesTested.actTest
-actPremises R N A = actTest R N A
+unfoldable pub actPremises : Run ℕ → ℕ → Package → Activation → Bool
+unfolding Premises.startsWith AsDrawn.noneStarts AsDrawn.enumValues Decimal.digits Decimal.decimal Names.eqName Names.member ActNames.actPrefix ActNames.madeName ActNames.flagVar ActNames.noneVar ActNames.clockVar ActNames.scopeAt ActNames.tag ActNames.valueVar ActNames.sampleVar ActNames.lastInfix ActNames.lastVar LastCalls.lastName LastCalls.asVar LastCalls.lastRest LastCalls.lastShape LastCalls.callKind Unlast.unlast Unlast.conditionsOf Run.previous Tested.isPresent Run.isBool Run.ticks Run.history Run.ifValue Run.applyTo Run.bools Run.equals Run.binaryValue Run.binary Run.notValue Run.unary Run.literal Run.preAt Run.arrowAt Run.clockOf Run.sub Run.ifOf Run.eval Tested.eqValue Tested.eqCell Tested.upTo Tested.sameTest Tested.fitsTest Tested.sideTest Tested.agreeTest Tested.satisfied PremisesTested.truth PremisesTested.fed PremisesTested.isTruth PremisesTested.truthTest PremisesTested.presentTest PremisesTested.presentsTest PremisesTested.baseTest PremisesTested.guardTest PremisesTested.sideHas PremisesTested.stateTest PremisesTested.machineTest PremisesTested.portTest PremisesTested.conditionTest PremisesTested.actTest
+actPremises R N p A = actTest R N p A
 
 -- the states that the plain chart finds
 unfoldable pub finding : Guards → Machine → ℕ → List Name

@@ -9,6 +9,7 @@ use Rattle.wire.specs.Decimal.{decimal, digits}
 use Rattle.pack.specs.Names.{Name, member}
 use Rattle.pack.specs.Syntax.{Activation, Equation, Node, Package, Port, Ty, eConst, eVar, kOperator, lInt, tBool, tInt64}
 use Rattle.activation_rules.specs.MadeNames.{actPrefix, branch, clockVar, flagVar, madeName, noneVar, other, tag, valueVar}
+use Rattle.run_rules.specs.AsDrawn.{enumValues}
 use Rattle.run_rules.specs.Run.{Run, ifValue}
 use Rattle.run_rules.specs.Scopes.{OutputsGiven}
 use Rattle.run_rules.proofs.PremisesTested.{fed}
@@ -100,8 +101,8 @@ run =
     []
 
 pub first-true-instance : ActInstance held act owner [] [] run 4
-unfolding held owner act run openRun adding litValue look cellAt truths numbers sometimes ifValue isPresent flagVar noneVar clockVar valueVar tag madeName actPrefix decimal digits small reading activationsNumber ownerOf holding actPremises satisfying actBlock member
-first-true-instance = record { only = refl; bytes = refl; reads = refl; answers = refl; owner = refl; holds = refl; none = λ x. refl; premises = refl; satisfied = refl }
+unfolding held owner act run openRun adding litValue look cellAt truths numbers sometimes ifValue isPresent flagVar noneVar clockVar valueVar tag madeName actPrefix decimal digits small reading activationsNumber ownerOf holding actPremises satisfying actBlock member enumValues
+first-true-instance = record { only = refl; bytes = refl; reads = refl; answers = refl; owner = refl; holds = refl; enums = λ x. refl; premises = refl; satisfied = refl }
 
 pub first-true-run : OutputsGiven run 4 (fed run) act (mayRead act owner []) (act .outputs)
 first-true-run = act-instance held act owner [] [] run 4 first-true-instance

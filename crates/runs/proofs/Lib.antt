@@ -46,6 +46,7 @@ pub mod Uninitialised
 pub mod Called
 pub mod Visits
 pub mod Coloured
+pub mod Signals
 pub mod FirstTrue
 pub mod Both
 pub mod Charts

@@ -10,6 +10,7 @@ use Rattle.pack.specs.Names.{Name, eqName, member}
 use Rattle.pack.specs.Syntax.{Activation, Node, Package, Port, eConst, ePre, eVar, kOperator, lBool, tBool}
 use Rattle.activation_rules.specs.MadeNames.{actPrefix, branch, clockVar, flagVar, madeName, other, sampleVar, tag, valueVar}
 use Rattle.runs.specs.Claim.{mayRead}
+use Rattle.run_rules.specs.AsDrawn.{enumValues}
 use Rattle.run_rules.specs.Run.{Run, clockOf, ifValue}
 use Rattle.run_rules.specs.Scopes.{OutputsGiven}
 use Rattle.runs.proofs.Computing.{actBlock, actPremises, activationsNumber, holding, ownerOf, reading, satisfying, small}
@@ -70,8 +71,8 @@ run =
     (record { of = o; cells = sometimes (no ∷ yes true ∷ []) } ∷ record { of = valueVar a (branch 0) o; cells = sometimes (no ∷ yes true ∷ []) } ∷ [])
 
 pub uninitialised : ActInstance held act owner [] [] run 4
-unfolding held owner act run openRun look cellAt truths sometimes ifValue isPresent flagVar clockVar sampleVar valueVar tag madeName actPrefix decimal digits small reading activationsNumber ownerOf holding actPremises satisfying actBlock member
-uninitialised = record { only = refl; bytes = refl; reads = refl; answers = refl; owner = refl; holds = refl; none = λ x. refl; premises = refl; satisfied = refl }
+unfolding held owner act run openRun look cellAt truths sometimes ifValue isPresent flagVar clockVar sampleVar valueVar tag madeName actPrefix decimal digits small reading activationsNumber ownerOf holding actPremises satisfying actBlock member enumValues
+uninitialised = record { only = refl; bytes = refl; reads = refl; answers = refl; owner = refl; holds = refl; enums = λ x. refl; premises = refl; satisfied = refl }
 
 pub uninitialised-run : OutputsGiven run 4 (fed run) act (mayRead act owner []) (act .outputs)
 uninitialised-run = act-instance held act owner [] [] run 4 uninitialised

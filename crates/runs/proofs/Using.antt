@@ -31,8 +31,8 @@ use Rattle.run_rules.specs.Scopes.{Conditions, OutputsGiven}
 use Rattle.runs.specs.Standing.{actStanding, activationsBefore, machineStanding, machinesBefore}
 use Rattle.runs.proofs.Computing.{actBlock, actPremises, activationsNumber, holding, machineBlock, machinePremises, machinesNumber, ownerOf, reading, satisfying, small, walking}
 use Rattle.runs.proofs.Demand.{demand-three}
-use Rattle.runs.proofs.FromDrawn.{machine-drawn}
-use Rattle.run_rules.specs.AsDrawn.{valuesIn}
+use Rattle.runs.proofs.FromDrawn.{act-drawn, machine-drawn}
+use Rattle.run_rules.specs.AsDrawn.{enumValues, valuesIn}
 use Rattle.runs.proofs.InBuffers.{activation-bytes-run, machine-bytes-run}
 use Rattle.run_rules.proofs.PremisesTested.{act-tested, fed, machine-tested}
 use Rattle.runs.proofs.ReadsBack.{whole-same}
@@ -100,15 +100,15 @@ pub record ActInstance (p : Package) (A : Activation) (n : Node) (ps : List Port
   pub answers : activationsNumber p ≡ 0
   pub owner : ownerOf p A ≡ some n
   pub holds : holding p A n ≡ held ps hs
-  pub none : (x : Name) → R .enums x ≡ false
-  pub premises : actPremises R N A ≡ true
+  pub enums : (x : Name) → R .enums x ≡ member x (enumValues (p .enums))
+  pub premises : actPremises R N p A ≡ true
   pub satisfied : satisfying R N (actBlock p) ≡ true
 
 pub act-instance : (p : Package) (A : Activation) (n : Node) (ps : List Port) (hs : List Equation) (R : Run ℕ) (N : ℕ) → ActInstance p A n ps hs R N → OutputsGiven R N (fed R) A (mayRead A n ps) (A .outputs)
 unfolding small reading activationsNumber ownerOf holding actPremises satisfying actBlock
 act-instance p A n ps hs R N i =
     act-used (encode p) maxBytes maxBytes (small-bytes (encode p) (i .bytes)) p (i .reads) (i .answers) [] A [] (i .only) n (i .owner) ps hs (i .holds) R N (fed R)
-    (act-tested R N A (i .none) (i .premises)) (satisfies-tested R N (actStanding (activationsBefore p []) (madeActivations p .nodes) (madeActivations p .origins)) (i .satisfied))
+    (act-drawn R N (fed R) p A (act-tested R N p A (i .enums) (i .premises))) (satisfies-tested R N (actStanding (activationsBefore p []) (madeActivations p .nodes) (madeActivations p .origins)) (i .satisfied))
 
 -- the same pack in a caller's buffers: what a call leaves there
 abbrev Left : Outcome → List ℕ → List ℕ

@@ -11,6 +11,7 @@ use Rattle.pack.specs.Syntax.{Activation, Equation, Expr, Node, Package, Port, 
 use Rattle.activation_rules.specs.LastCalls.{lastName}
 use Rattle.activation_rules.specs.MadeNames.{actPrefix, branch, clockVar, flagVar, lastInfix, lastVar, madeName, noneVar, other, sampleVar, tag, valueVar}
 use Rattle.runs.specs.Claim.{mayRead}
+use Rattle.run_rules.specs.AsDrawn.{enumValues}
 use Rattle.run_rules.specs.Run.{Run, ifValue}
 use Rattle.run_rules.specs.Scopes.{OutputsGiven}
 use Rattle.runs.proofs.Computing.{actBlock, actPremises, activationsNumber, holding, ownerOf, reading, satisfying, small}
@@ -87,8 +88,8 @@ run =
     []
 
 pub visits-instance : ActInstance held act owner (port tInt32 (lastVar a o) ∷ []) holders run 8
-unfolding held owner act holders run openRun adding litValue total look cellAt truths numbers sometimes ifValue isPresent lastName lastVar lastInfix flagVar noneVar clockVar sampleVar valueVar tag madeName actPrefix decimal digits small reading activationsNumber ownerOf holding actPremises satisfying actBlock member
-visits-instance = record { only = refl; bytes = refl; reads = refl; answers = refl; owner = refl; holds = refl; none = λ x. refl; premises = refl; satisfied = refl }
+unfolding held owner act holders run openRun adding litValue total look cellAt truths numbers sometimes ifValue isPresent lastName lastVar lastInfix flagVar noneVar clockVar sampleVar valueVar tag madeName actPrefix decimal digits small reading activationsNumber ownerOf holding actPremises satisfying actBlock member enumValues
+visits-instance = record { only = refl; bytes = refl; reads = refl; answers = refl; owner = refl; holds = refl; enums = λ x. refl; premises = refl; satisfied = refl }
 
 pub visits-run : OutputsGiven run 8 (fed run) act (mayRead act owner (port tInt32 (lastVar a o) ∷ [])) (act .outputs)
 visits-run = act-instance held act owner (port tInt32 (lastVar a o) ∷ []) holders run 8 visits-instance

@@ -126,6 +126,12 @@ pub record MachinesKept (O : Type 0) (s c : List ℕ) : Type 0 where
   pub back : read c ≡ whole got
   pub each : (pre : List Drawing) (d : Drawing) (post : List Drawing) → held .machines ≡ pre ++ (d ∷ post) → MachineClaim O held got pre d
 
+-- The same of activations: for every activation of the pack s, by what stands for it in the last pack.
+pub record ActivationsKept (O : Type 0) (s b c : List ℕ) : Type 0 where
+  pub machines : MachinesLowered O s b
+  pub activations : ActivationsLowered O b c
+  pub each : (pre : List Activation) (A : Activation) (post : List Activation) → machines .held .activations ≡ pre ++ (A ∷ post) → ActClaim O (machines .got) (activations .got) pre A
+
 -- the outcome x writes a pack, which is that of the machines lowered
 pub record MachinesWritten (O : Type 0) (s : List ℕ) (x : Outcome) : Type 0 where
   pub pack : List ℕ
