@@ -30,7 +30,7 @@ fn text(name: &str, kind: &str) -> String {
 
 #[test]
 fn every_chart_makes_its_pack() {
-    assert_eq!(names(), ["airlock", "duress", "fire", "keys", "misdrawn", "strongroom"]);
+    assert_eq!(names(), ["airlock", "duress", "fire", "keys", "misdrawn", "strongroom", "visits"]);
     for name in names() {
         let pack = make::pack(&text(&name, "chart")).unwrap_or_else(|e| panic!("{name}.chart: {e}"));
         assert_eq!(pack, file(&name, "pack"), "{name}.pack");

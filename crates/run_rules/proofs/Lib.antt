@@ -5,3 +5,4 @@ pub mod PremisesTested
 pub mod RunTables
 pub mod RunFacts
 pub mod ChartFacts
+pub mod VisitFacts

@@ -5,15 +5,18 @@ use mathlib.Core.Bool.{Bool, true, false, _&&_}
 use mathlib.Core.Option.{Option, none, some}
 use mathlib.Core.Path.{_≡_, refl, sym, _∙_}
 use Rattle.pack.specs.Names.{Name, eqName, member}
-use Rattle.pack.specs.Syntax.{Activation, Equation, Expr, Package, Port, Transition}
+use Rattle.pack.specs.Syntax.{Activation, Equation, Expr, Node, Package, Port, Transition}
 use Rattle.machine_rules.specs.Resolved.{Machine, Regions, States, rCons, rNil, sCons, sNil}
 use Rattle.machine_rules.specs.Checks.{allNamesS}
 use Rattle.machine_rules.specs.Lower.{equationsOf}
 use Rattle.machine_rules.specs.MadeNames.{smPrefix}
 use Rattle.activation_rules.specs.MadeNames.{actPrefix}
-use Rattle.activation_rules.specs.Unlast.{conditionsOf}
+use Rattle.activation_rules.specs.Sought.{conditions}
+use Rattle.activation_rules.specs.Types.{portNames, variables}
+use Rattle.activation_rules.specs.Unlast.{conditionsOf, unlast}
 use Rattle.run_rules.specs.AsDrawn.{DrawnAct, DrawnMachine, enumValues, noneStarts, valuesIn}
 use Rattle.run_rules.specs.Premises.{HasValue, conditionsAre, guardsR, guardsS, guardsT, onEveryCycle, portsPresent, presents, sidesE, sidesR, sidesS}
+use Rattle.run_rules.specs.Visits.{DrawnScopes, Every, apartFrom, hasSource, sidesOf, simple}
 use Rattle.run_rules.specs.Run.{Run, Value, clockOf, eval, every, vBool, vEnum, vOther}
 use Rattle.run_rules.proofs.Booleans.{&&-true, or-right, three, ≡→T}
 use Rattle.run_rules.proofs.Tested.{isPresent, up-to, upTo}
@@ -179,4 +182,33 @@ act-tested R N p A enums h =
       free = t .0;
       base = ports-tested R N (A .outputs) (t .1);
       conditions = conditions-tested R N (conditionsOf (A .name) (A .branches)) (t .2);
+    }
+
+-- what is asked of an activation's conditions and right sides for its scopes to be run on their own cycles
+unfoldable pub allOf : (Expr → Bool) → List Expr → Bool
+allOf p [] = true
+allOf p (e ∷ es) = p e && allOf p es
+
+every-tested : (p : Expr → Bool) (es : List Expr) → allOf p es ≡ true → Every (λ e. p e ≡ true) es
+unfolding allOf
+every-tested p [] h = tt
+every-tested p (e ∷ es) h = let q = &&-true (p e) (allOf p es) h in (q .0, every-tested p es (q .1))
+
+unfoldable pub scopesTest : Package → Activation → Node → Bool
+scopesTest p A n =
+    apartFrom (portNames (variables n) ++ portNames (A .outputs)) (enumValues (p .enums))
+    && (allOf (λ e. simple (unlast (A .name) e)) (conditions (A .branches))
+    && (allOf (λ e. simple (unlast (A .name) e)) (sidesOf A) && allOf (hasSource (portNames (variables n))) (sidesOf A)))
+
+pub scopes-tested : (R : Run ℕ) (N : ℕ) (p : Package) (A : Activation) (n : Node) → ((x : Name) → R .enums x ≡ member x (enumValues (p .enums))) → actTest R N p A ≡ true → scopesTest p A n ≡ true → DrawnScopes R N (fed R) p A n
+unfolding scopesTest
+scopes-tested R N p A n enums h k =
+    let q = &&-true (apartFrom (portNames (variables n) ++ portNames (A .outputs)) (enumValues (p .enums))) (allOf (λ e. simple (unlast (A .name) e)) (conditions (A .branches)) && (allOf (λ e. simple (unlast (A .name) e)) (sidesOf A) && allOf (hasSource (portNames (variables n))) (sidesOf A))) k in
+    let t = three (allOf (λ e. simple (unlast (A .name) e)) (conditions (A .branches))) (allOf (λ e. simple (unlast (A .name) e)) (sidesOf A)) (allOf (hasSource (portNames (variables n))) (sidesOf A)) (q .1) in
+    record {
+      act = act-tested R N p A enums h;
+      apart = q .0;
+      simple-conditions = every-tested (λ e. simple (unlast (A .name) e)) (conditions (A .branches)) (t .0);
+      simple-sides = every-tested (λ e. simple (unlast (A .name) e)) (sidesOf A) (t .1);
+      sources = every-tested (hasSource (portNames (variables n))) (sidesOf A) (t .2);
     }

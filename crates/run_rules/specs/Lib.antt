@@ -4,3 +4,4 @@ pub mod Words
 pub mod Scopes
 pub mod Premises
 pub mod AsDrawn
+pub mod Visits

@@ -4,22 +4,23 @@ use Prim.Native.Nat.{ℕ}
 use mathlib.Core.List.{List, [], _∷_}
 use mathlib.Core.Bool.{Bool, true, false}
 use mathlib.Core.Option.{Option, none, some}
-use mathlib.Core.Path.{refl}
+use mathlib.Core.Path.{_≡_, refl}
 use Rattle.wire.specs.Decimal.{decimal, digits}
 use Rattle.pack.specs.Names.{Name, member}
 use Rattle.pack.specs.Syntax.{Activation, Equation, Node, Package, Port, eArrow, eCall, eConst, ePre, eVar, kOperator, lBool, tBool, xCons, xNil}
 use Rattle.activation_rules.specs.LastCalls.{lastName}
 use Rattle.activation_rules.specs.MadeNames.{actPrefix, branch, clockVar, flagVar, lastInfix, lastVar, madeName, noneVar, other, sampleVar, tag, valueVar}
 use Rattle.runs.specs.Claim.{mayRead}
+use Rattle.runs.specs.OwnCycles.{ScopesRun}
 use Rattle.run_rules.specs.AsDrawn.{enumValues}
 use Rattle.run_rules.specs.Run.{Run, ifValue}
 use Rattle.run_rules.specs.Scopes.{OutputsGiven}
-use Rattle.runs.proofs.Computing.{actBlock, actPremises, activationsNumber, holding, ownerOf, reading, satisfying, small}
+use Rattle.runs.proofs.Computing.{actBlock, actPremises, activationsNumber, holding, ownerOf, reading, satisfying, scopePremises, small}
 use Rattle.run_rules.proofs.ChartFacts.{o, sets}
 use Rattle.runs.proofs.Owned.{F}
 use Rattle.run_rules.proofs.PremisesTested.{fed}
 use Rattle.run_rules.proofs.RunTables.{cellAt, look, openRun, sometimes, tableRun, truths}
-use Rattle.runs.proofs.Using.{ActInstance, act-instance}
+use Rattle.runs.proofs.Using.{ActInstance, act-instance, scopes-instance}
 
 abbrev a : Name
 a = 65 ∷ []
@@ -90,3 +91,12 @@ branches-instance = record { only = refl; bytes = refl; reads = refl; answers = 
 
 pub branches-run : OutputsGiven run 4 (fed run) act (mayRead act owner (port (lastVar a v) ∷ [])) (act .outputs)
 branches-run = act-instance held act owner (port (lastVar a v) ∷ []) holders run 4 branches-instance
+
+-- the scopes on their own cycles; `last` starts from a Boolean's default
+branches-allowed : scopePremises held act owner ≡ true
+unfolding held act owner lastName scopePremises
+branches-allowed = refl
+
+pub branches-scopes : ScopesRun run 4 (fed run) [] act owner
+unfolding held
+branches-scopes = scopes-instance held act owner (port (lastVar a v) ∷ []) holders run 4 branches-instance branches-allowed

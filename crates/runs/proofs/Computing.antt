@@ -48,6 +48,8 @@ use Rattle.run_rules.specs.Chart
 use Rattle.run_rules.specs.Premises
 use Rattle.runs.specs.Standing
 use Rattle.run_rules.specs.AsDrawn
+use Rattle.run_rules.specs.Scopes as RunScopes
+use Rattle.run_rules.specs.Visits
 use Rattle.run_rules.proofs.Tested
 use Rattle.run_rules.proofs.PremisesTested
 use Rattle.pack.proofs.WrittenBack
@@ -72,7 +74,7 @@ use Rattle.run_rules.specs.Run.{Run}
 use Rattle.run_rules.specs.Chart.{Guards, foundIn, selected}
 use Rattle.runs.specs.Standing.{actStanding, activationsBefore, entry, equationsFrom, machineStanding, machinesBefore}
 use Rattle.run_rules.proofs.Tested.{satisfied}
-use Rattle.run_rules.proofs.PremisesTested.{actTest, machineTest}
+use Rattle.run_rules.proofs.PremisesTested.{actTest, machineTest, scopesTest}
 
 -- a package's pack
 unfoldable pub packed : Package → List ℕ
@@ -162,3 +164,8 @@ finding G m t = foundIn G m t
 unfoldable pub selecting : Guards → Machine → Name → ℕ → Option Expr
 unfolding Forms.nameAt Lower.sizeS Lower.isOnly Lower.ownValue Lower.isSome Lower.coversS Names.eqName Names.member Run.previous Tested.isPresent Run.isBool Run.ticks Run.history Run.ifValue Run.applyTo Run.bools Run.equals Run.binaryValue Run.binary Run.notValue Run.unary Run.literal Run.preAt Run.arrowAt Run.clockOf Run.sub Run.ifOf Run.eval Chart.atFirst Chart.firstTrue Chart.choose Chart.anew Chart.find Chart.keep Chart.turn Chart.firstKept Chart.turnsS Chart.startS Chart.founds Chart.kepts Chart.topOf Chart.cycle Chart.keptIn Chart.foundIn Chart.selectS Chart.selected
 selecting G m o t = selected (nameAt (foundIn G m t)) m o
+
+-- what is asked of an activation for its scopes to be run on their own cycles
+unfoldable pub scopePremises : Package → Activation → Node → Bool
+unfolding AsDrawn.enumValues Visits.apartFrom Decimal.digits Decimal.decimal Names.eqName Names.member ActNames.actPrefix ActNames.madeName ActNames.flagVar ActNames.noneVar ActNames.clockVar ActNames.scopeAt ActNames.tag ActNames.valueVar ActNames.sampleVar ActNames.lastInfix ActNames.lastVar LastCalls.lastName LastCalls.asVar LastCalls.lastRest LastCalls.lastShape LastCalls.callKind Unlast.unlast Sought.rightSides Sought.conditions Sought.bodies Reads.push Reads.reads Pins.hasConst Types.variables Types.portNames Visits.simple Visits.anyIn Visits.hasSource Visits.sidesOf PremisesTested.allOf PremisesTested.scopesTest
+scopePremises p A n = scopesTest p A n

@@ -35,6 +35,14 @@ pub mod Demand
 pub mod FromDrawn
 pub mod BothLowered
 pub mod InBuffers
+pub mod Narrow
+pub mod Held
+pub mod LastsRead
+pub mod OverSamples
+pub mod FullClock
+pub mod Sources
+pub mod OwnScopes
+pub mod OwnDemand
 pub mod Computing
 pub mod Using
 pub mod Nested

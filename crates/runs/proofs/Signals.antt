@@ -18,10 +18,11 @@ use Rattle.run_rules.proofs.PremisesTested.{fed}
 use Rattle.run_rules.proofs.RunTables.{cellAt, look, openRun, sometimes, tableRun, truths}
 use Rattle.run_rules.proofs.Tested.{isPresent}
 use Rattle.runs.specs.Claim.{mayRead}
-use Rattle.runs.proofs.Computing.{actBlock, actPremises, activationsNumber, holding, ownerOf, reading, satisfying, small}
+use Rattle.runs.specs.OwnCycles.{ScopesRun}
+use Rattle.runs.proofs.Computing.{actBlock, actPremises, activationsNumber, holding, ownerOf, reading, satisfying, scopePremises, small}
 use Rattle.runs.proofs.Coloured.{Lamp, green, red}
 use Rattle.runs.proofs.Owned.{F}
-use Rattle.runs.proofs.Using.{ActInstance, act-instance}
+use Rattle.runs.proofs.Using.{ActInstance, act-instance, scopes-instance}
 
 abbrev a : Name
 a = 65 ∷ []
@@ -91,3 +92,11 @@ signals-instance = record { only = refl; bytes = refl; reads = refl; answers = r
 
 pub signals-run : OutputsGiven run 4 (fed run) act (mayRead act owner (port (tNamed Lamp) (lastVar a o) ∷ [])) (act .outputs)
 signals-run = act-instance held act owner (port (tNamed Lamp) (lastVar a o) ∷ []) holders run 4 signals-instance
+
+-- the scopes on their own cycles
+signals-allowed : scopePremises held act owner ≡ true
+unfolding held act owner lastName scopePremises
+signals-allowed = refl
+
+pub signals-scopes : ScopesRun run 4 (fed run) (held .enums) act owner
+signals-scopes = scopes-instance held act owner (port (tNamed Lamp) (lastVar a o) ∷ []) holders run 4 signals-instance signals-allowed

@@ -10,16 +10,17 @@ use Rattle.pack.specs.Names.{Name, eqName, member}
 use Rattle.pack.specs.Syntax.{Activation, Node, Package, Port, eConst, ePre, eVar, kOperator, lBool, tBool}
 use Rattle.activation_rules.specs.MadeNames.{actPrefix, branch, clockVar, flagVar, madeName, other, sampleVar, tag, valueVar}
 use Rattle.runs.specs.Claim.{mayRead}
+use Rattle.runs.specs.OwnCycles.{ScopesRun}
 use Rattle.run_rules.specs.AsDrawn.{enumValues}
 use Rattle.run_rules.specs.Run.{Run, clockOf, ifValue}
 use Rattle.run_rules.specs.Scopes.{OutputsGiven}
-use Rattle.runs.proofs.Computing.{actBlock, actPremises, activationsNumber, holding, ownerOf, reading, satisfying, small}
+use Rattle.runs.proofs.Computing.{actBlock, actPremises, activationsNumber, holding, ownerOf, reading, satisfying, scopePremises, small}
 use Rattle.run_rules.proofs.ChartFacts.{o, sets}
 use Rattle.runs.proofs.Owned.{F}
 use Rattle.run_rules.proofs.PremisesTested.{fed}
 use Rattle.run_rules.proofs.RunTables.{cellAt, look, openRun, sometimes, truths}
 use Rattle.run_rules.proofs.Tested.{isPresent}
-use Rattle.runs.proofs.Using.{ActInstance, act-instance}
+use Rattle.runs.proofs.Using.{ActInstance, act-instance, scopes-instance}
 
 abbrev a : Name
 a = 65 ∷ []
@@ -80,3 +81,12 @@ uninitialised-run = act-instance held act owner [] [] run 4 uninitialised
 there : (clockOf run o 1 ≡ true) × (run .at o 1 ≡ none) × (run .at o 2 ≡ run .at v 1)
 unfolding run openRun look cellAt truths sometimes isPresent clockOf flagVar sampleVar valueVar tag madeName actPrefix decimal digits eqName
 there = (refl, refl, refl)
+
+-- the scopes on their own cycles
+uninitialised-allowed : scopePremises held act owner ≡ true
+unfolding held act owner scopePremises
+uninitialised-allowed = refl
+
+pub uninitialised-scopes : ScopesRun run 4 (fed run) [] act owner
+unfolding held
+uninitialised-scopes = scopes-instance held act owner [] [] run 4 uninitialised uninitialised-allowed

@@ -29,12 +29,15 @@ use Rattle.run_rules.specs.Premises.{ActPremises, MachinePremises}
 use Rattle.run_rules.specs.Run.{Run, satisfies}
 use Rattle.run_rules.specs.Scopes.{Conditions, OutputsGiven}
 use Rattle.runs.specs.Standing.{actStanding, activationsBefore, machineStanding, machinesBefore}
-use Rattle.runs.proofs.Computing.{actBlock, actPremises, activationsNumber, holding, machineBlock, machinePremises, machinesNumber, ownerOf, reading, satisfying, small, walking}
+use Rattle.runs.proofs.Computing.{actBlock, actPremises, activationsNumber, holding, machineBlock, machinePremises, machinesNumber, ownerOf, reading, satisfying, scopePremises, small, walking}
 use Rattle.runs.proofs.Demand.{demand-three}
 use Rattle.runs.proofs.FromDrawn.{act-drawn, machine-drawn}
 use Rattle.run_rules.specs.AsDrawn.{enumValues, valuesIn}
+use Rattle.run_rules.specs.Visits.{DrawnScopes}
+use Rattle.runs.specs.OwnCycles.{ScopesClaim, ScopesRun}
+use Rattle.runs.proofs.OwnDemand.{own-cycles}
 use Rattle.runs.proofs.InBuffers.{activation-bytes-run, machine-bytes-run}
-use Rattle.run_rules.proofs.PremisesTested.{act-tested, fed, machine-tested}
+use Rattle.run_rules.proofs.PremisesTested.{act-tested, fed, machine-tested, scopes-tested}
 use Rattle.runs.proofs.ReadsBack.{whole-same}
 use Rattle.run_rules.proofs.Tested.{satisfies-tested}
 
@@ -74,6 +77,20 @@ module _ (s : List ℕ) (output report : ℕ) (by : Bytes s) (p : Package) (r : 
       let here = subst (λ (x : List Origin). satisfies R N (actStanding (activationsBefore p pre) (L .got .nodes) x)) origins (subst (λ (x : List Node). satisfies R N (actStanding (activationsBefore p pre) x (madeActivations p .origins))) nodes sat) in
       subst (λ (x : List Port). OutputsGiven R N C A (mayRead A n x) (A .outputs)) l (subst (λ (x : Node). OutputsGiven R N C A (mayRead A x (c .ports)) (A .outputs)) k (c .runs R N C P here))
 
+  -- its scopes on their own cycles
+  pub scopes-used : numberOf (lowerActivations s output report) ≡ 0 → (pre : List Activation) (A : Activation) (post : List Activation) → p .activations ≡ pre ++ (A ∷ post)
+      → (n : Node) → nodeNamed (A .owner) (activationsBefore p pre .nodes) ≡ some n
+      → {O : Type 0} (R : Run O) (N : ℕ) (C : Conditions) → DrawnScopes R N C p A n → satisfies R N (actStanding (activationsBefore p pre) (madeActivations p .nodes) (madeActivations p .origins)) → ScopesRun R N C (p .enums) A n
+  scopes-used e pre A post at n own {O} R N C P sat =
+      let L = own-cycles .activations O s output report by e .lowered in
+      let q : L .held ≡ p = whole-same (L .held) p (sym (L .reads) ∙ r) in
+      let c : ScopesClaim O p (L .got) pre A = subst (λ (x : Package). x .activations ≡ pre ++ (A ∷ post) → ScopesClaim O x (L .got) pre A) q (λ h. L .each pre A post h) at in
+      let k : c .owner ≡ n = Option·some-injective (c .owner) n (sym (c .owns) ∙ own) in
+      let nodes : madeActivations p .nodes ≡ L .got .nodes = ap (λ (x : Package). madeActivations x .nodes) (sym q) ∙ sym (L .nodes) in
+      let origins : madeActivations p .origins ≡ L .got .origins = ap (λ (x : Package). madeActivations x .origins) (sym q) ∙ sym (L .origins) in
+      let here = subst (λ (x : List Origin). satisfies R N (actStanding (activationsBefore p pre) (L .got .nodes) x)) origins (subst (λ (x : List Node). satisfies R N (actStanding (activationsBefore p pre) x (madeActivations p .origins))) nodes sat) in
+      subst (λ (x : Node). DrawnScopes R N C p A x → ScopesRun R N C (p .enums) A x) k (λ Q. c .drawn R N C Q here) P
+
 -- what is computed of a run of a package's first machine
 pub record MachineInstance (p : Package) (d : Drawing) (ss : States) (n : ℕ) (R : Run ℕ) (N : ℕ) : Type 0 where
   pub others : List Drawing
@@ -109,6 +126,14 @@ unfolding small reading activationsNumber ownerOf holding actPremises satisfying
 act-instance p A n ps hs R N i =
     act-used (encode p) maxBytes maxBytes (small-bytes (encode p) (i .bytes)) p (i .reads) (i .answers) [] A [] (i .only) n (i .owner) ps hs (i .holds) R N (fed R)
     (act-drawn R N (fed R) p A (act-tested R N p A (i .enums) (i .premises))) (satisfies-tested R N (actStanding (activationsBefore p []) (madeActivations p .nodes) (madeActivations p .origins)) (i .satisfied))
+
+-- the same of its scopes on their own cycles, where its conditions and right sides allow it
+pub scopes-instance : (p : Package) (A : Activation) (n : Node) (ps : List Port) (hs : List Equation) (R : Run ℕ) (N : ℕ) → ActInstance p A n ps hs R N → scopePremises p A n ≡ true → ScopesRun R N (fed R) (p .enums) A n
+unfolding small reading activationsNumber ownerOf actPremises satisfying actBlock scopePremises
+scopes-instance p A n ps hs R N i j =
+    scopes-used (encode p) maxBytes maxBytes (small-bytes (encode p) (i .bytes)) p (i .reads) (i .answers) [] A [] (i .only) n (i .owner) R N (fed R)
+    (scopes-tested R N p A n (i .enums) (i .premises) j)
+    (satisfies-tested R N (actStanding (activationsBefore p []) (madeActivations p .nodes) (madeActivations p .origins)) (i .satisfied))
 
 -- the same pack in a caller's buffers: what a call leaves there
 abbrev Left : Outcome → List ℕ → List ℕ

@@ -1,2 +1,3 @@
 pub mod Standing
 pub mod Claim
+pub mod OwnCycles

@@ -2,6 +2,7 @@ use Prim.Native.Nat.{ℕ}
 use native.Mathlib.Omega.{arith}
 use borrow.Author.Needs.{needs}
 use Rattle.runs.proofs.InBuffers.{activation-bytes-run}
+use Rattle.runs.proofs.OwnDemand.{scope-bytes-run}
 use Rattle.runs.proofs.calls.lower_acts.Statement.{statement}
 use Rattle.runs.proofs.calls.lower_acts.Tie as tie
 
@@ -17,7 +18,7 @@ same-length-2 c = search needs
 returns : tie.Need-returns
 returns c = (
   c .before .before .before .before .lower-activations .ensures .0,
-  λ e. activation-bytes-run ℕ (c .before .before .before .before .before .before .before .before .before .before .args .pack .now) _ _ _ _ _ _ (λ i. omega (arith, c .before .before .before .before .before .before .before .before .before .shared-slice-known .given i)) (c .before .before .before .before .lower-activations .ensures .0) e,
+  (λ e. activation-bytes-run ℕ (c .before .before .before .before .before .before .before .before .before .before .args .pack .now) _ _ _ _ _ _ (λ i. omega (arith, c .before .before .before .before .before .before .before .before .before .shared-slice-known .given i)) (c .before .before .before .before .lower-activations .ensures .0) e, λ e. scope-bytes-run ℕ (c .before .before .before .before .before .before .before .before .before .before .args .pack .now) _ _ _ _ _ _ (λ i. omega (arith, c .before .before .before .before .before .before .before .before .before .shared-slice-known .given i)) (c .before .before .before .before .lower-activations .ensures .0) e),
 )
 
 pub lower-acts-spec : {M : Type 1} → statement M
