@@ -37,5 +37,6 @@ pub mod show;
 pub mod special;
 pub mod stack;
 pub mod stream;
+pub mod trusted;
 #[cfg(feature = "reference")]
 pub mod walk;
