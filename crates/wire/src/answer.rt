@@ -3,7 +3,7 @@ ghost use Rattle.std.specs.Prelude.{◌≡◌};
 ghost use Rattle.wire.specs.Code.{checked_of, past_of, becomes_of, then_is, left_of, too_deep};
 
 // A number with the offset after it, or why there is none.
-#[derive(Drop)]
+#[derive(Clone, Copy)]
 pub enum Read {
     Is { value: usize, next: usize },
     Early,
@@ -12,7 +12,7 @@ pub enum Read {
 }
 
 // The offset after what was skipped, or why it could not be.
-#[derive(Drop)]
+#[derive(Clone, Copy)]
 pub enum Skipped {
     To(usize),
     Early,

@@ -124,7 +124,7 @@ pub fn then_index(s: &[u8], names: usize, from: Skipped) -> Skipped
 }
 
 // A list's count, and where its first element stands.
-#[derive(Drop)]
+#[derive(Clone, Copy)]
 pub struct Count {
     pub left: usize,
     pub at: Skipped,

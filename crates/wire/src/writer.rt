@@ -5,7 +5,7 @@ ghost use Rattle.wire.specs.Decimal.{decimal};
 ghost use Rattle.wire.specs.Writer.{state_of, put, puts, swapped, full as isFull, st, overwritten};
 
 // How far each buffer is written, and whether something did not fit.
-#[derive(Drop)]
+#[derive(Clone, Copy)]
 pub struct Writer {
     pub at: usize,
     pub made: usize,
