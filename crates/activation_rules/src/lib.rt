@@ -1,1 +1,2 @@
 // What the lowering of activations is: definitions and what they compute, no code.
+#![tactic(auto)]

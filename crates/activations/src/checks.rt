@@ -19,7 +19,7 @@ use pack::cells::{cell, put_cell};
 // --- What is refused of an activation, in numbers.
 
 // The kind, 0 where nothing is refused, and the names after the activation's own: the number of names is none, one more is `else`.
-#[derive(Drop)]
+#[derive(Clone, Copy)]
 pub struct Refused {
     pub kind: usize,
     pub second: usize,

@@ -14,7 +14,7 @@ use pack::record::Pack;
 // A call of `last` that is replaced, with its variable, where its initial value stands (0 where none is given) and where it
 // ends; one with other arguments; a constant; a variable; a node with its clock; any other node, with how many expressions stand
 // under it and where they begin. Nothing is met where reading stops.
-#[derive(Drop)]
+#[derive(Clone, Copy)]
 pub enum ExprNode {
     Last {
         var: usize,

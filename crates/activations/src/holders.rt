@@ -29,7 +29,7 @@ use wire::writer::{Writer, put_byte, put_bytes, put_u16};
 // --- Holders made known: each has a number, and the type of its variable.
 
 // What is answered: 0, or the kind of a refusal and its variable.
-#[derive(Drop)]
+#[derive(Clone, Copy)]
 pub struct Holder {
     pub kind: usize,
     pub var: usize,

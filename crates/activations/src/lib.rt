@@ -1,4 +1,6 @@
 // Activations: checked and lowered, in the order of the Rust.
+#![tactic(auto)]
+
 pub mod made_names; // the names that lowering makes
 pub mod cells; // tables of 16-bit words
 pub mod pack_info; // what is known of a pack as a whole

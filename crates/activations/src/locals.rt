@@ -26,7 +26,7 @@ use wire::number::WORD_RANGE;
 use wire::writer::Writer;
 
 // The writer, and how many locals there were, by 16 bits.
-#[derive(Drop)]
+#[derive(Clone, Copy)]
 pub struct Passed {
     pub w: Writer,
     pub count: usize,

@@ -24,7 +24,7 @@ use wire::writer::Writer;
 // --- An activation prepared: the types of what it may read, the variables that `last` asks for, and their holders.
 
 // What is refused (kind 0, 15 or 16) of which variable; how many holders there are.
-#[derive(Drop)]
+#[derive(Clone, Copy)]
 pub struct Prepared {
     pub kind: usize,
     pub var: usize,

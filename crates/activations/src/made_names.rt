@@ -11,7 +11,7 @@ use pack::record::Pack;
 use wire::writer::{Writer, put_bytes, put_digits};
 
 // A variable made for a branch.
-#[derive(Drop)]
+#[derive(Clone, Copy)]
 pub enum Var {
     Flag,
     Untaken,

@@ -10,7 +10,7 @@ use wire::writer::{Writer, capped};
 
 // How many names there are; the index of `last` among them, their number where it is none; where enums stand; whether a name
 // begins as made ones do.
-#[derive(Drop)]
+#[derive(Clone, Copy)]
 pub struct PackInfo {
     pub names: usize,
     pub last: usize,

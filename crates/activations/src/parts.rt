@@ -14,7 +14,7 @@ use pack::parts::{then_names, then_type};
 use wire::answer::Skipped;
 
 // An activation: its name's index; where its outputs, its branches and its else scope stand; how many branches it has.
-#[derive(Drop)]
+#[derive(Clone, Copy)]
 pub struct Act {
     pub name: usize,
     pub outputs: usize,

@@ -22,7 +22,7 @@ use wire::number::read_byte;
 use wire::writer::{Writer, put_byte, put_bytes};
 
 // What a holder starts from: nothing, a literal of this tag with value 0, or a name.
-#[derive(Drop)]
+#[derive(Clone, Copy)]
 pub enum TypeDefault {
     Missing,
     Literal(usize),

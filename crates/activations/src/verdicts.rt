@@ -29,7 +29,7 @@ use wire::writer::{Writer, stopped};
 // the same owner stays in `later`.
 
 // What is refused of an activation, or how many locals it makes.
-#[derive(Drop)]
+#[derive(Clone, Copy)]
 pub struct ActVerdict {
     pub refused: Refused,
     pub locals: usize,

@@ -1,6 +1,8 @@
 // Charts against stored answers. Standard input holds one chart after the other, in parts that each stand after their length
 // (4 bytes, lowest first): the chart's name and its pack; then for the check, for lowering machines and for lowering
 // activations the returned word (8 bytes, lowest first) and what the output and the report begin with.
+#![tactic(auto)]
+
 ghost use Rattle.std.specs.Prelude.{◌≤◌, ◌<◌, length};
 ghost use Rattle.charts.specs.Parts.{Onward};
 
@@ -15,14 +17,14 @@ use wire::number::read_u32;
 const FILL: u8 = 170;
 
 // Where a part stands.
-#[derive(Drop)]
+#[derive(Clone, Copy)]
 struct Part {
     from: usize,
     to: usize,
 }
 
 // Where the next answer or chart stands, and whether this one is as stored.
-#[derive(Drop)]
+#[derive(Clone, Copy)]
 struct Tried {
     next: usize,
     agrees: bool,

@@ -1,5 +1,7 @@
 // Lowers the pack on standard input: its machines, then the activations of the result. One line a call: the call's name,
 // the returned number, the returned value.
+#![tactic(auto)]
+
 ghost use Rattle.std.specs.Prelude.{◌≡◌};
 ghost use Rattle.pack_rules.specs.Limits.{max_bytes};
 ghost use Rattle.machine_rules.specs.Call.{lower_machines};
@@ -12,7 +14,7 @@ use pack::finish::Outcome;
 use pack::record::Pack;
 
 // The calls that were made, with the number and the value that each returned.
-#[derive(Drop)]
+#[derive(Clone, Copy)]
 enum Calls {
     First(Outcome),
     Both(Outcome, Outcome),

@@ -1,1 +1,2 @@
 // What the lowering of machines is: definitions and what they compute, no code.
+#![tactic(auto)]

@@ -15,7 +15,7 @@ use wire::answer::{Read, Skipped};
 use wire::number::{read_byte, read_u16};
 
 // A number, and the offset after it.
-#[derive(Drop)]
+#[derive(Clone, Copy)]
 pub struct NumberAt {
     pub value: usize,
     pub next: usize,

@@ -31,7 +31,7 @@ const MARKS: usize = 3 * HINTS;
 pub const ASSIGNS_MEMO: usize = MARKS + 6554;
 
 // A yes or no, and the offset after what it was asked of.
-#[derive(Drop)]
+#[derive(Clone, Copy)]
 pub struct OnlyLeft {
     pub yes: bool,
     pub next: usize,
@@ -52,7 +52,7 @@ fn assigns_only(pack: &[u8], names: usize, memo: &[u16], out: usize, at: usize) 
 }
 
 // Whether an equation was found, and what of its state comes after it: so many equations, and where they begin.
-#[derive(Drop)]
+#[derive(Clone, Copy)]
 struct Assignment {
     yes: bool,
     left: usize,

@@ -17,7 +17,7 @@ use wire::writer::capped;
 // which pack's tables find a name. They are kept apart, since a low half is looked for more quickly than both, and where names were
 // made of one low half the high ones differ.
 
-#[derive(Drop)]
+#[derive(Clone, Copy)]
 pub struct Fingerprint {
     pub low: u32,
     pub high: u32,

@@ -29,7 +29,7 @@ use wire::writer::{Writer, capped};
 // --- A region before its states, drawn in a state or made of a machine.
 
 // Its initial state's name, its history, how many states there are and where they stand.
-#[derive(Drop)]
+#[derive(Clone, Copy)]
 pub struct RegionHead {
     pub initial: usize,
     pub history: usize,
@@ -216,7 +216,7 @@ pub fn put_region_row(
 
 // What laying out came to: the pack's offset after, how many words, regions and letters there are,
 // whether a region without states was met.
-#[derive(Drop)]
+#[derive(Clone, Copy)]
 pub struct LayoutPos {
     pub next: usize,
     pub words: usize,
@@ -227,7 +227,7 @@ pub struct LayoutPos {
 
 // A state before its regions: how far the pack was read and the tables are filled, how many regions follow,
 // its name's first letter and length.
-#[derive(Drop)]
+#[derive(Clone, Copy)]
 struct Entered {
     next: usize,
     words: usize,

@@ -1,4 +1,6 @@
 // Machines: resolved, checked and lowered, in the order of the Rust.
+#![tactic(auto)]
+
 pub mod checked_read; // total readers on a checked pack
 pub mod table; // names and machines by name index
 pub mod memo; // what is read once of equations, guards, regions and states

@@ -20,7 +20,7 @@ use pack::record::Pack;
 use wire::writer::{Writer, put_byte, put_bytes, put_digits};
 
 // A variable made for a region.
-#[derive(Drop)]
+#[derive(Clone, Copy)]
 pub enum Var {
     State,
     Next,

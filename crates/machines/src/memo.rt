@@ -151,7 +151,7 @@ pub fn memo_put_state(memo: &mut [u16], p: usize, l: usize, m: usize, o: usize, 
 // regions are, and where it ends, alone or with those after it.
 
 // Of a state: where its transitions begin; how many regions it has, and where they are.
-#[derive(Drop)]
+#[derive(Clone, Copy)]
 pub struct Inside {
     pub moves: usize,
     pub regions: NumberAt,
@@ -244,14 +244,14 @@ pub fn past_states(pack: &[u8], names: usize, memo: &[u16], at: usize) -> usize
 // however often it is shown.
 
 // What a state's transitions do: all lead to states of its region, or the first that does not leads to this name.
-#[derive(Drop)]
+#[derive(Clone, Copy)]
 pub enum Targets {
     All,
     Stray(usize),
 }
 
 // How many states come before the first with an unknown target, and that target's name; all and 0 where there is none.
-#[derive(Drop)]
+#[derive(Clone, Copy)]
 pub struct UnknownTarget {
     pub fine: usize,
     pub name: usize,
@@ -358,7 +358,7 @@ pub fn unknown_targets(pack: &[u8], names: usize, memo: &[u16], n: usize, f: usi
 
 // What is read of a state before its regions: its longest name and where that was read to, where its transitions begin, where its
 // regions' count stands.
-#[derive(Drop)]
+#[derive(Clone, Copy)]
 struct Head {
     head: NumberAt,
     moves: usize,

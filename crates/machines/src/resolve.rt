@@ -25,7 +25,7 @@ use wire::number::WORD_RANGE;
 // --- The machines on the way from the top machine to where a walk is. Eight suffice: each is a level further down.
 
 // Name indexes, the machine entered last first; `Pack::ABSENT` where there is none.
-#[derive(Drop)]
+#[derive(Clone, Copy)]
 pub struct RefineStack {
     pub a: usize,
     pub b: usize,
@@ -164,14 +164,14 @@ pub fn state_head(pack: &[u8], names: usize, offsets: &[u16], memo: &[u16], at: 
 // --- Regions without states that follow one another: how many is kept once, so that a visit passes over all of them at once.
 
 // How many there are, and the longest name of their initial states.
-#[derive(Drop)]
+#[derive(Clone, Copy)]
 pub struct EmptyRegions {
     pub count: usize,
     pub longest: usize,
 }
 
 // Regions as resolving takes them: how many states and where they are, the longest initial state's name.
-#[derive(Drop)]
+#[derive(Clone, Copy)]
 pub struct SkippedRegions {
     pub states: usize,
     pub next: usize,
@@ -269,7 +269,7 @@ pub fn open_regions(pack: &[u8], k: usize, at: usize) -> RegionHead
 }
 
 // What walking came to: the offset after, how many states so far, the longest name's length; or why it stopped.
-#[derive(Drop)]
+#[derive(Clone, Copy)]
 pub enum Resolved {
     Went(usize, usize, usize),
     Cycle(usize),

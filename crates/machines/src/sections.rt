@@ -32,7 +32,7 @@ use wire::writer::{Writer, put_byte, put_bytes, put_u16};
 // --- The origins of the machines that go to an owner.
 
 // What is counted from one machine to the next: the equations of a node before the machine.
-#[derive(Drop)]
+#[derive(Clone, Copy)]
 pub struct Counted {
     pub node: usize,
     pub first: usize,

@@ -19,7 +19,7 @@ use crate::table::entry;
 
 // What is known of the targets of a region's states from one on: the next `fine` ones have none that is wrong, the one after
 // them has one, with this name. Where nothing is known, this says nothing.
-#[derive(Drop)]
+#[derive(Clone, Copy)]
 pub struct TargetMemo {
     pub known: bool,
     pub fine: usize,
@@ -125,7 +125,7 @@ pub fn onward(v: TargetMemo) -> TargetMemo
 
 // What checking came to: nothing wrong, a region (by its word) whose initial state is not among its states,
 // or a state's transition to a name that is not.
-#[derive(Drop)]
+#[derive(Clone, Copy)]
 pub enum Checked {
     Fine,
     Initial(usize),

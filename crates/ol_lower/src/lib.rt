@@ -1,5 +1,7 @@
 // The C interface, and nothing else: an archive exports only the functions of its own crate. Every call returns one word, the
 // number times 2^32 plus the value. So a word below 2^32 has the number 0, and is the value.
+#![tactic(auto)]
+
 ghost use Rattle.std.specs.Prelude.{◌≡◌, ℕ, ◌<◌, length, take};
 ghost use Rattle.pack_rules.specs.Outcome.{check, output_of, report_of, returned};
 ghost use Rattle.machine_rules.specs.Call.{lower_machines};

@@ -14,7 +14,7 @@ use wire::answer::{Read, Skipped};
 use wire::number::read_u16;
 
 // What a byte slice is as a pack: the table's answers 1 to 5 with their offsets, or a whole pack.
-#[derive(Drop)]
+#[derive(Clone, Copy)]
 pub enum Verdict {
     Whole,
     TooLong,
@@ -25,7 +25,7 @@ pub enum Verdict {
 }
 
 // The verdict, and the record of where the sections stand.
-#[derive(Drop)]
+#[derive(Clone, Copy)]
 pub struct Opened {
     pub verdict: Verdict,
     pub pack: Pack,

@@ -7,7 +7,7 @@ ghost use Rattle.pack_rules.specs.Read.{name_section};
 use crate::names::skip_names;
 use wire::answer::Skipped;
 
-#[derive(Drop)]
+#[derive(Clone, Copy)]
 pub struct Cursor<'a> {
     pub bytes: &'a [u8],
     pub at: usize,

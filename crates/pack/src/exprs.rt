@@ -12,7 +12,7 @@ use wire::answer::{Read, Skipped, becomes, past, then_is};
 use wire::number::{read_below, read_byte, read_index, read_u16, skip_u64};
 
 // A node taken apart: the names that a lowering looks at, and how many expressions stand under it.
-#[derive(Drop)]
+#[derive(Clone, Copy)]
 pub enum Node {
     Var(usize),
     Clocked { clock: usize, under: usize },
@@ -21,7 +21,7 @@ pub enum Node {
 }
 
 // A node with the offset of what stands under it, or why there is none.
-#[derive(Drop)]
+#[derive(Clone, Copy)]
 pub enum Decoded {
     Is { node: Node, next: usize },
     Early,

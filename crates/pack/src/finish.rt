@@ -12,7 +12,7 @@ use crate::table::TEXTS;
 use wire::writer::{Writer, append, capped};
 
 // A number and a value of the table of answers.
-#[derive(Drop)]
+#[derive(Clone, Copy)]
 pub struct Outcome {
     pub number: u64,
     pub value: u64,

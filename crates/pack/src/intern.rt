@@ -14,7 +14,7 @@ use crate::table::{TEXTS, note, seek_name};
 use wire::writer::{Writer, capped, put_byte, put_bytes, put_u16, stopped, turned};
 
 // A name's number in a table; where it is missing, how many names there are.
-#[derive(Drop)]
+#[derive(Clone, Copy)]
 pub enum Found {
     At(usize),
     Missing(usize),

@@ -1,4 +1,6 @@
 // The pack format: what a pack is, read, checked and written.
+#![tactic(auto)]
+
 pub mod record; // the pack record, with the limits
 pub mod cells; // tables of bytes and of 16-bit words
 pub mod names; // the name section

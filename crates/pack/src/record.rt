@@ -2,7 +2,7 @@
 ghost use Rattle.std.specs.Prelude.{◌≡◌};
 ghost use Rattle.pack.specs.Verdict.{empty_record};
 
-#[derive(Drop)]
+#[derive(Clone, Copy)]
 pub struct Pack {
     pub names: usize,
     pub enums: usize,

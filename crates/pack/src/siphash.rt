@@ -8,7 +8,7 @@ use std::num::wrapping_add_u64;
 use wire::number::WORD_RANGE;
 
 // What was taken of a name so far.
-#[derive(Drop)]
+#[derive(Clone, Copy)]
 pub struct Lanes {
     pub a: u64,
     pub b: u64,

@@ -25,7 +25,7 @@ pub const TEXTS: usize = SPOTS + 2 * ROWS;
 pub const ROOM: usize = TEXTS + Pack::BYTES;
 
 // Where a name is: it has the number, the cell would be its own, or neither.
-#[derive(Drop)]
+#[derive(Clone, Copy)]
 pub enum Place {
     Taken(usize),
     Free(usize),

@@ -1,1 +1,2 @@
 // The pack format: what a pack is, read and written, as definitions, and what they compute; no code.
+#![tactic(auto)]

@@ -1,5 +1,7 @@
 // Replays stored answers of the harness. Standard input holds records: a pack's length (4 bytes, lowest first), the pack,
 // and the word that the check returns for it (8 bytes, lowest first).
+#![tactic(auto)]
+
 ghost use Rattle.std.specs.Prelude.{◌+◌, ◌<◌, length};
 ghost use Rattle.replay.specs.Tally.{Inside, Onward};
 
@@ -10,7 +12,7 @@ use wire::answer::Read;
 use wire::number::read_u32;
 
 // Where the next record stands, and how many were replayed and differed so far.
-#[derive(Drop)]
+#[derive(Clone, Copy)]
 struct Tally {
     at: usize,
     compared: usize,

@@ -1,11 +1,13 @@
 // The fourteen types by kind, after `Type` of the Rust. What depends on a type's kind names all fourteen and has no arm for the
 // rest, so that a type added here is refused in each such place until it is named there.
+#![tactic(auto)]
+
 ghost use Rattle.std.specs.Prelude.{◌≡◌};
 ghost use Rattle.type_kinds.specs.Tags.{decode_type};
 ghost use Rattle.type_kinds.specs.Types.{is_integer, integer_or_missing, default_kind};
 
 // The types, in the order of their tags. An array's length and element and a named type's name are not part of the kind.
-#[derive(Drop)]
+#[derive(Clone, Copy)]
 pub enum TypeKind {
     Bool,
     Int8,
@@ -24,14 +26,14 @@ pub enum TypeKind {
 }
 
 // The type that a tag byte stands for, if it stands for one.
-#[derive(Drop)]
+#[derive(Clone, Copy)]
 pub enum DecodedType {
     Known(TypeKind),
     Unknown,
 }
 
 // The literals, in the order of their tags.
-#[derive(Drop)]
+#[derive(Clone, Copy)]
 pub enum LiteralKind {
     Bool,
     Int,
@@ -41,7 +43,7 @@ pub enum LiteralKind {
 
 // What a type's default is: the literal of this kind with value 0 or false, the first variant of the enum that the type names, or
 // none.
-#[derive(Drop)]
+#[derive(Clone, Copy)]
 pub enum DefaultKind {
     Literal(LiteralKind),
     FirstVariant,

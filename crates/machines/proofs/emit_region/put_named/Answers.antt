@@ -1,0 +1,7 @@
+use mathlib.Core.Path.{ap, ◌∙◌}
+use Rattle.pack.specs.Intern.{put_name}
+use Rattle.machines.proofs.TermLaws.{var-term}
+use Rattle.machines.proofs.emit_region.put_named.Goals as goal
+
+pub returns : goal.returns
+returns c = c.put_name.ensures ∙ ap (put_name _ _) (c.put_byte-a.ensures _) ∙ var-term _ _ _

@@ -1,0 +1,25 @@
+use Rattle.machines.specs.LayoutAt.{board, inner, layout_region, layout_state, refine_b, region_b, times}
+use Rattle.pack_rules.specs.Names.{Name}
+use lib.ListN.{length}
+use mathlib.Core.Path.{◌≡◌}
+use mathlib.Core.List.{List}
+use Prim.Native.Nat.{◌+◌, ◌-◌}
+use Rattle.machines.proofs.layout.+layout_region_layout_state.Given as goal
+
+abbrev pub decreases-layout_region : goal.decreases-layout_region
+decreases-layout_region l = l.levels + l.levels
+
+abbrev pub decreases-layout_state : goal.decreases-layout_state
+decreases-layout_state l = l.levels + l.levels + 1
+
+abbrev pub invariant-loop-n : goal.invariant-loop-n
+invariant-loop-n l = (length l.layout ≡ length l.initial.layout) × (length l.rows ≡ length l.initial.rows) × (length l.qualified ≡ length l.initial.qualified) × ((ns : List Name) → length ns ≡ l.names → times (layout_state ns l.pack l.offsets l.machines (layout_region ns l.pack l.offsets l.machines (l.levels - 1)) l.c.regions l.a l.m) l.n (board l.layout l.rows l.qualified l.e) ≡ times (layout_state ns l.pack l.offsets l.machines (layout_region ns l.pack l.offsets l.machines (l.levels - 1)) l.c.regions l.a l.m) l.initial.n (board l.initial.layout l.initial.rows l.initial.qualified l.initial.e))
+
+abbrev pub decreases-loop-n : goal.decreases-loop-n
+decreases-loop-n l = l.n
+
+abbrev pub invariant-loop-n : goal.invariant-loop-n
+invariant-loop-n l = (length l.rows ≡ length l.initial.layout) × (length l.qualified ≡ length l.initial.rows) × (length l.e ≡ length l.initial.qualified) × ((ns : List Name) → length ns ≡ l.names → inner (region_b ns l.pack l.offsets l.machines (layout_region ns l.pack l.offsets l.machines l.levels) l.m.words l.st l.up l.a) l.n k (board l.rows l.qualified l.e e) (refine_b ns l.pack l.offsets l.machines (layout_region ns l.pack l.offsets l.machines l.levels) l.m.words l.st l.c.letter l.c.length) ≡ inner (region_b ns l.pack l.offsets l.machines (layout_region ns l.pack l.offsets l.machines l.levels) l.m.words l.st l.up l.a) l.initial.e l.initial.n (board l.initial.layout l.initial.rows l.initial.qualified l.layout) (refine_b ns l.pack l.offsets l.machines (layout_region ns l.pack l.offsets l.machines l.levels) l.m.words l.st l.c.letter l.c.length))
+
+abbrev pub decreases-loop-n : goal.decreases-loop-n
+decreases-loop-n l = l.n

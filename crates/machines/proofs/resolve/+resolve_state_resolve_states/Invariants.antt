@@ -1,0 +1,25 @@
+use Prim.Native.Nat.{◌+◌, ◌-◌}
+use mathlib.Core.List.{List}
+use mathlib.Core.Path.{◌≡◌}
+use lib.ListN.{length}
+use Rattle.pack_rules.specs.Names.{Name}
+use Rattle.machines.specs.ResolveAt.{region_w, rounds, state_w, walk}
+use Rattle.machines.proofs.resolve.+resolve_state_resolve_states.Given as goal
+
+abbrev pub decreases-resolve_state : goal.decreases-resolve_state
+decreases-resolve_state l = l.levels + l.levels + 1
+
+abbrev pub decreases-resolve_states : goal.decreases-resolve_states
+decreases-resolve_states l = l.levels + l.levels
+
+abbrev pub invariant-loop-n : goal.invariant-loop-n
+invariant-loop-n l = (ns : List Name) → length ns ≡ l.names → rounds (region_w ns l.pack l.offsets l.machines (walk ns l.pack l.offsets l.machines l.levels) l.p) l.n l.o l.c l.a ≡ rounds (region_w ns l.pack l.offsets l.machines (walk ns l.pack l.offsets l.machines l.levels) l.p) l.initial.n l.initial.o l.initial.c l.initial.a
+
+abbrev pub decreases-loop-n : goal.decreases-loop-n
+decreases-loop-n l = l.n
+
+abbrev pub invariant-loop-n : goal.invariant-loop-n
+invariant-loop-n l = (ns : List Name) → length ns ≡ l.names → rounds (state_w ns l.pack l.offsets l.machines (walk ns l.pack l.offsets l.machines (l.levels - 1)) l.p) l.o l.c l.a a ≡ rounds (state_w ns l.pack l.offsets l.machines (walk ns l.pack l.offsets l.machines (l.levels - 1)) l.p) l.at l.count l.initial.n 0
+
+abbrev pub decreases-loop-n : goal.decreases-loop-n
+decreases-loop-n l = l.o

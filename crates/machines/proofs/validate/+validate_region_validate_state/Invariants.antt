@@ -1,0 +1,26 @@
+use Prim.Native.Nat.{◌+◌, ◌-◌}
+use mathlib.Core.List.{List}
+use mathlib.Core.Path.{◌≡◌}
+use lib.ListN.{length, get_or}
+use Rattle.pack_rules.specs.Names.{Name}
+use Rattle.machines.specs.ValidateAt.{AllRecalled, checked_region, checked_state, each_row}
+use Rattle.machines.proofs.validate.+validate_region_validate_state.Given as goal
+
+abbrev pub decreases-validate_region : goal.decreases-validate_region
+decreases-validate_region l = l.levels + l.levels
+
+abbrev pub decreases-validate_state : goal.decreases-validate_state
+decreases-validate_state l = l.levels + l.levels + 1
+
+abbrev pub invariant-loop-n : goal.invariant-loop-n
+invariant-loop-n l = ((ns : List Name) → length ns ≡ l.names → each_row l.layout (checked_state ns l.pack l.layout (checked_region ns l.pack l.layout (l.levels - 1)) l.q) l.n l.p ≡ each_row l.layout (checked_state ns l.pack l.layout (checked_region ns l.pack l.layout (l.levels - 1)) l.q) (get_or l.layout (l.q + 6) 0) (l.q + 9))
+    × AllRecalled l.pack l.names l.layout l.v l.q l.n l.p
+
+abbrev pub decreases-loop-n : goal.decreases-loop-n
+decreases-loop-n l = l.n
+
+abbrev pub invariant-loop-n : goal.invariant-loop-n
+invariant-loop-n l = (ns : List Name) → length ns ≡ l.names → each_row l.layout (checked_region ns l.pack l.layout l.levels) l.v l.n ≡ each_row l.layout (checked_region ns l.pack l.layout l.levels) (get_or l.layout (l.initial.v + 5) 0) (l.initial.v + 6)
+
+abbrev pub decreases-loop-n : goal.decreases-loop-n
+decreases-loop-n l = l.v

@@ -1,0 +1,5 @@
+use Rattle.ol_lower.proofs.Words.{word-is}
+use Rattle.ol_lower.proofs.ol_pack_check.Goals as goal
+
+pub returns : goal.returns
+returns c = word-is _ _ _ _ c.returned_word.ensures c.check_pack.ensures.answers.0 c.check_pack.ensures.answers.1

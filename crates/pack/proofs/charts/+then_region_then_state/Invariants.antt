@@ -1,0 +1,23 @@
+use Rattle.std.proofs.Common.{◌≡◌, ◌+◌, ◌-◌, List, length}
+use Rattle.wire.specs.Code.{next, rep, skips}
+use Rattle.pack_rules.specs.Names.{Name}
+use Rattle.pack_rules.specs.Read.{state_with, region_at}
+use Rattle.pack.proofs.charts.+then_region_then_state.Given as goal
+
+abbrev pub decreases-then_region : goal.decreases-then_region
+decreases-then_region l = l.levels + l.levels
+
+abbrev pub decreases-then_state : goal.decreases-then_state
+decreases-then_state l = l.levels + l.levels + 1
+
+abbrev pub invariant-loop-n : goal.invariant-loop-n
+invariant-loop-n l = (ns : List Name) → length ns ≡ l.names → next l.r (rep (skips (state_with (region_at (l.levels - 1) ns l.pack) ns l.pack)) l.n) ≡ next l.initial.r (rep (skips (state_with (region_at (l.levels - 1) ns l.pack) ns l.pack)) l.initial.n)
+
+abbrev pub decreases-loop-n : goal.decreases-loop-n
+decreases-loop-n l = l.n
+
+abbrev pub invariant-loop-n : goal.invariant-loop-n
+invariant-loop-n l = (ns : List Name) → length ns ≡ l.names → next l.r (rep (skips (region_at l.levels ns l.pack)) l.n) ≡ next l.initial.r (rep (skips (region_at l.levels ns l.pack)) l.initial.n)
+
+abbrev pub decreases-loop-n : goal.decreases-loop-n
+decreases-loop-n l = l.n

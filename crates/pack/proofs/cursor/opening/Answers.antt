@@ -1,0 +1,157 @@
+-- `pack::cursor::opening` meets its contract: a walk of its MIR, by hand. A `Cursor` that one call returns is held in a local and passed to the next. All that the proof knows of `start` and of `names` is that each meets its contract.
+-- The machine value that `start` returns is stored and passed on as it is. In a local of a body MIR erases the lifetime of the struct's type, so the value is shown to have the type at `erased`: what the struct owns does not say the lifetime's name.
+-- Assumes nothing.
+use Rattle.std.proofs.Common.{◌≡◌, ℕ, List, [], ◌∷◌, length, refl, ap, ◌∙◌, Bor}
+use seplogic.Ra.Ura.{Ura}
+use mir.Syntax.{named, erased}
+use mir.Val.{Val}
+use base.Logic.{SProp, ent, sep, emp, via, fst∗, snd∗, ex_e, id⊢}
+use base.Fml.{Lft, Share, Fml, ftrue, flft}
+use prog.Memory.{Memory}
+use prog.Routine.{Routine}
+use prog.Wp.{Calls, Loops, WpFn, Tables}
+use types.Logic.{Logic, sem}
+use contract.Lifetimes.{Lfts}
+use contract.Monad.{Fun, fact}
+use types.Kit.{‵, raw, ◌⊛◌, ⋆, some, later, ◌$◌, ◌∵◌, !, qed, by, move, use1, use2, split, join, pick, fsplit, fjoin, suffices, frame, await, done}
+use types.Run.{look, init, forget, stop, from, load, and_then, no_more, land, returns, enter, alloc1, alloc0, params1, pass1, pass0, free1, free0}
+use sound.WpLaws.{FmC, fm_of, WpFn-mono}
+use denote.RattleType.{RattleType, owns}
+use denote.Laws.{Is, shows}
+use denote.Builtin.{u8}
+use denote.Ref.{NamedLft}
+use denote.Signature.{plain, named_lft}
+use denote.Slice.{slice_val, ShrSlice, shr_slice_vals, shr_slice_Tells, shr_slice_Lawful, shr_slice_copy}
+use denote.Steps.{peeks, heard, nothing}
+use denote.Enum.Laws as EL
+use denote.Struct.Laws as LL
+use denote.Triple.Statement.{Contract, Triple}
+use denote.Triple.Call.{calls_at}
+use denote.Triple.Entry.{on_entry}
+use denote.Triple.Spec.{Meets, triple_of}
+use denote.Triple.Walked.{says, Stays, stay_none_slice, walk_of, Goes-none_slice, Walks, ends_at, walked, walk_Meets}
+use denote.Exit.{yes}
+use denote.Triple.Clauses.{ensured, lasts}
+use Rattle.wire.specs.Code.{skip}
+use Rattle.pack_rules.specs.Read.{name_section}
+use Rattle.pack.specs.declared.cursor.Cursor.{Cursor}
+use Rattle.wire.specs.declared.answer.Skipped.{Skipped}
+use Rattle.pack.specs.contracts.cursor.Cursor as T
+use Rattle.pack.proofs.cursor.Cursor.TheLaws as T'
+use Rattle.wire.specs.contracts.answer.Skipped as S
+use Rattle.wire.proofs.answer.Skipped.TheLaws as S'
+use Rattle.pack.specs.contracts.cursor.start as start
+use Rattle.pack.proofs.cursor.start.Symbol as start-def
+use Rattle.pack.proofs.cursor.start.Symbol.{name as #pack·cursor·start}
+use Rattle.pack.proofs.cursor.start.Met as start-thm
+use Rattle.pack.specs.contracts.cursor.names as names
+use Rattle.pack.proofs.cursor.names.Symbol as names-def
+use Rattle.pack.proofs.cursor.names.Symbol.{name as #pack·cursor·names}
+use Rattle.pack.proofs.cursor.names.Met as names-thm
+use Rattle.pack.specs.contracts.cursor.opening as opening
+use Rattle.pack.proofs.cursor.opening.Code as code
+use Rattle.pack.proofs.cursor.opening.Goals as goal
+
+-- what skipping the name section comes to
+abbrev skipped_at : List ℕ → ℕ → Skipped
+skipped_at s at = skip (name_section s at)
+
+-- the struct's type, over the signature's lifetimes
+abbrev B : Lfts 1 → RattleType
+B κs = T.the_row (named_lft 1 0 tt κs)
+
+abbrev stayed : Stays (opening.ended).signature.params (opening.ended).kept
+stayed = (stay_none_slice (0 ∷ []) tt (plain (λ _. u8)) yes, tt)
+
+module _ {M : Type 1} {𝓤 : Ura M} (𝓛 : Logic 𝓤) (mem : Memory → SProp 𝓤) (run : Routine → Fun 𝓤) where
+  -- the contracts that the proof cites
+  abbrev Start : Contract 𝓤
+  Start = triple_of 𝓛 start.signature (start.spec 𝓛 mem run)
+
+  abbrev Names : Contract 𝓤
+  Names = triple_of 𝓛 names.signature (names.spec 𝓛 mem run)
+
+module _ {M : Type 1} {𝓤 : Ura M} (𝓛 : Logic 𝓤) (mem : Memory → SProp 𝓤) (run : Routine → Fun 𝓤) (κ : Lft) (q : Share) (s : Bor (List ℕ)) where
+  -- the machine value that s has
+  open 𝓛 use {H}
+
+  abbrev v : Val
+  v = slice_val s.ref_ptr (length s.now)
+
+  abbrev found : Skipped
+  found = skipped_at s.now 0
+
+  -- the struct's type as a local of a body has it
+  abbrev αᵉ : NamedLft
+  αᵉ = record { mir = erased; lft = κ }
+
+  abbrev Post : Val → SProp 𝓤
+  Post = (walk_of 𝓛 opening.ended stayed (opening.clauses 𝓛 mem run)).post (((κ, tt), (q, tt), tt, (s, tt), (v ∷ [], tt)), tt)
+
+  abbrev Own : Fml
+  Own = (ShrSlice (named 0) κ u8).own_val s (v ∷ [])
+
+  -- the call of `start`: what it is passed, what it asks, and what is known of its result
+  abbrev to_start : (Start 𝓛 mem run).Ghost
+  to_start = (((κ, tt), (q, tt), tt, (s, tt), (v ∷ [], tt)), tt)
+
+  goes-start : ent 𝓤 (on_entry 𝓛 opening.signature (κ, tt) (q, tt) (s, tt) (v ∷ [], tt)) (sep 𝓤 ((Start 𝓛 mem run).pre to_start) (sem 𝓛 Own))
+  goes-start =
+      qed 𝓛 ((‵ (flft κ q) ⊛ ‵ ftrue) ∷ ‵ (owns (ShrSlice (named 0) κ u8 ∷ []) (s, tt) (v ∷ [], tt)) ∷ []) ∵
+      move ! (1 ∷ []) $ fsplit ! $ use1 𝓛 (‵ Own ⊛ ‵ Own) ((shr_slice_copy 𝓛 (named 0) κ u8).twice s (v ∷ [])) $ split ! $
+      move ! (0 ∷ 2 ∷ []) $ fjoin ! $ move ! (2 ∷ 0 ∷ []) $ use2 𝓛 (raw ((Start 𝓛 mem run).pre to_start)) (qed 𝓛 ((‵ (flft κ q) ⊛ ‵ ftrue) ∷ ‵ (owns (ShrSlice (named 0) κ u8 ∷ []) (s, tt) (v ∷ [], tt)) ∷ []) ∵ join ! $ frame ! $ done !) $ frame ! $ done !
+
+  start-said : (r : Cursor) → ent 𝓤 (ensured 𝓛 start.ended (start.clauses 𝓛 mem run) (κ, tt) (s, tt) tt r) (fact 𝓤 ((r.bytes ≡ s) × (r.at ≡ 0)))
+  start-said r = ex_e 𝓤 _ (λ ws. snd∗ 𝓤 (sem 𝓛 (lasts start.ended (κ, tt) (s, tt) ws)) (fact 𝓤 ((r.bytes ≡ s) × (r.at ≡ 0))))
+
+  -- the call of `names`, at the struct r with the machine value u
+  abbrev to-names : Cursor → Val → (Names 𝓛 mem run).Ghost
+  to-names r u = (((κ, tt), (q, tt), tt, (r, tt), (u ∷ [], tt)), tt)
+
+  goes-names : (r : Cursor) (u : Val) → ent 𝓤 (⋆ 𝓛 (‵ ((B (κ, tt)).own r (u ∷ [])) ∷ (‵ (flft κ q) ⊛ ‵ ftrue) ∷ [])) ((Names 𝓛 mem run).pre (to-names r u))
+  goes-names r u = qed 𝓛 (‵ ((B (κ, tt)).own r (u ∷ [])) ∷ (‵ (flft κ q) ⊛ ‵ ftrue) ∷ []) ∵ nothing ! $ move ! (1 ∷ 0 ∷ []) $ fjoin ! $ move ! (1 ∷ 0 ∷ []) $ join ! $ frame ! $ done !
+
+  names-said : (r : Cursor) (t : Skipped) → ent 𝓤 (ensured 𝓛 names.ended (names.clauses 𝓛 mem run) (κ, tt) (r, tt) tt t) (fact 𝓤 (t ≡ skipped_at r.bytes.now r.at))
+  names-said r t = ex_e 𝓤 _ (λ ws. snd∗ 𝓤 (sem 𝓛 (lasts names.ended (κ, tt) (r, tt) ws)) (fact 𝓤 (t ≡ skipped_at r.bytes.now r.at)))
+
+  exits : (t : Skipped) (u : Val) → t ≡ found → ent 𝓤 (⋆ 𝓛 (‵ ((S.the_row).own_val t (u ∷ [])) ∷ (‵ (flft κ q) ⊛ ‵ ftrue) ∷ ‵ Own ∷ [])) (Post u)
+  exits t u e =
+      qed 𝓛 (‵ ((S.the_row).own_val t (u ∷ [])) ∷ (‵ (flft κ q) ⊛ ‵ ftrue) ∷ ‵ Own ∷ []) ∵
+      suffices ! _ (ends_at 𝓛 opening.ended stayed (opening.clauses 𝓛 mem run) (((κ, tt), (q, tt), tt, (s, tt), (v ∷ [], tt)), tt) u t (tt, tt) (tt, tt)) $ says ! e $
+      move ! (1 ∷ []) $ frame ! $ nothing ! $ move ! (2 ∷ 0 ∷ []) $ fjoin ! $ frame ! $ done !
+
+  module _ (C : Calls 𝓤 H) (Λ : Loops 𝓤 H) (fm : FmC 𝓤 H 𝓛.laws C) (Known-start : Triple 𝓤 (C #pack·cursor·start) (Start 𝓛 mem run)) (known-names : Triple 𝓤 (C #pack·cursor·names) (Names 𝓛 mem run)) where
+    walk : Is (ShrSlice (named 0) κ u8) s (v ∷ []) → ent 𝓤 (on_entry 𝓛 opening.signature (κ, tt) (q, tt) (s, tt) (v ∷ [], tt)) (WpFn 𝓤 H C Λ code.function (v ∷ []) Post)
+    walk p =
+        qed 𝓛 (raw (on_entry 𝓛 opening.signature (κ, tt) (q, tt) (s, tt) (v ∷ [], tt)) ∷ []) ∵ enter ! C Λ code.function (v ∷ []) _ $
+        alloc1 ! (λ l₀. alloc1 ! (λ l₁. alloc1 ! (λ l₂. alloc0 ! $ params1 ! $ pass1 ! (init ! 2 refl ((shr_slice_Lawful 𝓛 (named 0) κ u8).typed s (v ∷ []) p).0) $ pass0 ! $
+        move ! (6 ∷ []) $ use1 𝓛 (raw ((Start 𝓛 mem run).pre to_start) ⊛ ‵ Own) goes-start $ split ! $
+        calls_at ! fm (Start 𝓛 mem run) Known-start to_start (and_then ! (load ! (from ! (stop !)) (look ! 4 refl)) (no_more !)) (λ u.
+        use1 𝓛 (later (some (λ (r : Cursor). ((‵ (flft κ q) ⊛ ‵ ftrue) ⊛ ‵ ((B (κ, tt)).own r (u ∷ []))) ⊛ raw (ensured 𝓛 start.ended (start.clauses 𝓛 mem run) (κ, tt) (s, tt) tt r)))) (id⊢ 𝓤 _) $ await ! tt $ pick ! (λ r.
+        split ! $ move ! (1 ∷ []) $ use1 𝓛 (raw (fact 𝓤 ((r.bytes ≡ s) × (r.at ≡ 0)))) (start-said r) $ heard ! ((r.bytes ≡ s) × (r.at ≡ 0)) (λ e. split ! $ move ! (1 ∷ []) $
+        -- [what the struct owns; the token; what s owns; room for _2; …; _1; …; room for _0; …]
+        peeks ! (B (κ, tt)) (Is (B (κ, tt))) (shows 𝓛 (B (κ, tt))) r (u ∷ []) (λ is.
+        land ! (from ! (stop !)) (init ! 3 refl ((LL.lawful (T.the_type αᵉ) (T'.the_laws αᵉ) 𝓛).typed r _ is).0) $
+        use2 𝓛 (raw ((Names 𝓛 mem run).pre (to-names r u))) (goes-names r u) $
+        calls_at ! fm (Names 𝓛 mem run) known-names (to-names r u) (and_then ! (load ! (from ! (stop !)) (look ! 2 refl)) (no_more !)) (λ u'.
+        use1 𝓛 (later (some (λ (t : Skipped). ((‵ (flft κ q) ⊛ ‵ ftrue) ⊛ ‵ ((S.the_row).own_val t (u' ∷ []))) ⊛ raw (ensured 𝓛 names.ended (names.clauses 𝓛 mem run) (κ, tt) (r, tt) tt t)))) (id⊢ 𝓤 _) $ await ! tt $ pick ! (λ t.
+        split ! $ move ! (1 ∷ []) $ use1 𝓛 (raw (fact 𝓤 (t ≡ skipped_at r.bytes.now r.at))) (names-said r t) $ heard ! (t ≡ skipped_at r.bytes.now r.at) (λ e'. split ! $ move ! (1 ∷ []) $
+        -- [the result; the token; what s owns; _2; …; _1; …; room for _0; …]
+        peeks ! S.the_row (Is S.the_row) (shows 𝓛 S.the_row) t (u' ∷ []) (λ is'.
+        land ! (from ! (stop !)) (init ! 7 refl ((EL.lawful S.the_type S'.the_laws 𝓛 tt).typed t _ is').0) $
+        returns ! (look ! 7 refl) $ forget ! 3 refl $ forget ! 5 refl $ forget ! 7 refl $ move ! (7 ∷ 8 ∷ []) $ free1 ! $ move ! (5 ∷ 6 ∷ []) $ free1 ! $ move ! (3 ∷ 4 ∷ []) $ free1 ! $ free0 ! $
+        by ! (exits t u' (e' ∙ (ap (λ (x : Bor (List ℕ)). skipped_at x.now r.at) e.0 ∙ ap (skipped_at s.now) e.1))))))))))))))
+
+module _ {M : Type 1} {𝓤 : Ura M} (𝓛 : Logic 𝓤) (mem : Memory → SProp 𝓤) (run : Routine → Fun 𝓤) where
+  open 𝓛 use {H}
+
+  opening-walks : (C : Calls 𝓤 H) (Λ : Loops 𝓤 H) → FmC 𝓤 H 𝓛.laws C → Triple 𝓤 (C #pack·cursor·start) (Start 𝓛 mem run) → Triple 𝓤 (C #pack·cursor·names) (Names 𝓛 mem run)
+      → Walks 𝓛 opening.ended stayed (WpFn 𝓤 H C Λ code.function) (opening.clauses 𝓛 mem run)
+  opening-walks C Λ fm Known-start known-names = walked 𝓛 opening.ended stayed (opening.clauses 𝓛 mem run) (WpFn 𝓤 H C Λ code.function) (λ κs. (shr_slice_vals, tt)) (λ κs. (shr_slice_Tells (named 0) κs.0 u8, tt))
+      (λ κs qs bounds a g are. via 𝓤 _ (fst∗ 𝓤 _ (emp 𝓤)) (walk 𝓛 mem run κs.0 qs.0 a.0 C Λ fm Known-start known-names are.0))
+
+opening-meets : {M : Type 1} {𝓤 : Ura M} (𝓛 : Logic 𝓤) (mem : Memory → SProp 𝓤) (run : Routine → Fun 𝓤) (𝓣 : Tables 𝓤 𝓛.H)
+    → Triple 𝓤 (𝓣.C #pack·cursor·start) (Start 𝓛 mem run) → Triple 𝓤 (𝓣.C #pack·cursor·names) (Names 𝓛 mem run)
+    → Meets 𝓛 opening.signature (WpFn 𝓤 𝓛.H 𝓣.C 𝓣.Λ code.function) (opening.spec 𝓛 mem run)
+opening-meets {𝓤 = 𝓤} 𝓛 mem run 𝓣 Known-start known-names = walk_Meets 𝓛 opening.ended stayed (Goes-none_slice 𝓛 1 (0 ∷ []) tt (plain (λ _. u8)) yes, tt) (opening.clauses 𝓛 mem run) (WpFn 𝓤 𝓛.H 𝓣.C 𝓣.Λ code.function) (WpFn-mono 𝓤 𝓛.H 𝓛.laws 𝓣 code.function)
+    (opening-walks 𝓛 mem run 𝓣.C 𝓣.Λ (fm_of 𝓤 𝓛.H 𝓛.laws 𝓣) Known-start known-names)

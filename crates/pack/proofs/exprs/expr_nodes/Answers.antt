@@ -1,0 +1,31 @@
+use borrow.Enum.Refused.{opened}
+use Rattle.std.proofs.Common.{◌≡◌, ◌-◌, sym, ◌∙◌, arith}
+use Rattle.wire.specs.Answer.{value}
+use Rattle.wire.proofs.Steps.{found}
+use Rattle.pack.specs.Heads.{expr_more}
+use Rattle.pack.proofs.ExprLaws.{expr_moves, expr-small, nodes-begin, nodes-done, nodes-first, nodes-stopped, nodes-went}
+use Rattle.pack.proofs.exprs.expr_nodes.Goals as goal
+
+got : (c : tie.After-known-told invariant-loop decreases-loop) → expr_more c.before.before.before.before.before.before.before.args.names c.before.before.before.before.before.before.before.args.pack.now c.before.before.before.before.before.loop.p ≡ value c.before.r.given.0.0 c.before.r.given.0.1.0
+got c = found _ _ _ _ c.before.r.given.1 c.before.before.before.expr-head.ensures
+
+pub loop-n-init : goal.loop-n-init
+loop-n-init c = nodes-begin _ _ _ _
+
+pub returns-in_default : goal.returns-in_default
+returns-in_default c = nodes-stopped _ _ _ _ _ _ _ c.loop-n-test.true (opened c.in_default.in_default-own.keys2) c.loop-n.invariant c.expr_head-r.ensures
+
+pub returns-then-one : goal.returns-then-one
+returns-then-one c = nodes-first _ _ _ _ _ _ _ c.if-one.true c.loop-n.invariant (sym c.in-Is.is ∙ c.expr_head-r.ensures)
+
+pub overflow_add-n : goal.overflow_add-n
+overflow_add-n c = omega (arith, expr-small _ _ (λ i. (c.type_inv.pack i).fits) _ _ _ (got c.before), (expr_moves _).on _ _ _ _ (got c.before), (expr_moves _).inside _ _ _ _ (got c.before), c.requires, c.loop-n.invariant.few)
+
+pub loop-n-smaller : goal.loop-n-smaller
+loop-n-smaller c = omega (arith, (expr_moves _).on _ _ _ _ (got c.before), (expr_moves _).inside _ _ _ _ (got c.before))
+
+pub loop-n-preserved : goal.loop-n-preserved
+loop-n-preserved c = nodes-went _ _ _ _ _ _ _ _ (λ i. (c.type_inv.pack i).fits) c.if-one.false c.loop-n-test.true c.loop-n.invariant (got c.before)
+
+pub returns : goal.returns
+returns c = nodes-done _ _ _ _ _ _ c.loop-n-test.false c.loop-n.invariant

@@ -1,0 +1,11 @@
+use Rattle.std.proofs.Common.{◌≡◌, List, length}
+use Rattle.wire.specs.Code.{next, rep, skips}
+use Rattle.pack_rules.specs.Names.{Name}
+use Rattle.pack_rules.specs.Read.{equation_in}
+use Rattle.pack.proofs.parts.then_equations.Given as goal
+
+abbrev pub invariant-loop-n : goal.invariant-loop-n
+invariant-loop-n l = (ns : List Name) → length ns ≡ l.names → next l.r (rep (skips (equation_in ns l.pack)) l.n) ≡ next l.initial.r (rep (skips (equation_in ns l.pack)) l.initial.n)
+
+abbrev pub decreases-loop-n : goal.decreases-loop-n
+decreases-loop-n l = l.n

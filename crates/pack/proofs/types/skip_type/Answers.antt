@@ -1,0 +1,40 @@
+-- The invariant: what is pending from here is what was pending at the start. Each head takes a byte and adds at most one type.
+-- Assumes nothing.
+use borrow.Enum.Refused.{opened}
+use Rattle.std.proofs.Common.{◌≡◌, ◌-◌, sym, refl, ap, ◌∙◌, arith}
+use Rattle.wire.specs.Answer.{value}
+use Rattle.wire.proofs.Preorders.{pending, pending-none}
+use Rattle.pack.specs.Heads.{type_more}
+use Rattle.pack.proofs.TypeLaws.{type-pending, type-small, type_moves}
+use Rattle.wire.proofs.Steps.{found, pending-stopped, pending-went}
+use Rattle.pack.proofs.types.skip_type.Goals as goal
+
+got : (c : tie.After-known-told invariant-loop decreases-loop) → type_more c.before.before.before.before.before.before.before.args.names c.before.before.before.before.before.before.before.args.pack.now c.before.before.before.before.before.loop.p ≡ value c.before.r.given.0.0 c.before.r.given.0.1.0
+got c = found _ _ _ _ c.before.r.given.1 c.before.before.before.type-head.ensures
+
+pub loop-n-init : goal.loop-n-init
+loop-n-init c = (refl, omega arith)
+
+pub returns-in_default : goal.returns-in_default
+returns-in_default c = pending-stopped _ (type_moves _) _ _ _ _ _ c.loop-n-test.true (opened c.in_default.in_default-own.keys2) c.type_head-r.ensures c.past.ensures
+    ∙ c.loop-n.invariant.0
+    ∙ sym (type-pending _ _ _)
+
+pub overflow_add-n : goal.overflow_add-n
+overflow_add-n c = omega (arith, type-small _ _ _ _ _ (got c), (type_moves _).on _ _ _ _ (got c), (type_moves _).inside _ _ _ _ (got c), c.requires, c.loop-n.invariant.1)
+
+pub loop-n-smaller : goal.loop-n-smaller
+loop-n-smaller c = omega (arith, (type_moves _).on _ _ _ _ (got c), (type_moves _).inside _ _ _ _ (got c))
+
+pub loop-n-preserved : goal.loop-n-preserved
+loop-n-preserved c = (
+  pending-went _ (type_moves _) _ _ _ _ _ _ c.loop-n-test.true (got c) c.loop-n.invariant.0,
+  omega (arith, type-small _ _ _ _ _ (got c), (type_moves _).on _ _ _ _ (got c), c.loop-n.invariant.1),
+)
+
+pub returns : goal.returns
+returns c = let e : c.loop-n.n ≡ 0 = omega arith in
+    sym (pending-none _ (type_moves c.args.names) _ _)
+    ∙ ap (λ n. pending (type_more c.args.names) c.args.pack.now n c.loop-n.p) (sym e)
+    ∙ c.loop-n.invariant.0
+    ∙ sym (type-pending _ _ _)
