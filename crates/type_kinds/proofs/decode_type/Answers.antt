@@ -1,5 +1,4 @@
-use borrow.Enum.Refused.{opened}
-use borrow.Author.Rules.{zero≤}
+use native.Mathlib.Omega.{arith}
 use mathlib.Core.Path.{refl}
 use Rattle.type_kinds.specs.Tags.{decode_type, types_by_tag}
 use Rattle.type_kinds.proofs.TagLaws.{decode-at, decode-past, step}
@@ -62,4 +61,4 @@ unfolding decode_type types_by_tag
 returns-in-13 c = decode-at _ 13 _ refl c.in-13.is
 
 pub returns-in_default : goal.returns-in_default
-returns-in_default c = decode-past _ (step 13 _ (step 12 _ (step 11 _ (step 10 _ (step 9 _ (step 8 _ (step 7 _ (step 6 _ (step 5 _ (step 4 _ (step 3 _ (step 2 _ (step 1 _ (step 0 _ zero≤ (opened c.in_default.in_default-own.rest.0.0.0.0.0.0.0.0.0.0.0.0.0.1)) (opened c.in_default.in_default-own.rest.0.0.0.0.0.0.0.0.0.0.0.0.1)) (opened c.in_default.in_default-own.rest.0.0.0.0.0.0.0.0.0.0.0.1)) (opened c.in_default.in_default-own.rest.0.0.0.0.0.0.0.0.0.0.1)) (opened c.in_default.in_default-own.rest.0.0.0.0.0.0.0.0.0.1)) (opened c.in_default.in_default-own.rest.0.0.0.0.0.0.0.0.1)) (opened c.in_default.in_default-own.rest.0.0.0.0.0.0.0.1)) (opened c.in_default.in_default-own.rest.0.0.0.0.0.0.1)) (opened c.in_default.in_default-own.rest.0.0.0.0.0.1)) (opened c.in_default.in_default-own.rest.0.0.0.0.1)) (opened c.in_default.in_default-own.rest.0.0.0.1)) (opened c.in_default.in_default-own.rest.0.0.1)) (opened c.in_default.in_default-own.rest.0.1)) (opened c.in_default.in_default-own.rest.1))
+returns-in_default c = decode-past _ (step 13 _ (step 12 _ (step 11 _ (step 10 _ (step 9 _ (step 8 _ (step 7 _ (step 6 _ (step 5 _ (step 4 _ (step 3 _ (step 2 _ (step 1 _ (step 0 _ (omega arith) c.in_default.in_default-own.rest.0.0.0.0.0.0.0.0.0.0.0.0.0.1) c.in_default.in_default-own.rest.0.0.0.0.0.0.0.0.0.0.0.0.1) c.in_default.in_default-own.rest.0.0.0.0.0.0.0.0.0.0.0.1) c.in_default.in_default-own.rest.0.0.0.0.0.0.0.0.0.0.1) c.in_default.in_default-own.rest.0.0.0.0.0.0.0.0.0.1) c.in_default.in_default-own.rest.0.0.0.0.0.0.0.0.1) c.in_default.in_default-own.rest.0.0.0.0.0.0.0.1) c.in_default.in_default-own.rest.0.0.0.0.0.0.1) c.in_default.in_default-own.rest.0.0.0.0.0.1) c.in_default.in_default-own.rest.0.0.0.0.1) c.in_default.in_default-own.rest.0.0.0.1) c.in_default.in_default-own.rest.0.0.1) c.in_default.in_default-own.rest.0.1) c.in_default.in_default-own.rest.1)

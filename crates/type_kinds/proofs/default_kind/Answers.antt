@@ -1,5 +1,6 @@
 use mathlib.Core.Path.{◌∙◌}
 use Rattle.type_kinds.proofs.Arms.{bool-arm, char-arm, float-arm, named-arm, tested-arm}
+use borrow.Enum.Refused.{opened}
 use Rattle.type_kinds.proofs.default_kind.Goals as goal
 
 pub returns-in-Bool : goal.returns-in-Bool
@@ -12,7 +13,7 @@ pub returns-in-Char : goal.returns-in-Char
 returns-in-Char c = char-arm _ c.in-Char.in-Char-own.keys3
 
 pub returns-in-Int8 : goal.returns-in-Int8
-returns-in-Int8 c = c.integer_or_missing.ensures ∙ tested-arm _ c.in-Int8.in-Int8-own.keys4
+returns-in-Int8 c = c.integer_or_missing.ensures ∙ tested-arm _ (opened c.in-Int8.in-Int8-own.keys4)
 
 pub returns-in-Named : goal.returns-in-Named
 returns-in-Named c = named-arm _ c.in-Named.in-Named-own.keys5

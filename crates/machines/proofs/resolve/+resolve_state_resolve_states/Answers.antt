@@ -9,79 +9,79 @@ use Rattle.machines.proofs.ResolveLaws.{moved, qualified, refine-into, refine-pl
 use Rattle.machines.proofs.EmptyLaws.{once-near, taken-stopped, taken-went}
 use Rattle.machines.proofs.resolve.+resolve_state_resolve_states.Goals as goal
 
-pub returns-then-count-ge-STATES : goal.returns-then-count-ge-STATES
-returns-then-count-ge-STATES t c = λ ns e. state-large ns _ _ _ _ _ _ _ c.if-count-ge-STATES.true
+pub resolve_state-returns-then-count-ge-STATES : goal.resolve_state-returns-then-count-ge-STATES
+resolve_state-returns-then-count-ge-STATES t c = λ ns e. state-large ns _ _ _ _ _ _ _ c.if-count-ge-STATES.true
 
-pub state_head-h-requires : goal.state_head-h-requires
-state_head-h-requires t c = c.requires.1
+pub resolve_state-state_head-h-requires : goal.resolve_state-state_head-h-requires
+resolve_state-state_head-h-requires t c = c.requires
 
-pub loop-n-init : goal.loop-n-init
-loop-n-init t c = λ ns e. refl
+pub resolve_state-loop-n-init : goal.resolve_state-loop-n-init
+resolve_state-loop-n-init t c = λ ns e. refl
 
-pub run_length-k-requires : goal.run_length-k-requires
-run_length-k-requires t c = c.loop-n-test.true
+pub resolve_state-run_length-k-requires : goal.resolve_state-run_length-k-requires
+resolve_state-run_length-k-requires t c = c.loop-n-test.true
 
-pub take_regions-g-requires : goal.take_regions-g-requires
-take_regions-g-requires t c = once-near _ _ _ _ c.run_length-k.ensures
+pub resolve_state-take_regions-g-requires : goal.resolve_state-take_regions-g-requires
+resolve_state-take_regions-g-requires t c = once-near _ _ _ _ c.run_length-k.ensures
 
-pub resolve_states-e-requires : goal.resolve_states-e-requires
-resolve_states-e-requires t c = (omega (arith, c.requires.0), c.requires.1)
+pub resolve_state-resolve_states-e-requires : goal.resolve_state-resolve_states-e-requires
+resolve_state-resolve_states-e-requires t c = (omega (arith, c.decreases), c.requires)
 
-pub returns-in_default : goal.returns-in_default
-returns-in_default t c = λ ns e. state-on ns _ _ _ _ _ _ _ _ _ _ c.if-count-ge-STATES.false (c.state_head-h.ensures ns e) c.number-t.ensures
-    (stopped _ _ _ (opened c.in_default.in_default-own.keys2) (taken-stopped ns _ _ _ _ _ e c.requires.1.1 _ _ _ _ _ _ _ _ _ _ c.run_length-k.ensures c.take_regions-g.ensures (c.resolve_states-e.ensures ns e) (opened c.in_default.in_default-own.keys2) (c.loop-n.invariant ns e)))
+pub resolve_state-returns-in_default : goal.resolve_state-returns-in_default
+resolve_state-returns-in_default t c = λ ns e. state-on ns _ _ _ _ _ _ _ _ _ _ c.if-count-ge-STATES.false (c.state_head-h.ensures ns e) c.number-t.ensures
+    (stopped _ _ _ (opened c.in_default.in_default-own.keys2) (taken-stopped ns _ _ _ _ _ e c.requires.1 _ _ _ _ _ _ _ _ _ _ c.run_length-k.ensures c.take_regions-g.ensures (c.resolve_states-e.ensures ns e) (opened c.in_default.in_default-own.keys2) (c.loop-n.invariant ns e)))
 
-pub overflow_sub-n : goal.overflow_sub-n
-overflow_sub-n t c = c.before.before.before.before.before.before.before.run_length.ensures.few
+pub resolve_states-overflow_sub-n : goal.resolve_states-overflow_sub-n
+resolve_states-overflow_sub-n t c = c.before.before.before.before.before.before.before.run_length.ensures.few
 
-pub loop-n-smaller : goal.loop-n-smaller
-loop-n-smaller t c = omega (arith, c.run_length-k.ensures.some, c.run_length-k.ensures.few)
+pub resolve_state-loop-n-smaller : goal.resolve_state-loop-n-smaller
+resolve_state-loop-n-smaller t c = omega (arith, c.run_length-k.ensures.some, c.run_length-k.ensures.few)
 
-pub loop-n-preserved : goal.loop-n-preserved
-loop-n-preserved t c = λ ns e. taken-went ns _ _ _ _ _ e c.requires.1.1 _ _ _ _ _ _ _ _ _ _ _ _ _ _ _ c.run_length-k.ensures c.take_regions-g.ensures (c.resolve_states-e.ensures ns e) c.in-Went.is c.max.ensures c.max-a.ensures (c.loop-n.invariant ns e)
+pub resolve_state-loop-n-preserved : goal.resolve_state-loop-n-preserved
+resolve_state-loop-n-preserved t c = λ ns e. taken-went ns _ _ _ _ _ e c.requires.1 _ _ _ _ _ _ _ _ _ _ _ _ _ _ _ c.run_length-k.ensures c.take_regions-g.ensures (c.resolve_states-e.ensures ns e) c.in-Went.is c.max.ensures c.max-a.ensures (c.loop-n.invariant ns e)
 
-pub returns-then-f-eq-ABSENT : goal.returns-then-f-eq-ABSENT
-returns-then-f-eq-ABSENT t c = λ ns e. state-on ns _ _ _ _ _ _ _ _ _ _ c.if-count-ge-STATES.false (c.state_head-h.ensures ns e) c.number-t.ensures
+pub resolve_state-returns-then-f-eq-ABSENT : goal.resolve_state-returns-then-f-eq-ABSENT
+resolve_state-returns-then-f-eq-ABSENT t c = λ ns e. state-on ns _ _ _ _ _ _ _ _ _ _ c.if-count-ge-STATES.false (c.state_head-h.ensures ns e) c.number-t.ensures
     (went_on _ _ _ _ _ _ _ refl (rounds-done _ _ _ _ _ _ c.loop-n-test.false (c.loop-n.invariant ns e)) (on (number_in _ _) _ _ _ refl (refine-plain ns _ _ _ _ _ _ _ _ _ _ c.number-f.ensures c.if-f-eq-ABSENT.true)))
 
-pub returns-in_default-d : goal.returns-in_default-d
-returns-in_default-d t c = λ ns e. state-on ns _ _ _ _ _ _ _ _ _ _ c.if-count-ge-STATES.false (c.state_head-h.ensures ns e) c.number-t.ensures
+pub resolve_state-returns-in_default-d : goal.resolve_state-returns-in_default-d
+resolve_state-returns-in_default-d t c = λ ns e. state-on ns _ _ _ _ _ _ _ _ _ _ c.if-count-ge-STATES.false (c.state_head-h.ensures ns e) c.number-t.ensures
     (went_on _ _ _ _ _ _ _ refl (rounds-done _ _ _ _ _ _ c.loop-n-test.false (c.loop-n.invariant ns e)) (on _ _ _ _ c.number-i.ensures
     (refine-into ns _ _ _ _ _ _ _ _ _ _ _ c.number-f.ensures c.if-f-eq-ABSENT.false (stopped _ _ _ (opened c.in_default-d.in_default-d-own.keys2) c.refinement-d.ensures))))
 
-pub resolve_states-y-requires : goal.resolve_states-y-requires
-resolve_states-y-requires t c = (omega (arith, c.requires.0), c.requires.1)
+pub resolve_state-resolve_states-y-requires : goal.resolve_state-resolve_states-y-requires
+resolve_state-resolve_states-y-requires t c = (omega (arith, c.decreases), c.requires)
 
-pub returns-in_default-y : goal.returns-in_default-y
-returns-in_default-y t c = λ ns e. state-on ns _ _ _ _ _ _ _ _ _ _ c.if-count-ge-STATES.false (c.state_head-h.ensures ns e) c.number-t.ensures
+pub resolve_state-returns-in_default-y : goal.resolve_state-returns-in_default-y
+resolve_state-returns-in_default-y t c = λ ns e. state-on ns _ _ _ _ _ _ _ _ _ _ c.if-count-ge-STATES.false (c.state_head-h.ensures ns e) c.number-t.ensures
     (went_on _ _ _ _ _ _ _ refl (rounds-done _ _ _ _ _ _ c.loop-n-test.false (c.loop-n.invariant ns e)) (on _ _ _ _ c.number-i.ensures
     (refine-into ns _ _ _ _ _ _ _ _ _ _ _ c.number-f.ensures c.if-f-eq-ABSENT.false (went_on _ _ _ _ _ _ _ c.in-Went-d.is c.refinement-d.ensures
     (stopped _ _ _ (opened c.in_default-y.in_default-y-own.keys2) (moved (walk ns _ _ _ _) _ _ _ _ _ _ (c.resolve_states-y.ensures ns e) c.push-q.ensures))))))
 
-pub returns : goal.returns
-returns t c = λ ns e. state-on ns _ _ _ _ _ _ _ _ _ _ c.if-count-ge-STATES.false (c.state_head-h.ensures ns e) c.number-t.ensures
+pub resolve_state-returns : goal.resolve_state-returns
+resolve_state-returns t c = λ ns e. state-on ns _ _ _ _ _ _ _ _ _ _ c.if-count-ge-STATES.false (c.state_head-h.ensures ns e) c.number-t.ensures
     (went_on _ _ _ _ _ _ _ refl (rounds-done _ _ _ _ _ _ c.loop-n-test.false (c.loop-n.invariant ns e)) (on _ _ _ _ c.number-i.ensures
     (refine-into ns _ _ _ _ _ _ _ _ _ _ _ c.number-f.ensures c.if-f-eq-ABSENT.false (went_on _ _ _ _ _ _ _ c.in-Went-d.is c.refinement-d.ensures
     (went_on _ _ _ _ _ _ _ c.in-Went-y.is (moved (walk ns _ _ _ _) _ _ _ _ _ _ (c.resolve_states-y.ensures ns e) c.push-q.ensures)
     (qualified _ _ _ _ _ _ _ _ c.qualified_len.ensures c.name_len.ensures c.max-2.ensures))))))
 
-pub returns-then-levels-eq0 : goal.returns-then-levels-eq0
-returns-then-levels-eq0 t c = λ ns e. walk_none ns _ _ _ _ _ _ _ _ c.if-levels-eq0.true
+pub resolve_states-returns-then-levels-eq0 : goal.resolve_states-returns-then-levels-eq0
+resolve_states-returns-then-levels-eq0 t c = λ ns e. walk_none ns _ _ _ _ _ _ _ _ c.if-levels-eq0.true
 
-pub loop-n-init : goal.loop-n-init
-loop-n-init t c = λ ns e. refl
+pub resolve_states-loop-n-init : goal.resolve_states-loop-n-init
+resolve_states-loop-n-init t c = λ ns e. refl
 
-pub overflow_sub-levels : goal.overflow_sub-levels
-overflow_sub-levels t c = omega (arith, c.if-levels-eq0.false)
+pub resolve_states-overflow_sub-levels : goal.resolve_states-overflow_sub-levels
+resolve_states-overflow_sub-levels t c = omega (arith, c.if-levels-eq0.false)
 
-pub resolve_state-e-requires : goal.resolve_state-e-requires
-resolve_state-e-requires t c = (omega (arith, c.if-levels-eq0.false, c.requires.0), c.requires.1)
+pub resolve_states-resolve_state-e-requires : goal.resolve_states-resolve_state-e-requires
+resolve_states-resolve_state-e-requires t c = (omega (arith, c.if-levels-eq0.false, c.decreases), c.requires)
 
-pub returns-in_default : goal.returns-in_default
-returns-in_default t c = λ ns e. rounds-stopped _ _ _ _ _ _ _ c.loop-n-test.true (opened c.in_default.in_default-own.keys2) (c.resolve_state-e.ensures ns e) (c.loop-n.invariant ns e) ∙ walk-some ns _ _ _ _ _ _ _ _ c.if-levels-eq0.false
+pub resolve_states-returns-in_default : goal.resolve_states-returns-in_default
+resolve_states-returns-in_default t c = λ ns e. rounds-stopped _ _ _ _ _ _ _ c.loop-n-test.true (opened c.in_default.in_default-own.keys2) (c.resolve_state-e.ensures ns e) (c.loop-n.invariant ns e) ∙ walk-some ns _ _ _ _ _ _ _ _ c.if-levels-eq0.false
 
-pub loop-n-preserved : goal.loop-n-preserved
-loop-n-preserved t c = λ ns e. rounds-went _ _ _ _ _ _ _ _ _ _ _ c.loop-n-test.true c.in-Went.is (c.resolve_state-e.ensures ns e) c.max-a.ensures (c.loop-n.invariant ns e)
+pub resolve_states-loop-n-preserved : goal.resolve_states-loop-n-preserved
+resolve_states-loop-n-preserved t c = λ ns e. rounds-went _ _ _ _ _ _ _ _ _ _ _ c.loop-n-test.true c.in-Went.is (c.resolve_state-e.ensures ns e) c.max-a.ensures (c.loop-n.invariant ns e)
 
-pub returns : goal.returns
-returns t c = λ ns e. rounds-done _ _ _ _ _ _ c.loop-n-test.false (c.loop-n.invariant ns e) ∙ walk-some ns _ _ _ _ _ _ _ _ c.if-levels-eq0.false
+pub resolve_states-returns : goal.resolve_states-returns
+resolve_states-returns t c = λ ns e. rounds-done _ _ _ _ _ _ c.loop-n-test.false (c.loop-n.invariant ns e) ∙ walk-some ns _ _ _ _ _ _ _ _ c.if-levels-eq0.false

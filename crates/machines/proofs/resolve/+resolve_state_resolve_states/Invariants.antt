@@ -12,14 +12,14 @@ decreases-resolve_state l = l.levels + l.levels + 1
 abbrev pub decreases-resolve_states : goal.decreases-resolve_states
 decreases-resolve_states l = l.levels + l.levels
 
-abbrev pub invariant-loop-n : goal.invariant-loop-n
-invariant-loop-n l = (ns : List Name) → length ns ≡ l.names → rounds (region_w ns l.pack l.offsets l.machines (walk ns l.pack l.offsets l.machines l.levels) l.p) l.n l.o l.c l.a ≡ rounds (region_w ns l.pack l.offsets l.machines (walk ns l.pack l.offsets l.machines l.levels) l.p) l.initial.n l.initial.o l.initial.c l.initial.a
+abbrev pub invariant-resolve_state-loop-n : goal.invariant-resolve_state-loop-n
+invariant-resolve_state-loop-n l = (ns : List Name) → length ns ≡ l.names → rounds (region_w ns l.pack l.offsets l.machines (walk ns l.pack l.offsets l.machines l.levels) l.p) l.n l.o l.c l.a ≡ rounds (region_w ns l.pack l.offsets l.machines (walk ns l.pack l.offsets l.machines l.levels) l.p) l.initial.n l.initial.o l.initial.c l.initial.a
 
-abbrev pub decreases-loop-n : goal.decreases-loop-n
-decreases-loop-n l = l.n
+abbrev pub decreases-resolve_state-loop-n : goal.decreases-resolve_state-loop-n
+decreases-resolve_state-loop-n l = l.n
 
-abbrev pub invariant-loop-n : goal.invariant-loop-n
-invariant-loop-n l = (ns : List Name) → length ns ≡ l.names → rounds (state_w ns l.pack l.offsets l.machines (walk ns l.pack l.offsets l.machines (l.levels - 1)) l.p) l.o l.c l.a a ≡ rounds (state_w ns l.pack l.offsets l.machines (walk ns l.pack l.offsets l.machines (l.levels - 1)) l.p) l.at l.count l.initial.n 0
+abbrev pub invariant-resolve_states-loop-n : goal.invariant-resolve_states-loop-n
+invariant-resolve_states-loop-n l = (ns : List Name) → length ns ≡ l.names → rounds (state_w ns l.pack l.offsets l.machines (walk ns l.pack l.offsets l.machines (l.levels - 1)) l.p) l.n l.o l.c l.a ≡ rounds (state_w ns l.pack l.offsets l.machines (walk ns l.pack l.offsets l.machines (l.levels - 1)) l.p) l.count l.at l.done 0
 
-abbrev pub decreases-loop-n : goal.decreases-loop-n
-decreases-loop-n l = l.o
+abbrev pub decreases-resolve_states-loop-n : goal.decreases-resolve_states-loop-n
+decreases-resolve_states-loop-n l = l.n

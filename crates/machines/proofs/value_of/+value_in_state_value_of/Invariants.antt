@@ -17,8 +17,8 @@ decreases-value_in_state l = l.levels + l.levels + 1
 abbrev pub decreases-value_of : goal.decreases-value_of
 decreases-value_of l = l.levels + l.levels
 
-abbrev value-of-Inv-loop : value-of-lts.invariant-loop
-value-of-Inv-loop old pack names memo layout qualified hints₀ x levels q out₀ made₀ rest v₀ n₀ p₀ hints out made v n p = (length {A = ℕ} hints ≡ length {A = ℕ} hints₀) × (length {A = ℕ} out ≡ length {A = ℕ} out₀) × (length {A = ℕ} made ≡ length {A = ℕ} made₀) × ((ns : List Name) → length ns ≡ names → render old (values_t layout qualified (in_state_t pack layout qualified ns x (value_t pack layout qualified ns x rest) (uncovered_t ns pack layout x rest)) q n p) (state_of out made v) ≡ render old (values_t layout qualified (in_state_t pack layout qualified ns x (value_t pack layout qualified ns x rest) (uncovered_t ns pack layout x rest)) q n₀ p₀) (state_of out₀ made₀ v₀)) × AssignsSound pack names memo hints
+abbrev pub invariant-value_of-loop-n : goal.invariant-value_of-loop-n
+invariant-value_of-loop-n l = (length {A = ℕ} l.hints ≡ length {A = ℕ} l.initial.hints) × (length {A = ℕ} l.out ≡ length {A = ℕ} l.initial.out) × (length {A = ℕ} l.made ≡ length {A = ℕ} l.initial.made) × ((ns : List Name) → length ns ≡ l.names → render l.old (values_t l.layout l.qualified (in_state_t l.pack l.layout l.qualified ns l.x (value_t l.pack l.layout l.qualified ns l.x l.rest) (uncovered_t ns l.pack l.layout l.x l.rest)) l.q l.n l.p) (state_of l.out l.made l.v) ≡ render l.old (values_t l.layout l.qualified (in_state_t l.pack l.layout l.qualified ns l.x (value_t l.pack l.layout l.qualified ns l.x l.rest) (uncovered_t ns l.pack l.layout l.x l.rest)) l.q l.initial.n l.initial.p) (state_of l.initial.out l.initial.made l.initial.v)) × AssignsSound l.pack l.names l.memo l.hints
 
-abbrev value-of-μ-loop : value-of-lts.decreases-loop
-value-of-μ-loop old pack names memo layout qualified hints₀ x levels q out₀ made₀ rest v₀ n₀ p₀ hints out made v n p = n
+abbrev pub decreases-value_of-loop-n : goal.decreases-value_of-loop-n
+decreases-value_of-loop-n l = l.n

@@ -10,14 +10,14 @@ decreases-then_region l = l.levels + l.levels
 abbrev pub decreases-then_state : goal.decreases-then_state
 decreases-then_state l = l.levels + l.levels + 1
 
-abbrev pub invariant-loop-n : goal.invariant-loop-n
-invariant-loop-n l = (ns : List Name) → length ns ≡ l.names → next l.r (rep (skips (state_with (region_at (l.levels - 1) ns l.pack) ns l.pack)) l.n) ≡ next l.initial.r (rep (skips (state_with (region_at (l.levels - 1) ns l.pack) ns l.pack)) l.initial.n)
+abbrev pub invariant-then_region-loop-n : goal.invariant-then_region-loop-n
+invariant-then_region-loop-n l = (ns : List Name) → length ns ≡ l.names → next l.r (rep (skips (state_with (region_at (l.levels - 1) ns l.pack) ns l.pack)) l.n) ≡ next l.initial.r (rep (skips (state_with (region_at (l.levels - 1) ns l.pack) ns l.pack)) l.initial.n)
 
-abbrev pub decreases-loop-n : goal.decreases-loop-n
-decreases-loop-n l = l.n
+abbrev pub decreases-then_region-loop-n : goal.decreases-then_region-loop-n
+decreases-then_region-loop-n l = l.n
 
-abbrev pub invariant-loop-n : goal.invariant-loop-n
-invariant-loop-n l = (ns : List Name) → length ns ≡ l.names → next l.r (rep (skips (region_at l.levels ns l.pack)) l.n) ≡ next l.initial.r (rep (skips (region_at l.levels ns l.pack)) l.initial.n)
+abbrev pub invariant-then_state-loop-n : goal.invariant-then_state-loop-n
+invariant-then_state-loop-n l = (ns : List Name) → length ns ≡ l.names → next l.r (rep (skips (region_at l.levels ns l.pack)) l.n) ≡ next l.initial.r (rep (skips (region_at l.levels ns l.pack)) l.initial.n)
 
-abbrev pub decreases-loop-n : goal.decreases-loop-n
-decreases-loop-n l = l.n
+abbrev pub decreases-then_state-loop-n : goal.decreases-then_state-loop-n
+decreases-then_state-loop-n l = l.n

@@ -1,6 +1,5 @@
-use borrow.Enum.Refused.{opened}
+use native.Mathlib.Omega.{arith}
 use Rattle.std.proofs.Common.{sym, refl, ◌∙◌}
-use borrow.Author.Rules.{zero≤}
 use Rattle.wire.specs.Answer.{map_a}
 use Rattle.wire.specs.Code.{read_of}
 use Rattle.wire.proofs.Codes.{read-map-id}
@@ -78,4 +77,4 @@ unfolding expr_rows
 returns-in-16 c = row _ _ _ _ _ _ c.in-16.is c.iterate_fields.ensures
 
 pub returns-in_default : goal.returns-in_default
-returns-in_default c = row-none _ _ _ _ (step 16 _ (step 15 _ (step 14 _ (step 13 _ (step 12 _ (step 11 _ (step 10 _ (step 9 _ (step 8 _ (step 7 _ (step 6 _ (step 5 _ (step 4 _ (step 3 _ (step 2 _ (step 1 _ (step 0 _ zero≤ (opened c.in_default.in_default-own.rest.0.0.0.0.0.0.0.0.0.0.0.0.0.0.0.0.1)) (opened c.in_default.in_default-own.rest.0.0.0.0.0.0.0.0.0.0.0.0.0.0.0.1)) (opened c.in_default.in_default-own.rest.0.0.0.0.0.0.0.0.0.0.0.0.0.0.1)) (opened c.in_default.in_default-own.rest.0.0.0.0.0.0.0.0.0.0.0.0.0.1)) (opened c.in_default.in_default-own.rest.0.0.0.0.0.0.0.0.0.0.0.0.1)) (opened c.in_default.in_default-own.rest.0.0.0.0.0.0.0.0.0.0.0.1)) (opened c.in_default.in_default-own.rest.0.0.0.0.0.0.0.0.0.0.1)) (opened c.in_default.in_default-own.rest.0.0.0.0.0.0.0.0.0.1)) (opened c.in_default.in_default-own.rest.0.0.0.0.0.0.0.0.1)) (opened c.in_default.in_default-own.rest.0.0.0.0.0.0.0.1)) (opened c.in_default.in_default-own.rest.0.0.0.0.0.0.1)) (opened c.in_default.in_default-own.rest.0.0.0.0.0.1)) (opened c.in_default.in_default-own.rest.0.0.0.0.1)) (opened c.in_default.in_default-own.rest.0.0.0.1)) (opened c.in_default.in_default-own.rest.0.0.1)) (opened c.in_default.in_default-own.rest.0.1)) (opened c.in_default.in_default-own.rest.1))
+returns-in_default c = row-none _ _ _ _ (step 16 _ (step 15 _ (step 14 _ (step 13 _ (step 12 _ (step 11 _ (step 10 _ (step 9 _ (step 8 _ (step 7 _ (step 6 _ (step 5 _ (step 4 _ (step 3 _ (step 2 _ (step 1 _ (step 0 _ (omega arith) c.in_default.in_default-own.rest.0.0.0.0.0.0.0.0.0.0.0.0.0.0.0.0.1) c.in_default.in_default-own.rest.0.0.0.0.0.0.0.0.0.0.0.0.0.0.0.1) c.in_default.in_default-own.rest.0.0.0.0.0.0.0.0.0.0.0.0.0.0.1) c.in_default.in_default-own.rest.0.0.0.0.0.0.0.0.0.0.0.0.0.1) c.in_default.in_default-own.rest.0.0.0.0.0.0.0.0.0.0.0.0.1) c.in_default.in_default-own.rest.0.0.0.0.0.0.0.0.0.0.0.1) c.in_default.in_default-own.rest.0.0.0.0.0.0.0.0.0.0.1) c.in_default.in_default-own.rest.0.0.0.0.0.0.0.0.0.1) c.in_default.in_default-own.rest.0.0.0.0.0.0.0.0.1) c.in_default.in_default-own.rest.0.0.0.0.0.0.0.1) c.in_default.in_default-own.rest.0.0.0.0.0.0.1) c.in_default.in_default-own.rest.0.0.0.0.0.1) c.in_default.in_default-own.rest.0.0.0.0.1) c.in_default.in_default-own.rest.0.0.0.1) c.in_default.in_default-own.rest.0.0.1) c.in_default.in_default-own.rest.0.1) c.in_default.in_default-own.rest.1)

@@ -24,4 +24,4 @@ unfolding by_tag
 returns-in-15 c = named-is _ _ _ _ _ _ _ c.in-15.is c.in-Is.is refl
 
 pub returns-in_default-tag : goal.returns-in_default-tag
-returns-in_default-tag c = named-rest _ _ _ _ _ (opened c.in_default-tag.in_default-tag-own.rest.0.0.0.1) (opened c.in_default-tag.in_default-tag-own.rest.0.0.1) (opened c.in_default-tag.in_default-tag-own.rest.0.1) (opened c.in_default-tag.in_default-tag-own.rest.1) c.in-Is.is
+returns-in_default-tag c = named-rest _ _ _ _ _ c.in_default-tag.in_default-tag-own.rest.0.0.0.1 c.in_default-tag.in_default-tag-own.rest.0.0.1 c.in_default-tag.in_default-tag-own.rest.0.1 c.in_default-tag.in_default-tag-own.rest.1 c.in-Is.is

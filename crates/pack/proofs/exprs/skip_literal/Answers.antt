@@ -17,4 +17,4 @@ pub returns-in-2 : goal.returns-in-2
 returns-in-2 c = goes_s _ _ _ _ _ _ _ c.in-Is.is c.read_below-r.ensures (literal-skip _ _) (cc (literal-float _ _ _ c.in-2.is))
 
 pub returns-in_default-tag : goal.returns-in_default-tag
-returns-in_default-tag c = goes_s _ _ _ _ _ _ _ c.in-Is.is c.read_below-r.ensures (literal-skip _ _) (cc (past-read _, literal-char _ _ _ (opened c.in_default-tag.in_default-tag-own.rest.0.0.1) (opened c.in_default-tag.in_default-tag-own.rest.0.1) (opened c.in_default-tag.in_default-tag-own.rest.1)))
+returns-in_default-tag c = goes_s _ _ _ _ _ _ _ c.in-Is.is c.read_below-r.ensures (literal-skip _ _) (cc (past-read _, literal-char _ _ _ c.in_default-tag.in_default-tag-own.rest.0.0.1 c.in_default-tag.in_default-tag-own.rest.0.1 c.in_default-tag.in_default-tag-own.rest.1))

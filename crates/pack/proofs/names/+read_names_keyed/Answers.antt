@@ -4,10 +4,10 @@ use Rattle.pack.proofs.Prefix.{names-ahead}
 use Rattle.pack.proofs.names.+read_names_keyed.Goals as goal
 
 pub slice_bounds-read_names_keyed-end : goal.slice_bounds-read_names_keyed-end
-slice_bounds-read_names_keyed-end t c = simp length-take (omega (arith, c.requires.1))
+slice_bounds-read_names_keyed-end t c = simp length-take (omega (arith, c.requires))
 
 pub read_names_keyed-r-requires : goal.read_names_keyed-r-requires
-read_names_keyed-r-requires t c = (omega (arith, c.requires.0, c.if-part-gt0.true), omega arith)
+read_names_keyed-r-requires t c = (omega (arith, c.decreases, c.if-part-gt0.true), omega arith)
 
 pub returns-in_default : goal.returns-in_default
 returns-in_default t c = names-ahead c.args.pack.now c.args.part _ _ _ (opened c.in_default.in_default-own.keys2) c.read_names_keyed-r.ensures

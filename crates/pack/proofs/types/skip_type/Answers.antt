@@ -9,9 +9,6 @@ use Rattle.pack.proofs.TypeLaws.{type-pending, type-small, type_moves}
 use Rattle.wire.proofs.Steps.{found, pending-stopped, pending-went}
 use Rattle.pack.proofs.types.skip_type.Goals as goal
 
-got : (c : tie.After-known-told invariant-loop decreases-loop) → type_more c.before.before.before.before.before.before.before.args.names c.before.before.before.before.before.before.before.args.pack.now c.before.before.before.before.before.loop.p ≡ value c.before.r.given.0.0 c.before.r.given.0.1.0
-got c = found _ _ _ _ c.before.r.given.1 c.before.before.before.type-head.ensures
-
 pub loop-n-init : goal.loop-n-init
 loop-n-init c = (refl, omega arith)
 
@@ -21,15 +18,18 @@ returns-in_default c = pending-stopped _ (type_moves _) _ _ _ _ _ c.loop-n-test.
     ∙ sym (type-pending _ _ _)
 
 pub overflow_add-n : goal.overflow_add-n
-overflow_add-n c = omega (arith, type-small _ _ _ _ _ (got c), (type_moves _).on _ _ _ _ (got c), (type_moves _).inside _ _ _ _ (got c), c.requires, c.loop-n.invariant.1)
+overflow_add-n c = let g : type_more c.args.names c.args.pack.now c.loop-n.p ≡ value c.in-Is.value c.in-Is.next = found _ _ _ _ c.in-Is.is c.type_head-r.ensures in
+    omega (arith, type-small _ _ _ _ _ g, (type_moves _).on _ _ _ _ g, (type_moves _).inside _ _ _ _ g, c.requires, c.loop-n.invariant.1)
 
 pub loop-n-smaller : goal.loop-n-smaller
-loop-n-smaller c = omega (arith, (type_moves _).on _ _ _ _ (got c), (type_moves _).inside _ _ _ _ (got c))
+loop-n-smaller c = let g : type_more c.args.names c.args.pack.now c.loop-n.p ≡ value c.in-Is.value c.in-Is.next = found _ _ _ _ c.in-Is.is c.type_head-r.ensures in
+    omega (arith, (type_moves _).on _ _ _ _ g, (type_moves _).inside _ _ _ _ g)
 
 pub loop-n-preserved : goal.loop-n-preserved
-loop-n-preserved c = (
-  pending-went _ (type_moves _) _ _ _ _ _ _ c.loop-n-test.true (got c) c.loop-n.invariant.0,
-  omega (arith, type-small _ _ _ _ _ (got c), (type_moves _).on _ _ _ _ (got c), c.loop-n.invariant.1),
+loop-n-preserved c = let g : type_more c.args.names c.args.pack.now c.loop-n.p ≡ value c.in-Is.value c.in-Is.next = found _ _ _ _ c.in-Is.is c.type_head-r.ensures in
+    (
+  pending-went _ (type_moves _) _ _ _ _ _ _ c.loop-n-test.true g c.loop-n.invariant.0,
+  omega (arith, type-small _ _ _ _ _ g, (type_moves _).on _ _ _ _ g, c.loop-n.invariant.1),
 )
 
 pub returns : goal.returns
