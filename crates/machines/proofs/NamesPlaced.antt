@@ -103,6 +103,8 @@ spots-few s (suc n) at (x ∷ xs) (more a r) h =
     let e : at + 1 + get_or s at 0 ≡ next_name s at = name-next s at (omega arith) in
     let k = spots-few s n (next_name s at) xs r (omega arith) in
     omega arith
+spots-few s zero at (x ∷ xs) x5 h = elim x5 [ ]
+spots-few s (suc n) at [] x4 h = elim x4 [ ]
 
 pub names-few : (s : List ℕ) (ns : List Name) → NamesAre s ns → 2 + 2 * length ns ≤ length s
 names-few s ns h =
@@ -125,6 +127,8 @@ placed-before s (suc n) at k t j h = placed-before s n (next_name s at) (k + 1) 
 
 placed_at : (s : List ℕ) → length s ≤ 65536 → (n at k : ℕ) (t : List ℕ) (ns : List Name) → Spots s n at ns → k + n ≤ length t → (i j : ℕ) → i < n → k + i ≡ j → SpotAt s (get_or (names_placed s n at k t) j 0) (get_or ns i [])
 placed_at s short zero at k t [] none l i j h g = absurd (omega arith)
+placed_at s short zero at k t (x ∷ xs) x9 l i j h g = elim x9 [ ]
+placed_at s short (suc n) at k t [] x6 l i j h g = elim x6 [ ]
 placed_at s short (suc n) at k t (x ∷ xs) (more a r) l zero j h g =
     let m : j ≡ k = omega arith in
     let e : get_or (names_placed s (suc n) at k t) j 0 ≡ at =

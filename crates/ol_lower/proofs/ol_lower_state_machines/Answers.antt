@@ -6,40 +6,4 @@ use Rattle.ol_lower.proofs.ol_lower_state_machines.Goals as goal
 
 pub returns : goal.returns
 returns c = let word = c.returned_word.ensures in
-    let called = c.lower_state_machines.ensures in record { word = ((
-      word-is _ _ _ _ word called.0.gives.number_is called.0.gives.value-is,
-      (
-        called.0.gives.output-is,
-        (
-          called.0.report-is,
-          λ small. word_small (MachinesLowered ℕ _) _ _ _ _ word called.1.1 (omega (arith, small)),
-        ),
-      ),
-    )).0; output = ((
-      word-is _ _ _ _ word called.0.gives.number_is called.0.gives.value-is,
-      (
-        called.0.gives.output-is,
-        (
-          called.0.report-is,
-          λ small. word_small (MachinesLowered ℕ _) _ _ _ _ word called.1.1 (omega (arith, small)),
-        ),
-      ),
-    )).1.0; report = ((
-      word-is _ _ _ _ word called.0.gives.number_is called.0.gives.value-is,
-      (
-        called.0.gives.output-is,
-        (
-          called.0.report-is,
-          λ small. word_small (MachinesLowered ℕ _) _ _ _ _ word called.1.1 (omega (arith, small)),
-        ),
-      ),
-    )).1.1.0; runs = ((
-      word-is _ _ _ _ word called.0.gives.number_is called.0.gives.value-is,
-      (
-        called.0.gives.output-is,
-        (
-          called.0.report-is,
-          λ small. word_small (MachinesLowered ℕ _) _ _ _ _ word called.1.1 (omega (arith, small)),
-        ),
-      ),
-    )).1.1.1 }
+    let called = c.lower_state_machines.ensures in record { word = word-is _ _ _ _ word called.answers.gives.number_is called.answers.gives.value-is; output = called.answers.gives.output-is; report = called.answers.report-is; runs = λ small. word_small (MachinesLowered ℕ _) _ _ _ _ word called.runs (omega (arith, small)) }

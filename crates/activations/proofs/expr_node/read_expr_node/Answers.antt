@@ -1,11 +1,11 @@
-use borrow.Enum.Refused.{opened}
+use borrow.Enum.Refused.{opened as unsealed}
 use mathlib.Core.Path.{refl}
 use Rattle.activations.specs.ExprNodes.{expr_node}
 use Rattle.activations.proofs.ExprNodeLaws.{as-node, met-goes, met-stops}
 use Rattle.activations.proofs.expr_node.read_expr_node.Goals as goal
 
 pub returns-in_default : goal.returns-in_default
-returns-in_default c = λ ns e. met-stops ns _ _ _ e _ _ c.read_node-d.ensures (opened c.in_default.in_default-own.keys2)
+returns-in_default c = λ ns e. met-stops ns _ _ _ e _ _ c.read_node-d.ensures (unsealed c.in_default.in_default-own.keys2)
 
 pub returns-in-Var : goal.returns-in-Var
 unfolding expr_node

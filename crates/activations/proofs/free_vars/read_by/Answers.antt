@@ -1,4 +1,4 @@
-use borrow.Enum.Refused.{opened}
+use borrow.Enum.Refused.{opened as unsealed}
 use Rattle.activations.proofs.ReadLaws.{by-clock, by_last, by-none, by-var}
 use Rattle.activations.proofs.free_vars.read_by.Goals as goal
 
@@ -12,4 +12,4 @@ pub returns-in-Clocked : goal.returns-in-Clocked
 returns-in-Clocked c = by-clock _ _ _ _ _ _ c.in-Clocked.is
 
 pub returns-in_default : goal.returns-in_default
-returns-in_default c = by-none _ _ _ (opened c.in_default.in_default-own.keys4)
+returns-in_default c = by-none _ _ _ (unsealed c.in_default.in_default-own.keys4)

@@ -8,7 +8,7 @@ pub loop-c-init : goal.loop-c-init
 loop-c-init c = (refl, refl, refl, refl, refl, omega arith, λ ns e. refl)
 
 pub list_reads-r-requires : goal.list_reads-r-requires
-list_reads-r-requires c = record { pack_len_bound = ((c.requires.0, (c.requires.1, omega (arith, c.requires.2, c.loop-c.invariant.0)))).0; rows_lt_word_range = ((c.requires.0, (c.requires.1, omega (arith, c.requires.2, c.loop-c.invariant.0)))).1.0; in_bounds = ((c.requires.0, (c.requires.1, omega (arith, c.requires.2, c.loop-c.invariant.0)))).1.1 }
+list_reads-r-requires c = record { pack_len_bound = c.requires.0; rows_lt_word_range = c.requires.1; in_bounds = omega (arith, c.requires.2, c.loop-c.invariant.0) }
 
 pub slice_bounds-put_equation_locals-end : goal.slice_bounds-put_equation_locals-end
 slice_bounds-put_equation_locals-end c = omega (arith, c.list_reads-r.ensures.0, c.list_reads-r.auto.t, c.loop-c.invariant.0, c.requires.2)

@@ -13,7 +13,7 @@ pub put_clock_guards-e-requires : goal.put_clock_guards-e-requires
 put_clock_guards-e-requires c = c.requires.2
 
 pub put_scopes-f-requires : goal.put_scopes-f-requires
-put_scopes-f-requires c = record { pack_len_bound = ((c.requires.0, (omega (arith, c.requires.1), (c.requires.2, (c.requires.3, c.requires.4))))).0; rows_lt_word_range = ((c.requires.0, (omega (arith, c.requires.1), (c.requires.2, (c.requires.3, c.requires.4))))).1.0; n_bound = ((c.requires.0, (omega (arith, c.requires.1), (c.requires.2, (c.requires.3, c.requires.4))))).1.1.0; in_bounds = ((c.requires.0, (omega (arith, c.requires.1), (c.requires.2, (c.requires.3, c.requires.4))))).1.1.1.0; in_bounds_2 = ((c.requires.0, (omega (arith, c.requires.1), (c.requires.2, (c.requires.3, c.requires.4))))).1.1.1.1 }
+put_scopes-f-requires c = record { pack_len_bound = c.requires.0; rows_lt_word_range = omega (arith, c.requires.1); n_bound = c.requires.2; in_bounds = c.requires.3; in_bounds_2 = c.requires.4 }
 
 pub put_merges-requires : goal.put_merges-requires
 put_merges-requires c = record { pack_len_bound = c.requires.0; count_bound = c.requires.2 }

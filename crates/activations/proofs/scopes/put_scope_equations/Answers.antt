@@ -9,7 +9,7 @@ pub loop-c-init : goal.loop-c-init
 loop-c-init c = (refl, refl, refl, refl, omega arith, λ ns e. refl)
 
 pub list_reads-r-requires : goal.list_reads-r-requires
-list_reads-r-requires c = record { pack_len_bound = ((c.requires.0, (c.requires.1.0, omega (arith, c.requires.1.1.1.0, c.loop-c.invariant.0)))).0; rows_lt_word_range = ((c.requires.0, (c.requires.1.0, omega (arith, c.requires.1.1.1.0, c.loop-c.invariant.0)))).1.0; in_bounds = ((c.requires.0, (c.requires.1.0, omega (arith, c.requires.1.1.1.0, c.loop-c.invariant.0)))).1.1 }
+list_reads-r-requires c = record { pack_len_bound = c.requires.0; rows_lt_word_range = c.requires.1.0; in_bounds = omega (arith, c.requires.1.1.1.0, c.loop-c.invariant.0) }
 
 pub slice_bounds-put_equation-end : goal.slice_bounds-put_equation-end
 slice_bounds-put_equation-end c = omega (arith, c.list_reads-r.ensures.0, c.list_reads-r.auto.t, c.loop-c.invariant.0, c.requires.1.1.1.0)
@@ -24,7 +24,7 @@ pub slice_bounds-put_equation-end-in-loop-c-3 : goal.slice_bounds-put_equation-e
 slice_bounds-put_equation-end-in-loop-c-3 c = simp length-take (omega (arith, c.loop-c.invariant.4, c.loop-c.invariant.1, c.requires.1.1.1.1))
 
 pub put_equation-v-requires : goal.put_equation-v-requires
-put_equation-v-requires c = record { pack_len_bound = ((c.requires.0, (c.requires.1.0, c.requires.1.1.0))).0; rows_lt_word_range = ((c.requires.0, (c.requires.1.0, c.requires.1.1.0))).1.0; n_bound = ((c.requires.0, (c.requires.1.0, c.requires.1.1.0))).1.1 }
+put_equation-v-requires c = record { pack_len_bound = c.requires.0; rows_lt_word_range = c.requires.1.0; n_bound = c.requires.1.1.0 }
 
 pub slice_bounds-join-end : goal.slice_bounds-join-end
 slice_bounds-join-end c = omega (arith, c.list_reads-r.ensures.0, c.list_reads-r.auto.t, c.loop-c.invariant.0, c.requires.1.1.1.0)

@@ -11,7 +11,7 @@ pub branch_equations-e-requires : goal.branch_equations-e-requires
 branch_equations-e-requires c = c.requires.0
 
 pub put_scope_equations-v-requires : goal.put_scope_equations-v-requires
-put_scope_equations-v-requires c = record { pack_len_bound = ((c.requires.0, (c.requires.1.0, (c.requires.1.1.0, (omega (arith, c.requires.1.1.1.0, c.loop-c.invariant.0), omega (arith, c.requires.1.1.1.1, c.loop-c.invariant.1)))))).0; rows_lt_word_range = ((c.requires.0, (c.requires.1.0, (c.requires.1.1.0, (omega (arith, c.requires.1.1.1.0, c.loop-c.invariant.0), omega (arith, c.requires.1.1.1.1, c.loop-c.invariant.1)))))).1.0; n_bound = ((c.requires.0, (c.requires.1.0, (c.requires.1.1.0, (omega (arith, c.requires.1.1.1.0, c.loop-c.invariant.0), omega (arith, c.requires.1.1.1.1, c.loop-c.invariant.1)))))).1.1.0; in_bounds = ((c.requires.0, (c.requires.1.0, (c.requires.1.1.0, (omega (arith, c.requires.1.1.1.0, c.loop-c.invariant.0), omega (arith, c.requires.1.1.1.1, c.loop-c.invariant.1)))))).1.1.1.0; in_bounds_2 = ((c.requires.0, (c.requires.1.0, (c.requires.1.1.0, (omega (arith, c.requires.1.1.1.0, c.loop-c.invariant.0), omega (arith, c.requires.1.1.1.1, c.loop-c.invariant.1)))))).1.1.1.1 }
+put_scope_equations-v-requires c = record { pack_len_bound = c.requires.0; rows_lt_word_range = c.requires.1.0; n_bound = c.requires.1.1.0; in_bounds = omega (arith, c.requires.1.1.1.0, c.loop-c.invariant.0); in_bounds_2 = omega (arith, c.requires.1.1.1.1, c.loop-c.invariant.1) }
 
 pub after_branch-p-requires : goal.after_branch-p-requires
 after_branch-p-requires c = c.requires.0
@@ -26,7 +26,7 @@ pub loop-c-preserved : goal.loop-c-preserved
 loop-c-preserved c = (c.put_scope_equations-v.auto.reads ∙ c.loop-c.invariant.0, c.put_scope_equations-v.auto.sampled ∙ c.loop-c.invariant.1, c.put_scope_equations-v.auto.out ∙ c.loop-c.invariant.2, c.put_scope_equations-v.auto.made ∙ c.loop-c.invariant.3, omega (arith, c.loop-c.invariant.4, left_less c.put_scope_equations-v.result _ _ c.loop-c-test.true c.remaining-c.ensures), λ ns e. branches-more _ _ _ _ _ ns _ _ _ _ _ _ _ _ _ _ _ _ _ _ _ c.put_scope_equations-v.result _ _ c.loop-c-test.true (c.branch_equations-e.ensures ns e) (c.after_branch-p.ensures ns e) (c.put_scope_equations-v.ensures ns e) c.remaining-c.ensures (c.loop-c.invariant.5 ns e))
 
 pub put_scope_equations-requires : goal.put_scope_equations-requires
-put_scope_equations-requires c = record { pack_len_bound = ((c.requires.0, (c.requires.1.0, (c.requires.1.1.0, (omega (arith, c.requires.1.1.1.0, c.loop-c.invariant.0), omega (arith, c.requires.1.1.1.1, c.loop-c.invariant.1)))))).0; rows_lt_word_range = ((c.requires.0, (c.requires.1.0, (c.requires.1.1.0, (omega (arith, c.requires.1.1.1.0, c.loop-c.invariant.0), omega (arith, c.requires.1.1.1.1, c.loop-c.invariant.1)))))).1.0; n_bound = ((c.requires.0, (c.requires.1.0, (c.requires.1.1.0, (omega (arith, c.requires.1.1.1.0, c.loop-c.invariant.0), omega (arith, c.requires.1.1.1.1, c.loop-c.invariant.1)))))).1.1.0; in_bounds = ((c.requires.0, (c.requires.1.0, (c.requires.1.1.0, (omega (arith, c.requires.1.1.1.0, c.loop-c.invariant.0), omega (arith, c.requires.1.1.1.1, c.loop-c.invariant.1)))))).1.1.1.0; in_bounds_2 = ((c.requires.0, (c.requires.1.0, (c.requires.1.1.0, (omega (arith, c.requires.1.1.1.0, c.loop-c.invariant.0), omega (arith, c.requires.1.1.1.1, c.loop-c.invariant.1)))))).1.1.1.1 }
+put_scope_equations-requires c = record { pack_len_bound = c.requires.0; rows_lt_word_range = c.requires.1.0; n_bound = c.requires.1.1.0; in_bounds = omega (arith, c.requires.1.1.1.0, c.loop-c.invariant.0); in_bounds_2 = omega (arith, c.requires.1.1.1.1, c.loop-c.invariant.1) }
 
 pub shape_of-reads : goal.shape_of-reads
 shape_of-reads c = c.put_scope_equations.auto.reads ∙ c.loop-c.invariant.0

@@ -9,7 +9,7 @@ use Rattle.activations.specs.OriginsAt.{branches_t}
 use Rattle.activations.proofs.sections.put_branches.Given as goal
 
 abbrev pub invariant-loop-n : goal.invariant-loop-n
-invariant-loop-n l = (length {A = ℕ} l.out ≡ length {A = ℕ} l.initial.out) × ((ns : List Name) → length ns ≡ l.names → (old l : List ℕ) → render old (branches_t ns l.pack l.n l.p) (state_of l.out l l.v) ≡ render old (branches_t ns l.pack l.count l.from) (state_of l.initial.out l l.initial.v))
+invariant-loop-n lv = (length {A = ℕ} lv.out ≡ length {A = ℕ} lv.initial.out) × ((ns : List Name) → length ns ≡ lv.names → (old l : List ℕ) → render old (branches_t ns lv.pack lv.n lv.p) (state_of lv.out l lv.v) ≡ render old (branches_t ns lv.pack lv.count lv.from) (state_of lv.initial.out l lv.initial.v))
 
 abbrev pub decreases-loop-n : goal.decreases-loop-n
 decreases-loop-n l = l.n

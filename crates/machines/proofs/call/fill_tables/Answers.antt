@@ -32,4 +32,4 @@ pub shape_of-memo : goal.shape_of-memo
 shape_of-memo c = c.fill_memo.auto.memo
 
 pub returns : goal.returns
-returns c = record { filled = ((λ ns e. filled ns _ _ _ _ _ _ c.number-c.ensures c.number-m.ensures c.small-old.ensures.1 c.small-n.ensures.1 _ _ _ _ _ _ _ _ _ _ _ _ _ _ c.place_names.ensures (c.place_machines.ensures ns e) (c.place_nodes.ensures ns e) (c.judge_all.ensures.defs_after ns e) (c.judge_all.ensures.regcounts_after ns e) c.assign_nodes.ensures, (refused_all [] _ _ _ _ _ _ c.number-c.ensures c.number-m.ensures c.small-old.ensures.1 c.small-n.ensures.1 _ _ c.refused_count.ensures, c.fill_memo.ensures))).0; value = ((λ ns e. filled ns _ _ _ _ _ _ c.number-c.ensures c.number-m.ensures c.small-old.ensures.1 c.small-n.ensures.1 _ _ _ _ _ _ _ _ _ _ _ _ _ _ c.place_names.ensures (c.place_machines.ensures ns e) (c.place_nodes.ensures ns e) (c.judge_all.ensures.defs_after ns e) (c.judge_all.ensures.regcounts_after ns e) c.assign_nodes.ensures, (refused_all [] _ _ _ _ _ _ c.number-c.ensures c.number-m.ensures c.small-old.ensures.1 c.small-n.ensures.1 _ _ c.refused_count.ensures, c.fill_memo.ensures))).1.0; memo_sound = ((λ ns e. filled ns _ _ _ _ _ _ c.number-c.ensures c.number-m.ensures c.small-old.ensures.1 c.small-n.ensures.1 _ _ _ _ _ _ _ _ _ _ _ _ _ _ c.place_names.ensures (c.place_machines.ensures ns e) (c.place_nodes.ensures ns e) (c.judge_all.ensures.defs_after ns e) (c.judge_all.ensures.regcounts_after ns e) c.assign_nodes.ensures, (refused_all [] _ _ _ _ _ _ c.number-c.ensures c.number-m.ensures c.small-old.ensures.1 c.small-n.ensures.1 _ _ c.refused_count.ensures, c.fill_memo.ensures))).1.1 }
+returns c = record { filled = λ ns e. filled ns _ _ _ _ _ _ c.number-c.ensures c.number-m.ensures c.small-old.ensures.1 c.small-n.ensures.1 _ _ _ _ _ _ _ _ _ _ _ _ _ _ c.place_names.ensures (c.place_machines.ensures ns e) (c.place_nodes.ensures ns e) (c.judge_all.ensures.defs_after ns e) (c.judge_all.ensures.regcounts_after ns e) c.assign_nodes.ensures; value = refused_all [] _ _ _ _ _ _ c.number-c.ensures c.number-m.ensures c.small-old.ensures.1 c.small-n.ensures.1 _ _ c.refused_count.ensures; memo_sound = c.fill_memo.ensures }

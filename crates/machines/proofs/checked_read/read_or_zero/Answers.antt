@@ -1,4 +1,4 @@
-use borrow.Enum.Refused.{opened}
+use borrow.Enum.Refused.{opened as unsealed}
 use mathlib.Core.Path.{sym, ap}
 use Rattle.machines.specs.CheckedReads.{sure_of}
 use Rattle.machines.proofs.CheckedReadLaws.{sure-stops}
@@ -9,4 +9,4 @@ unfolding sure_of
 returns-in-Is c = sym (ap sure_of c.in-Is.is)
 
 pub returns-in_default : goal.returns-in_default
-returns-in_default c = sure-stops _ (opened c.in_default.in_default-own.keys2)
+returns-in_default c = sure-stops _ (unsealed c.in_default.in_default-own.keys2)

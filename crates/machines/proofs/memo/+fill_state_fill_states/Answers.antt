@@ -18,8 +18,8 @@ fill_state-memo_empty_regions-known-requires t c = (c.requires.0, c.loop-n.invar
 pub fill_state-fill_states-p-requires : goal.fill_state-fill_states-p-requires
 fill_state-fill_states-p-requires t c = (omega (arith, c.decreases), (c.requires.0, c.memo_empty_regions-known.ensures, omega (arith, c.requires.2)))
 
-pub fill_states-shape_of-memo-then-p-eq0 : goal.fill_states-shape_of-memo-then-p-eq0
-fill_states-shape_of-memo-then-p-eq0 t c = c.before.before.before.fill-states.auto.1.1.1.0 ∙ c.before.before.before.before.before.before.before.memo-empty-regions.auto.1.1.1.0 ∙ c.loop-n.invariant.2 ∙ c.before.before.before.before.before.before.before.before.before.before.before.before.before.before.before.memo-head.auto.1.1.1.0
+pub fill_state-shape_of-memo-then-p-eq0 : goal.fill_state-shape_of-memo-then-p-eq0
+fill_state-shape_of-memo-then-p-eq0 t c = c.fill_states-p.auto.memo ∙ c.memo_empty_regions-known.auto.memo ∙ c.loop-n.invariant.2 ∙ c.memo_head-h.auto.memo
 
 pub fill_state-returns-then-p-eq0 : goal.fill_state-returns-then-p-eq0
 fill_state-returns-then-p-eq0 t c = record { value = λ ns e l. absurd (omega (arith, l)); memo_sound = c.fill_states-p.ensures.memo_sound }
@@ -27,8 +27,8 @@ fill_state-returns-then-p-eq0 t c = record { value = λ ns e l. absurd (omega (a
 pub fill_state-loop-n-preserved : goal.fill_state-loop-n-preserved
 fill_state-loop-n-preserved t c = (λ ns e. let k = c.fill_states-p.ensures.fact ns e (omega (arith, c.if-p-eq0.false)) in many-went (region_at _ ns _) _ _ _ _ (k.1 ∙ c.states_in-c.ensures ns e _ k.0) c.if-p-eq0.false c.loop-n-test.true (c.loop-n.invariant.0 ns e), c.fill_states-p.ensures.memo_sound, c.fill_states-p.auto.memo ∙ c.memo_empty_regions-known.auto.memo ∙ c.loop-n.invariant.2)
 
-pub fill_states-shape_of-memo : goal.fill_states-shape_of-memo
-fill_states-shape_of-memo t c = c.before.before.memo-state.auto.0 ∙ c.loop-n.invariant.2 ∙ c.before.before.before.before.before.before.before.before.before.before.memo-head.auto.1.1.1.0
+pub fill_state-shape_of-memo : goal.fill_state-shape_of-memo
+fill_state-shape_of-memo t c = c.memo_state.auto.memo ∙ c.loop-n.invariant.2 ∙ c.memo_head-h.auto.memo
 
 pub fill_state-returns : goal.fill_state-returns
 fill_state-returns t c = record { value = λ ns e l. c.state_end-o.ensures ns e _ (region_at _ ns _) (c.memo_head-h.ensures.value ns e) (counted-done (region_at _ ns _) _ _ _ _ _ c.number-r.ensures c.loop-n-test.false (c.loop-n.invariant.0 ns e)) l; memo_sound = c.memo_state.ensures _ _ _ c.loop-n.invariant.1 (λ l ns e. (c.memo_head-h.ensures.value ns e, state-over ns _ _ _ _ c.requires.2 (c.state_end-o.ensures ns e _ (region_at _ ns _) (c.memo_head-h.ensures.value ns e) (counted-done (region_at _ ns _) _ _ _ _ _ c.number-r.ensures c.loop-n-test.false (c.loop-n.invariant.0 ns e)) l) l)) }

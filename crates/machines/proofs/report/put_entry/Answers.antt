@@ -27,4 +27,4 @@ returns c = let a = c.args in
     let x = c.put_low-a in
     let y = c.put_name-b in
     let z = c.put_called-c in
-    let e = entry_length a.pack.now a.offsets.now a.qualified.now a.m a.j n.result.now n.ensures in record { value = omega (arith, e, name-length n.result.now, x.ensures.0, y.ensures.0, z.ensures.0, c.put_called.ensures.value); report_after = entry-put _ _ _ _ _ a.report.now _ _ _ _ _ a.at _ _ _ n.ensures (omega (arith, c.requires)) x.ensures.0 x.ensures.1 y.ensures.0 y.ensures.1 z.ensures.0 z.ensures.1 c.put_called.ensures.report_after }
+    let e = entry_length a.pack.now a.offsets.now a.qualified.now a.m a.j n.result.now n.ensures in record { value = omega (arith, e, name-length n.result.now, x.ensures.value, y.ensures.value, z.ensures.value, c.put_called.ensures.value); report_after = entry-put _ _ _ _ _ a.report.now _ _ _ _ _ a.at _ _ _ n.ensures (omega (arith, c.requires)) x.ensures.value x.ensures.report_after y.ensures.value y.ensures.report_after z.ensures.value z.ensures.report_after c.put_called.ensures.report_after }

@@ -22,4 +22,4 @@ pub returns : goal.returns
 returns c = let a = c.args in
     let x = c.put_low-a.ensures in
     let y = c.put_prefix-b.ensures in
-    let e = inside-length a.p.now a.n.now in record { value = omega (arith, e, x.0, y.0, c.append.ensures.value); report_after = inside-put _ _ _ _ _ _ _ _ _ _ (omega (arith, e)) c.prefix_len.ensures x.0 x.1 y.0 y.1 c.append.ensures.dst_after }
+    let e = inside-length a.p.now a.n.now in record { value = omega (arith, e, x.value, y.value, c.append.ensures.value); report_after = inside-put _ _ _ _ _ _ _ _ _ _ (omega (arith, e)) c.prefix_len.ensures x.value x.report_after y.value y.report_after c.append.ensures.dst_after }

@@ -1,4 +1,4 @@
-use borrow.Enum.Refused.{opened}
+use borrow.Enum.Refused.{opened as unsealed}
 use Prim.Native.Nat.{◌-◌}
 use mathlib.Core.Path.{refl, ◌∙◌}
 use native.Mathlib.Omega.{arith}
@@ -29,10 +29,10 @@ resolve_state-resolve_states-e-requires t c = (omega (arith, c.decreases), c.req
 
 pub resolve_state-returns-in_default : goal.resolve_state-returns-in_default
 resolve_state-returns-in_default t c = λ ns e. state-on ns _ _ _ _ _ _ _ _ _ _ c.if-count-ge-STATES.false (c.state_head-h.ensures ns e) c.number-t.ensures
-    (stopped _ _ _ (opened c.in_default.in_default-own.keys2) (taken-stopped ns _ _ _ _ _ e c.requires.1 _ _ _ _ _ _ _ _ _ _ c.run_length-k.ensures c.take_regions-g.ensures (c.resolve_states-e.ensures ns e) (opened c.in_default.in_default-own.keys2) (c.loop-n.invariant ns e)))
+    (stopped _ _ _ (unsealed c.in_default.in_default-own.keys2) (taken-stopped ns _ _ _ _ _ e c.requires.1 _ _ _ _ _ _ _ _ _ _ c.run_length-k.ensures c.take_regions-g.ensures (c.resolve_states-e.ensures ns e) (unsealed c.in_default.in_default-own.keys2) (c.loop-n.invariant ns e)))
 
-pub resolve_states-overflow_sub-n : goal.resolve_states-overflow_sub-n
-resolve_states-overflow_sub-n t c = c.before.before.before.before.before.before.before.run_length.ensures.few
+pub resolve_state-overflow_sub-n : goal.resolve_state-overflow_sub-n
+resolve_state-overflow_sub-n t c = c.run_length-k.ensures.few
 
 pub resolve_state-loop-n-smaller : goal.resolve_state-loop-n-smaller
 resolve_state-loop-n-smaller t c = omega (arith, c.run_length-k.ensures.some, c.run_length-k.ensures.few)
@@ -47,7 +47,7 @@ resolve_state-returns-then-f-eq-ABSENT t c = λ ns e. state-on ns _ _ _ _ _ _ _ 
 pub resolve_state-returns-in_default-d : goal.resolve_state-returns-in_default-d
 resolve_state-returns-in_default-d t c = λ ns e. state-on ns _ _ _ _ _ _ _ _ _ _ c.if-count-ge-STATES.false (c.state_head-h.ensures ns e) c.number-t.ensures
     (went_on _ _ _ _ _ _ _ refl (rounds-done _ _ _ _ _ _ c.loop-n-test.false (c.loop-n.invariant ns e)) (on _ _ _ _ c.number-i.ensures
-    (refine-into ns _ _ _ _ _ _ _ _ _ _ _ c.number-f.ensures c.if-f-eq-ABSENT.false (stopped _ _ _ (opened c.in_default-d.in_default-d-own.keys2) c.refinement-d.ensures))))
+    (refine-into ns _ _ _ _ _ _ _ _ _ _ _ c.number-f.ensures c.if-f-eq-ABSENT.false (stopped _ _ _ (unsealed c.in_default-d.in_default-d-own.keys2) c.refinement-d.ensures))))
 
 pub resolve_state-resolve_states-y-requires : goal.resolve_state-resolve_states-y-requires
 resolve_state-resolve_states-y-requires t c = (omega (arith, c.decreases), c.requires)
@@ -56,7 +56,7 @@ pub resolve_state-returns-in_default-y : goal.resolve_state-returns-in_default-y
 resolve_state-returns-in_default-y t c = λ ns e. state-on ns _ _ _ _ _ _ _ _ _ _ c.if-count-ge-STATES.false (c.state_head-h.ensures ns e) c.number-t.ensures
     (went_on _ _ _ _ _ _ _ refl (rounds-done _ _ _ _ _ _ c.loop-n-test.false (c.loop-n.invariant ns e)) (on _ _ _ _ c.number-i.ensures
     (refine-into ns _ _ _ _ _ _ _ _ _ _ _ c.number-f.ensures c.if-f-eq-ABSENT.false (went_on _ _ _ _ _ _ _ c.in-Went-d.is c.refinement-d.ensures
-    (stopped _ _ _ (opened c.in_default-y.in_default-y-own.keys2) (moved (walk ns _ _ _ _) _ _ _ _ _ _ (c.resolve_states-y.ensures ns e) c.push-q.ensures))))))
+    (stopped _ _ _ (unsealed c.in_default-y.in_default-y-own.keys2) (moved (walk ns _ _ _ _) _ _ _ _ _ _ (c.resolve_states-y.ensures ns e) c.push-q.ensures))))))
 
 pub resolve_state-returns : goal.resolve_state-returns
 resolve_state-returns t c = λ ns e. state-on ns _ _ _ _ _ _ _ _ _ _ c.if-count-ge-STATES.false (c.state_head-h.ensures ns e) c.number-t.ensures
@@ -78,7 +78,7 @@ pub resolve_states-resolve_state-e-requires : goal.resolve_states-resolve_state-
 resolve_states-resolve_state-e-requires t c = (omega (arith, c.if-levels-eq0.false, c.decreases), c.requires)
 
 pub resolve_states-returns-in_default : goal.resolve_states-returns-in_default
-resolve_states-returns-in_default t c = λ ns e. rounds-stopped _ _ _ _ _ _ _ c.loop-n-test.true (opened c.in_default.in_default-own.keys2) (c.resolve_state-e.ensures ns e) (c.loop-n.invariant ns e) ∙ walk-some ns _ _ _ _ _ _ _ _ c.if-levels-eq0.false
+resolve_states-returns-in_default t c = λ ns e. rounds-stopped _ _ _ _ _ _ _ c.loop-n-test.true (unsealed c.in_default.in_default-own.keys2) (c.resolve_state-e.ensures ns e) (c.loop-n.invariant ns e) ∙ walk-some ns _ _ _ _ _ _ _ _ c.if-levels-eq0.false
 
 pub resolve_states-loop-n-preserved : goal.resolve_states-loop-n-preserved
 resolve_states-loop-n-preserved t c = λ ns e. rounds-went _ _ _ _ _ _ _ _ _ _ _ c.loop-n-test.true c.in-Went.is (c.resolve_state-e.ensures ns e) c.max-a.ensures (c.loop-n.invariant ns e)

@@ -10,7 +10,7 @@ use Rattle.machines.proofs.OriginsCounted.{Right}
 use Rattle.machines.proofs.sections.put_origins.Given as goal
 
 abbrev pub invariant-loop-c : goal.invariant-loop-c
-invariant-loop-c l = (length {A = ℕ} l.out ≡ length {A = ℕ} l.initial.out) × (l.i + l.c ≤ l.n) × (l.d.first ≤ 65536 + 1048576 * l.i) × ((ns : List Name) → length ns ≡ l.names → Right ns l.pack l.defs l.receivers l.regcounts l.count l.from l.d l.i) × ((ns : List Name) → length ns ≡ l.names → (old l : List ℕ) → render old (each_t (own_origin_t ns l.pack l.defs l.receivers l.regcounts l.count l.from) l.c l.i) (state_of l.out l l.v) ≡ render old (each_t (own_origin_t ns l.pack l.defs l.receivers l.regcounts l.count l.from) l.n 0) (state_of l.initial.out l l.initial.v))
+invariant-loop-c lv = (length {A = ℕ} lv.out ≡ length {A = ℕ} lv.initial.out) × (lv.i + lv.c ≤ lv.n) × (lv.d.first ≤ 65536 + 1048576 * lv.i) × ((ns : List Name) → length ns ≡ lv.names → Right ns lv.pack lv.defs lv.receivers lv.regcounts lv.count lv.from lv.d lv.i) × ((ns : List Name) → length ns ≡ lv.names → (old l : List ℕ) → render old (each_t (own_origin_t ns lv.pack lv.defs lv.receivers lv.regcounts lv.count lv.from) lv.c lv.i) (state_of lv.out l lv.v) ≡ render old (each_t (own_origin_t ns lv.pack lv.defs lv.receivers lv.regcounts lv.count lv.from) lv.n 0) (state_of lv.initial.out l lv.initial.v))
 
 abbrev pub decreases-loop-c : goal.decreases-loop-c
 decreases-loop-c l = l.c

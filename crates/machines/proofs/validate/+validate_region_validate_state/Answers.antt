@@ -1,4 +1,4 @@
-use borrow.Enum.Refused.{opened}
+use borrow.Enum.Refused.{opened as unsealed}
 use Prim.Native.Nat.{◌-◌}
 use native.Mathlib.Omega.{arith}
 use mathlib.Core.Path.{sym, ◌∙◌}
@@ -22,7 +22,7 @@ pub validate_region-validate_state-r-requires : goal.validate_region-validate_st
 validate_region-validate_state-r-requires t c = (omega (arith, c.if-levels-eq0.false, c.decreases), (c.requires.0, c.requires.1, λ ns e. foreseen-one ns _ _ _ _ _ _ c.loop-n-test.true (c.loop-n.invariant.1 ns e)))
 
 pub validate_region-returns-in_default : goal.validate_region-returns-in_default
-validate_region-returns-in_default t c = λ ns e. region-goes ns _ _ _ _ _ _ c.if-levels-eq0.false c.entry.ensures (sym c.if-has_state.true ∙ c.has_state.ensures) (rows-stop _ _ _ _ _ _ c.loop-n-test.true (c.validate_state-r.ensures ns e) (stops _ (opened c.in_default.in_default-own.keys2)) (c.loop-n.invariant.0 ns e))
+validate_region-returns-in_default t c = λ ns e. region-goes ns _ _ _ _ _ _ c.if-levels-eq0.false c.entry.ensures (sym c.if-has_state.true ∙ c.has_state.ensures) (rows-stop _ _ _ _ _ _ c.loop-n-test.true (c.validate_state-r.ensures ns e) (stops _ (unsealed c.in_default.in_default-own.keys2)) (c.loop-n.invariant.0 ns e))
 
 pub validate_region-loop-n-preserved : goal.validate_region-loop-n-preserved
 validate_region-loop-n-preserved t c = (λ ns e. rows-went _ _ _ _ _ _ _ c.loop-n-test.true (c.validate_state-r.ensures ns e) c.in-Fine.is c.layout_word-p.ensures (c.loop-n.invariant.0 ns e), λ ns e. foreseen-went ns _ _ _ _ _ _ _ _ c.loop-n-test.true c.onward-v.ensures c.layout_word-p.ensures (c.loop-n.invariant.1 ns e))
@@ -37,7 +37,7 @@ pub validate_state-check_transitions-c-requires : goal.validate_state-check_tran
 validate_state-check_transitions-c-requires t c = c.requires
 
 pub validate_state-returns-in_default : goal.validate_state-returns-in_default
-validate_state-returns-in_default t c = λ ns e. state-stops ns _ _ _ _ _ _ (c.check_transitions-c.ensures ns e) (stops _ (opened c.in_default.in_default-own.keys2))
+validate_state-returns-in_default t c = λ ns e. state-stops ns _ _ _ _ _ _ (c.check_transitions-c.ensures ns e) (stops _ (unsealed c.in_default.in_default-own.keys2))
 
 pub validate_state-loop-n-init : goal.validate_state-loop-n-init
 validate_state-loop-n-init t c = λ ns e. rows-from _ _ _ _ _ _ c.layout_word-n.ensures c.inner-g.ensures
@@ -46,7 +46,7 @@ pub validate_state-validate_region-r-requires : goal.validate_state-validate_reg
 validate_state-validate_region-r-requires t c = (omega (arith, c.decreases), (c.requires.0, c.requires.1))
 
 pub validate_state-returns-in_default-r : goal.validate_state-returns-in_default-r
-validate_state-returns-in_default-r t c = λ ns e. state-goes ns _ _ _ _ _ _ _ (c.check_transitions-c.ensures ns e) c.in-Fine.is (rows-stop _ _ _ _ _ _ c.loop-n-test.true (c.validate_region-r.ensures ns e) (stops _ (opened c.in_default-r.in_default-r-own.keys2)) (c.loop-n.invariant ns e))
+validate_state-returns-in_default-r t c = λ ns e. state-goes ns _ _ _ _ _ _ _ (c.check_transitions-c.ensures ns e) c.in-Fine.is (rows-stop _ _ _ _ _ _ c.loop-n-test.true (c.validate_region-r.ensures ns e) (stops _ (unsealed c.in_default-r.in_default-r-own.keys2)) (c.loop-n.invariant ns e))
 
 pub validate_state-loop-n-preserved : goal.validate_state-loop-n-preserved
 validate_state-loop-n-preserved t c = λ ns e. rows-went _ _ _ _ _ _ _ c.loop-n-test.true (c.validate_region-r.ensures ns e) c.in-Fine-r.is c.layout_word-g.ensures (c.loop-n.invariant ns e)
