@@ -109,6 +109,14 @@ module _ (ns : List Name) (fresh : Fresh [] ns) (legal : All LegalName ns) (few 
       leaves-more ns s (p ∷ []) ps z y (holder_locals_t ns s (tabled ns) made a offsets table env (3 * h + 3) n y) (holder-left h x p t z r.0 u k)
       (subst (λ (i : ℕ). Leaves ns s ps y (holder_locals_t ns s (tabled ns) made a offsets table env i n y)) j
       (holders-left n (suc h) xs ps gs (pre ++ (p ∷ [])) y (omega arith) r.1 d o.1 (append_assoc pre (p ∷ []) ps ∙ g) (λ i l. c i (omega arith))))
+  holders-left zero h [] [] (f ∷ gs) pre z e r x24 o g c = elim x24 [ ]
+  holders-left zero h [] (p ∷ ps) gs pre z e r x19 o g c = elim x19 [ ]
+  holders-left zero h (x ∷ xs) [] gs pre z e r x15 o g c = elim x15 [ ]
+  holders-left zero h (x ∷ xs) (p ∷ ps) [] pre z e r x17 o g c = elim x17 [ ]
+  holders-left (suc n) h [] [] (f ∷ gs) pre z e r x10 o g c = elim x10 [ ]
+  holders-left (suc n) h [] (p ∷ ps) gs pre z e r x10 o g c = elim x10 [ ]
+  holders-left (suc n) h (x ∷ xs) [] gs pre z e r x11 o g c = elim x11 [ ]
+  holders-left (suc n) h (x ∷ xs) (p ∷ ps) [] pre z e r x13 o g c = elim x13 [ ]
 
 -- a pack that was read, one of its activations, whose equations have left names; the tables once its holders are known; the owner's
 -- variables, and the holders

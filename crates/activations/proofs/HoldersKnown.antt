@@ -101,6 +101,10 @@ holders-told es a v (x ∷ xs) (p ∷ ps) (g ∷ gs) (holder t i e f d h) =
     let m : eq_name (last_var a v) p.name ≡ eq_name v x.var = ap (eq_name (last_var a v)) n ∙ last-tells a v x.var in
     let r = holders-told es a v xs ps gs h in
     λ j. m j || r j
+holders-told es a v [] [] (g ∷ gs) x3 = elim x3 [ ]
+holders-told es a v [] (p ∷ ps) gs x3 = elim x3 [ ]
+holders-told es a v (x ∷ xs) [] gs x4 = elim x4 [ ]
+holders-told es a v (x ∷ xs) (p ∷ ps) [] x6 = elim x6 [ ]
 
 -- the type of a port that none of its name follows
 pub last-here : (pre : List Port) (p : Port) (ps : List Port) → member p.name (port_names ps) ≡ false → last_typed (pre ++ (p ∷ ps)) p.name ≡ some p.ty
@@ -147,6 +151,14 @@ module _ (ns : List Name) (fresh : Fresh [] ns) (legal : All LegalName ns) (few 
       ∙ ap (render (tabled ns) (each_t (row_items ns s b offsets a env table) n (suc h))) (row_written ns fresh legal few s by b enums q E offsets F placed a env table h x t i r.0 k w z ∙ ap (λ (y : Equation). render (tabled ns) (equation_items y) z) (sym v))
       ∙ rows_written n (suc h) xs ps gs (pre ++ (p ∷ [])) (render (tabled ns) (equation_items f) z) (omega arith) r.1 d o.1 (append_assoc pre (p ∷ []) ps ∙ g) (λ j l. c j (omega arith))
       ∙ sym (render-append (tabled ns) (equation_items f) (each equation_items gs) z)
+  rows_written zero h [] [] (f ∷ gs) pre z e r x24 o g c = elim x24 [ ]
+  rows_written zero h [] (p ∷ ps) gs pre z e r x19 o g c = elim x19 [ ]
+  rows_written zero h (x ∷ xs) [] gs pre z e r x15 o g c = elim x15 [ ]
+  rows_written zero h (x ∷ xs) (p ∷ ps) [] pre z e r x17 o g c = elim x17 [ ]
+  rows_written (suc n) h [] [] (f ∷ gs) pre z e r x10 o g c = elim x10 [ ]
+  rows_written (suc n) h [] (p ∷ ps) gs pre z e r x10 o g c = elim x10 [ ]
+  rows_written (suc n) h (x ∷ xs) [] gs pre z e r x11 o g c = elim x11 [ ]
+  rows_written (suc n) h (x ∷ xs) (p ∷ ps) [] pre z e r x13 o g c = elim x13 [ ]
 
 -- THE LINK: the equations of all holders
 pub holders-written : (ns : List Name) → Fresh [] ns → All LegalName ns → length ns < 65536 → (s : List ℕ) → Bytes s → (b : PackInfo) (enums : List Enum) (q : ℕ) → counted (enum_in ns s) s b.enums ≡ value enums q

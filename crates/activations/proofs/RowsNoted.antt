@@ -105,10 +105,11 @@ module _ (ns : List Name) (s : List ℕ) where
     here-row h x xs e f r rs g =
         let k : 3 * h + 1 < length t = omega arith in
         let a : word_t (init_t h init t) h 0 ≡ word_t t h 0 = init-other h init t (3 * h + 0) (λ z. omega arith) in
+        let n : note_table top h v init t ≡ init_t h init t = rw (lt-ltb h top (omega arith)) in
         record {
           rows = rw (g, lt-ltb h top (omega arith)) (
             (subst (λ y. y < length ns) (sym a) r.0, ap (name_at ns) a ∙ r.1, subst (RowInit ns s (first_of x.init i)) (sym (init-word h init t k low)) (first-init x.init i (word_t t h 1) init r.2 given)),
-            rows_same t (init_t h init t) (suc h) xs (λ j l. (init-other h init t (3 * j + 0) (λ z. omega arith), init-other h init t (3 * j + 1) (λ z. omega arith))) rs,
+            subst (λ y. RowsFrom ns s y (suc h) xs) (sym n) (rows_same t (init_t h init t) (suc h) xs (λ j l. (init-other h init t (3 * j + 0) (λ z. omega arith), init-other h init t (3 * j + 1) (λ z. omega arith))) rs),
           );
           many = rw (g, lt-ltb h top (omega arith)) e;
           from = omega arith;

@@ -14,4 +14,4 @@ pub shape_of-report-then-pack-gt-BYTES : goal.shape_of-report-then-pack-gt-BYTES
 shape_of-report-then-pack-gt-BYTES t c = absurd (omega arith)
 
 pub returns-then-pack-gt-BYTES : goal.returns-then-pack-gt-BYTES
-returns-then-pack-gt-BYTES t c = record { answers = (absurd (omega arith)).0; fits = (absurd (omega arith)).1 }
+returns-then-pack-gt-BYTES t c = absurd (omega arith)

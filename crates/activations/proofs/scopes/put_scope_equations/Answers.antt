@@ -9,34 +9,34 @@ pub loop-c-init : goal.loop-c-init
 loop-c-init c = (refl, refl, refl, refl, omega arith, λ ns e. refl)
 
 pub list_reads-r-requires : goal.list_reads-r-requires
-list_reads-r-requires c = record { pack_len_bound = c.requires.0; rows_lt_word_range = c.requires.1.0; in_bounds = omega (arith, c.requires.1.1.1.0, c.loop-c.invariant.0) }
+list_reads-r-requires c = record { pack_len_bound = c.requires.pack_len_bound; rows_lt_word_range = c.requires.rows_lt_word_range; in_bounds = omega (arith, c.requires.in_bounds, c.loop-c.invariant.0) }
 
 pub slice_bounds-put_equation-end : goal.slice_bounds-put_equation-end
-slice_bounds-put_equation-end c = omega (arith, c.list_reads-r.ensures.0, c.list_reads-r.auto.t, c.loop-c.invariant.0, c.requires.1.1.1.0)
+slice_bounds-put_equation-end c = omega (arith, c.list_reads-r.ensures.0, c.list_reads-r.auto.t, c.loop-c.invariant.0, c.requires.in_bounds)
 
 pub slice_bounds-put_equation-end-in-loop-c : goal.slice_bounds-put_equation-end-in-loop-c
-slice_bounds-put_equation-end-in-loop-c c = simp length-take (omega (arith, c.list_reads-r.ensures.0, c.list_reads-r.auto.t, c.loop-c.invariant.0, c.requires.1.1.1.0))
+slice_bounds-put_equation-end-in-loop-c c = simp length-take (omega (arith, c.list_reads-r.ensures.0, c.list_reads-r.auto.t, c.loop-c.invariant.0, c.requires.in_bounds))
 
 pub slice_bounds-put_equation-end-in-loop-c-2 : goal.slice_bounds-put_equation-end-in-loop-c-2
-slice_bounds-put_equation-end-in-loop-c-2 c = omega (arith, c.loop-c.invariant.4, c.loop-c.invariant.1, c.requires.1.1.1.1)
+slice_bounds-put_equation-end-in-loop-c-2 c = omega (arith, c.loop-c.invariant.4, c.loop-c.invariant.1, c.requires.in_bounds_2)
 
 pub slice_bounds-put_equation-end-in-loop-c-3 : goal.slice_bounds-put_equation-end-in-loop-c-3
-slice_bounds-put_equation-end-in-loop-c-3 c = simp length-take (omega (arith, c.loop-c.invariant.4, c.loop-c.invariant.1, c.requires.1.1.1.1))
+slice_bounds-put_equation-end-in-loop-c-3 c = simp length-take (omega (arith, c.loop-c.invariant.4, c.loop-c.invariant.1, c.requires.in_bounds_2))
 
 pub put_equation-v-requires : goal.put_equation-v-requires
-put_equation-v-requires c = record { pack_len_bound = c.requires.0; rows_lt_word_range = c.requires.1.0; n_bound = c.requires.1.1.0 }
+put_equation-v-requires c = record { pack_len_bound = c.requires.pack_len_bound; rows_lt_word_range = c.requires.rows_lt_word_range; n_bound = c.requires.n_bound }
 
 pub slice_bounds-join-end : goal.slice_bounds-join-end
-slice_bounds-join-end c = omega (arith, c.list_reads-r.ensures.0, c.list_reads-r.auto.t, c.loop-c.invariant.0, c.requires.1.1.1.0)
+slice_bounds-join-end c = omega (arith, c.list_reads-r.ensures.0, c.list_reads-r.auto.t, c.loop-c.invariant.0, c.requires.in_bounds)
 
 pub slice_bounds-join-end-in-loop-c : goal.slice_bounds-join-end-in-loop-c
-slice_bounds-join-end-in-loop-c c = simp length-take (omega (arith, c.list_reads-r.ensures.0, c.list_reads-r.auto.t, c.loop-c.invariant.0, c.requires.1.1.1.0))
+slice_bounds-join-end-in-loop-c c = simp length-take (omega (arith, c.list_reads-r.ensures.0, c.list_reads-r.auto.t, c.loop-c.invariant.0, c.requires.in_bounds))
 
 pub join-m-requires : goal.join-m-requires
-join-m-requires c = record { in_bounds = omega (arith, c.requires.1.1.1.1, c.loop-c.invariant.1); n_bound = c.loop-c.invariant.4 }
+join-m-requires c = record { in_bounds = omega (arith, c.requires.in_bounds_2, c.loop-c.invariant.1); n_bound = c.loop-c.invariant.4 }
 
 pub after_expr-p-requires : goal.after_expr-p-requires
-after_expr-p-requires c = c.requires.0
+after_expr-p-requires c = c.requires.pack_len_bound
 
 pub loop-c-smaller : goal.loop-c-smaller
 loop-c-smaller c = left_less c.put_equation-v.result _ _ c.loop-c-test.true c.remaining-c.ensures
