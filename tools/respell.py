@@ -67,8 +67,8 @@ def words_of(files):
 
 
 def bare(text, old, new):
-    """Replaces a word outside comments, where it is no part of a path."""
-    it = re.compile(r"(--[^\n]*)|(?<![\w'.-])" + re.escape(old) + r"(?![\w'.-])")
+    """Replaces a word outside comments, where it is no part of a path and no clause's name."""
+    it = re.compile(r"(--[^\n]*|(?:ensures|requires) " + re.escape(old) + r"\b)|(?<![\w'.-])" + re.escape(old) + r"(?![\w'.-])")
     return it.sub(lambda m: m.group(1) or new, text)
 
 

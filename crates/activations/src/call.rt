@@ -4,7 +4,7 @@ ghost use Rattle.wire.specs.Bytes.{word_range};
 ghost use Rattle.pack_rules.specs.Syntax.{Package};
 ghost use Rattle.pack.specs.Table.{tabled};
 ghost use Rattle.pack.specs.Intern.{table};
-ghost use Rattle.pack_rules.specs.Outcome.{Answers, Gives, written};
+ghost use Rattle.pack_rules.specs.Outcome.{Answers, Gives, output_of, report_of, returned, written};
 ghost use Rattle.pack.specs.Verdict.{SectionsAt};
 ghost use Rattle.pack_rules.specs.Limits.{max_bytes};
 ghost use Rattle.machines.specs.Layout.{slice_of};
@@ -25,7 +25,7 @@ use machines::checked_read::number;
 use machines::layout::between;
 use machines::table::place_names;
 use pack::check::{Verdict, answer, read_pack};
-use pack::finish::{Outcome, copy_pack, finish};
+use pack::finish::{Outcome, copy_pack, finish, returned_word};
 use pack::intern::build_name_table;
 use pack::record::Pack;
 use pack::table::ROOM;
@@ -196,4 +196,13 @@ pub fn lower_activations(pack: &[u8], output: &mut [u8], report: &mut [u8]) -> O
         return answer(v, pack.len());
     };
     lower_checked(pack, k, output, report)
+}
+
+// The same with number and value in one word.
+pub fn lower_activations_word(pack: &[u8], output: &mut [u8], report: &mut [u8]) -> u64
+    ensures word { result ≡ returned (lower_activations pack.now (length output.old) (length report.old)) }
+    ensures output { output.new ≡ output_of (lower_activations pack.now (length output.old) (length report.old)) output.old }
+    ensures report { report.new ≡ report_of (lower_activations pack.now (length output.old) (length report.old)) report.old }
+{
+    returned_word(lower_activations(pack, output, report))
 }

@@ -6,7 +6,7 @@ ghost use Rattle.pack_rules.specs.Syntax.{Package};
 ghost use Rattle.pack_rules.specs.Write.{Item};
 ghost use Rattle.pack.specs.Table.{tabled};
 ghost use Rattle.pack.specs.Intern.{render, table, unwritten};
-ghost use Rattle.pack_rules.specs.Outcome.{Answers, Gives, reported};
+ghost use Rattle.pack_rules.specs.Outcome.{Answers, Gives, output_of, report_of, reported, returned};
 ghost use Rattle.pack.specs.Finish.{answered};
 ghost use Rattle.pack.specs.Verdict.{SectionsAt};
 ghost use Rattle.pack_rules.specs.Limits.{max_bytes};
@@ -30,7 +30,7 @@ use crate::sections::put_sections;
 use crate::table::{place_machines, place_names};
 use crate::verdicts::judge_all;
 use pack::check::{Verdict, answer, read_pack};
-use pack::finish::{Outcome, copy_pack, finish};
+use pack::finish::{Outcome, copy_pack, finish, returned_word};
 use pack::intern::build_name_table;
 use pack::record::Pack;
 use pack::table::ROOM;
@@ -326,4 +326,13 @@ pub fn lower_state_machines(pack: &[u8], output: &mut [u8], report: &mut [u8]) -
         return answer(v, pack.len());
     };
     lower_checked(pack, k, output, report)
+}
+
+// The same with number and value in one word.
+pub fn lower_state_machines_word(pack: &[u8], output: &mut [u8], report: &mut [u8]) -> u64
+    ensures word { result ≡ returned (lower_machines pack.now (length output.old) (length report.old)) }
+    ensures output { output.new ≡ output_of (lower_machines pack.now (length output.old) (length report.old)) output.old }
+    ensures report { report.new ≡ report_of (lower_machines pack.now (length output.old) (length report.old)) report.old }
+{
+    returned_word(lower_state_machines(pack, output, report))
 }

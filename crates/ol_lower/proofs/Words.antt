@@ -2,14 +2,8 @@
 use Prim.Native.Nat.{ℕ, ◌+◌, ◌*◌, ◌<◌}
 use native.Mathlib.Omega.{arith}
 use mathlib.Core.List.{List}
-use mathlib.Core.Path.{◌≡◌, subst, ◌∙◌}
+use mathlib.Core.Path.{◌≡◌, subst}
 use lib.ListN.{take}
-use Rattle.pack_rules.specs.Outcome.{Outcome, number_of, returned, value_of}
-
--- number and value are an outcome's
-pub word-is : (x : Outcome) (word number value : ℕ) → word ≡ number * 4294967296 + value → number ≡ number_of x → value ≡ value_of x → word ≡ returned x
-unfolding returned
-word-is x word number value w e f = w ∙ λ i. e i * 4294967296 + f i
 
 -- a word below 2^32 has the number 0, and is the value
 pub word_small : (P : List ℕ → Type 0) (output : List ℕ) (word number value : ℕ) → word ≡ number * 4294967296 + value → (number ≡ 0 → P (take value output)) → word < 4294967296 → P (take word output)

@@ -25,3 +25,4 @@ pub mod DistinctLaws
 pub mod TableLaws
 pub mod Written
 pub mod Finished
+pub mod Words

@@ -2,12 +2,12 @@
 ghost use Rattle.std.specs.Prelude.{◌≡◌, ◌<◌, ◌≤◌, length};
 ghost use Rattle.wire.specs.Code.{skip};
 ghost use Rattle.pack_rules.specs.Read.{pack_at, read};
-ghost use Rattle.pack_rules.specs.Outcome.{check, number_of, value_of};
+ghost use Rattle.pack_rules.specs.Outcome.{check, number_of, returned, value_of};
 ghost use Rattle.pack.specs.Verdict.{verdict_of, judged_of, name_count, number_for, offset_of, record_of, sections_of, value_for};
 ghost use Rattle.pack_rules.specs.Limits.{max_bytes};
 
 use crate::cursor::opening;
-use crate::finish::Outcome;
+use crate::finish::{Outcome, returned_word};
 use crate::record::Pack;
 use crate::sections::{then_activations, then_enums, then_machines, then_nodes, then_origins};
 use wire::answer::{Read, Skipped};
@@ -152,4 +152,11 @@ pub fn check_pack(pack: &[u8]) -> Outcome
     let opened = read_pack(pack);
     let v = opened.verdict;
     answer(v, pack.len())
+}
+
+// The same with number and value in one word.
+pub fn ol_pack_check(pack: &[u8]) -> u64
+    ensures { result ≡ returned (check pack.now) }
+{
+    returned_word(check_pack(pack))
 }

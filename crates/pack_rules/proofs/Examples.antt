@@ -1,6 +1,6 @@
 -- Small packs with the harness's answers: the check at every kind of field, what packs are read as and written from, and what the
 -- answers leave in a caller's buffers. This page is made by `harness/tables pack`.
-use mathlib.Core.List.{List, [], ◌∷◌, ◌++◌}
+use mathlib.Core.List.{List, [], ◌∷◌}
 use mathlib.Core.Bool.{true, false}
 use mathlib.Core.Option.{none, some}
 use mathlib.Core.Path.{◌≡◌, refl}

@@ -12,7 +12,7 @@ use pack::finish::Outcome;
 // equations that it wrote for a machine is a run of the plain chart.
 pub fn lower_state_machines(pack: &[u8], output: &mut [u8], report: &mut [u8]) -> Outcome
     ensures answers { Answers (lower_machines pack.now (length output.old) (length report.old)) result.number result.value output.old output.new report.old report.new }
-    ensures FitsClock { (result.number ≤ 9) × (result.value < 4294967296) }
+    ensures fits { (result.number ≤ 9) × (result.value < 4294967296) }
     ensures runs { result.number ≡ 0 → MachinesLowered ℕ pack.now (take result.value output.new) }
 {
     machines::call::lower_state_machines(pack, output, report)
@@ -23,7 +23,7 @@ pub fn lower_state_machines(pack: &[u8], output: &mut [u8], report: &mut [u8]) -
 // their own cycles (docs/RUNS.md), what that scope gives over just the cycles in which it is chosen.
 pub fn lower_activations(pack: &[u8], output: &mut [u8], report: &mut [u8]) -> Outcome
     ensures answers { Answers (lower_activations pack.now (length output.old) (length report.old)) result.number result.value output.old output.new report.old report.new }
-    ensures FitsClock { (result.number ≤ 9) × (result.value < 4294967296) }
+    ensures fits { (result.number ≤ 9) × (result.value < 4294967296) }
     ensures runs { result.number ≡ 0 → ActivationsLowered ℕ pack.now (take result.value output.new) }
     ensures scopes { result.number ≡ 0 → ScopesLowered ℕ pack.now (take result.value output.new) }
 {

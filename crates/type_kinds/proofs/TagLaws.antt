@@ -10,7 +10,6 @@ use Rattle.type_kinds.specs.declared.TypeKind.{TypeKind}
 use Rattle.type_kinds.specs.declared.TypeKind.TheVariants as kind
 use Rattle.type_kinds.specs.declared.DecodedType.{DecodedType}
 use Rattle.type_kinds.specs.declared.DecodedType.TheVariants as decoded
-use Rattle.type_kinds.specs.declared.LiteralKind.{LiteralKind}
 use Rattle.type_kinds.specs.declared.LiteralKind.TheVariants as literal
 use Rattle.type_kinds.specs.declared.DefaultKind.{DefaultKind}
 use Rattle.type_kinds.specs.declared.DefaultKind.TheVariants as default

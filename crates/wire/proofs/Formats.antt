@@ -1,5 +1,5 @@
 -- To write and then to read gives the value back, and what reads as a value is what is written of it: formats, and how they are put together.
-use Prim.Native.Nat.{ℕ, ◌+◌, ◌*◌, ◌/◌, ◌%◌, ◌≤◌, ◌<◌, ◌-◌, zero, suc}
+use Prim.Native.Nat.{ℕ, ◌+◌, ◌*◌, ◌/◌, ◌%◌, ◌≤◌, ◌<◌, zero, suc}
 use native.Mathlib.Omega.{arith}
 use native.Mathlib.Nat.{mul_assoc, zero-add, suc-add}
 use native.Mathlib.Numerals.{add-one}

@@ -2,7 +2,8 @@ use Prim.Native.Nat.{ℕ}
 use native.Mathlib.Omega.{arith}
 use Rattle.runs.specs.Claim.{ActivationsLowered}
 use Rattle.runs.specs.OwnCycles.{ScopesLowered}
-use Rattle.ol_lower.proofs.Words.{word-is, word_small}
+use Rattle.pack.proofs.Words.{word-is}
+use Rattle.ol_lower.proofs.Words.{word_small}
 use Rattle.ol_lower.proofs.ol_lower_activations.Goals as goal
 
 pub returns : goal.returns

@@ -1,7 +1,8 @@
 use Prim.Native.Nat.{ℕ}
 use native.Mathlib.Omega.{arith}
 use Rattle.runs.specs.Claim.{MachinesLowered}
-use Rattle.ol_lower.proofs.Words.{word-is, word_small}
+use Rattle.pack.proofs.Words.{word-is}
+use Rattle.ol_lower.proofs.Words.{word_small}
 use Rattle.ol_lower.proofs.ol_lower_state_machines.Goals as goal
 
 pub returns : goal.returns

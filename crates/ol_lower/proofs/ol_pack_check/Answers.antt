@@ -1,4 +1,4 @@
-use Rattle.ol_lower.proofs.Words.{word-is}
+use Rattle.pack.proofs.Words.{word-is}
 use Rattle.ol_lower.proofs.ol_pack_check.Goals as goal
 
 pub returns : goal.returns

@@ -10,10 +10,10 @@ loop-at-init c = (omega arith, omega arith, rw (zero-add, sub-zero))
 
 pub loop-at-preserved : goal.loop-at-preserved
 loop-at-preserved c = let d = c in (
-      omega arith,
-      omega arith,
-      count_turn d.args.t.now _ _ _ c.loop-at-test.true d.loop-at.invariant.1 c.name_end-at.ensures ∙ d.loop-at.invariant.2,
-    )
+  omega arith,
+  omega arith,
+  count_turn d.args.t.now _ _ _ c.loop-at-test.true d.loop-at.invariant.1 c.name_end-at.ensures ∙ d.loop-at.invariant.2,
+)
 
 pub returns : goal.returns
 returns c = count-done _ _ _ _ c.loop-at-test.false ∙ c.loop-at.invariant.2

@@ -26,8 +26,7 @@ loop-n-smaller c = let g : type_more c.args.names c.args.pack.now c.loop-n.p ≡
     omega (arith, (type_moves _).on _ _ _ _ g, (type_moves _).inside _ _ _ _ g)
 
 pub loop-n-preserved : goal.loop-n-preserved
-loop-n-preserved c = let g : type_more c.args.names c.args.pack.now c.loop-n.p ≡ value c.in-Is.value c.in-Is.next = found _ _ _ _ c.in-Is.is c.type_head-r.ensures in
-    (
+loop-n-preserved c = let g : type_more c.args.names c.args.pack.now c.loop-n.p ≡ value c.in-Is.value c.in-Is.next = found _ _ _ _ c.in-Is.is c.type_head-r.ensures in (
   pending-went _ (type_moves _) _ _ _ _ _ _ c.loop-n-test.true g c.loop-n.invariant.0,
   omega (arith, type-small _ _ _ _ _ g, (type_moves _).on _ _ _ _ g, c.loop-n.invariant.1),
 )

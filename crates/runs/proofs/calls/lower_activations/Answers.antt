@@ -5,4 +5,4 @@ use Rattle.runs.proofs.OwnDemand.{scope-bytes-run}
 use Rattle.runs.proofs.calls.lower_activations.Goals as goal
 
 pub returns : goal.returns
-returns c = record { answers = c.lower_activations.ensures.answers; FitsClock = c.lower_activations.ensures.fits; runs = (λ e. activation-bytes-run ℕ c.args.pack.now _ _ _ _ _ _ (λ i. omega (arith, c.type_inv.pack i)) c.lower_activations.ensures.answers e); scopes = λ e. scope-bytes-run ℕ c.args.pack.now _ _ _ _ _ _ (λ i. omega (arith, c.type_inv.pack i)) c.lower_activations.ensures.answers e }
+returns c = record { answers = c.lower_activations.ensures.answers; fits = c.lower_activations.ensures.fits; runs = (λ e. activation-bytes-run ℕ c.args.pack.now _ _ _ _ _ _ (λ i. omega (arith, c.type_inv.pack i)) c.lower_activations.ensures.answers e); scopes = λ e. scope-bytes-run ℕ c.args.pack.now _ _ _ _ _ _ (λ i. omega (arith, c.type_inv.pack i)) c.lower_activations.ensures.answers e }

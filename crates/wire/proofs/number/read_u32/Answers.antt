@@ -17,10 +17,10 @@ overflow_mul-result c = omega (arith, u16-small _ _ _ _ (λ i. (c.type_inv.s i).
 
 pub overflow_add-result : goal.overflow_add-result
 overflow_add-result c = omega (
-      arith,
-      u16-small _ _ _ _ (λ i. (c.type_inv.s i).fits) (found _ _ _ _ c.in-Is-t.is c.read_u16-t.ensures),
-      u16-small _ _ _ _ (λ i. (c.type_inv.s i).fits) (found _ _ _ _ c.in-Is.is c.read_u16-r.ensures),
-    )
+  arith,
+  u16-small _ _ _ _ (λ i. (c.type_inv.s i).fits) (found _ _ _ _ c.in-Is-t.is c.read_u16-t.ensures),
+  u16-small _ _ _ _ (λ i. (c.type_inv.s i).fits) (found _ _ _ _ c.in-Is.is c.read_u16-r.ensures),
+)
 
 pub returns : goal.returns
 unfolding read_of

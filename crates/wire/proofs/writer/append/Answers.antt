@@ -1,4 +1,3 @@
-use Prim.Native.Nat.{◌-◌}
 use native.Mathlib.Omega.{arith}
 use mathlib.Core.Path.{◌≡◌, refl}
 use lib.ListN.{length, length-set}
@@ -11,11 +10,11 @@ loop-j-init c = (omega arith, paste-zero _ c.args.at c.args.src.now, omega arith
 
 pub loop-j-preserved : goal.loop-j-preserved
 loop-j-preserved c = let d = c in (
-      omega arith,
-      paste-turn _ _ _ _ _ _ d.loop-j.invariant.0 d.loop-j.invariant.1 (omega arith) c.loop-j-test.true,
-      omega arith,
-      simp length-set d.loop-j.invariant.3,
-    )
+  omega arith,
+  paste-turn _ _ _ _ _ _ d.loop-j.invariant.0 d.loop-j.invariant.1 (omega arith) c.loop-j-test.true,
+  omega arith,
+  simp length-set d.loop-j.invariant.3,
+)
 
 pub shape_of-dst : goal.shape_of-dst
 shape_of-dst c = c.loop-j.invariant.3
