@@ -1,5 +1,5 @@
 -- No offset that reading a pack answers is past its end.
-use Rattle.std.proofs.Common.{ℕ, zero, suc, ◌+◌, ◌≤◌, not, ◌||◌, eqb, ltb, List, [], ◌∷◌, ◌++◌, length, get_or}
+use Rattle.std.proofs.Common.{ℕ, zero, suc, ◌≤◌, not, ◌||◌, eqb, ltb, List, [], ◌∷◌, ◌++◌, length, get_or}
 use Rattle.wire.specs.Answer.{Answer, illegal, index, u16}
 use Rattle.wire.proofs.Bounds.{Within, offset_in, within-below, within-bind, within-byte, within-cond, within-counted, within-guard, within-index, within-many, within-map, within-trees, within-u16, within-u32, within-u64, within-value}
 use Rattle.pack_rules.specs.Names.{Name, member}

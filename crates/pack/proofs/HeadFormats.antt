@@ -1,5 +1,5 @@
 -- The heads of expressions: each tag's fields, written and read.
-use Rattle.std.proofs.Common.{◌≡◌, ℕ, ◌+◌, ◌-◌, ◌<◌, ◌≤◌, Bool, true, false, cond, eqb, List, [], ◌∷◌, ◌++◌, length, drop, sym, refl, ap, ◌∙◌, subst, arith, eqb-true}
+use Rattle.std.proofs.Common.{◌≡◌, ℕ, ◌<◌, ◌≤◌, Bool, true, false, cond, eqb, List, [], ◌∷◌, ◌++◌, length, drop, sym, refl, ap, ◌∙◌, subst, arith, eqb-true}
 use borrow.Author.Tests.{eqb-false}
 use Rattle.pack_rules.specs.Syntax.{Lit, l_bool, l_char, l_float, l_int}
 use Rattle.wire.specs.Answer.{Answer, below, byte, counted, illegal, index, many, map_a, u16, u64, value}

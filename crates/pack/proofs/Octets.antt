@@ -1,5 +1,5 @@
 -- What is written of a legal package is bytes.
-use Rattle.std.proofs.Common.{ℕ, zero, suc, ◌+◌, ◌-◌, ◌/◌, ◌<◌, Bool, List, [], ◌∷◌, ◌++◌, length, sym, subst, arith}
+use Rattle.std.proofs.Common.{ℕ, zero, suc, ◌-◌, ◌/◌, ◌<◌, Bool, List, [], ◌∷◌, ◌++◌, length, sym, subst, arith}
 use mathlib.Core.Option.{Option, none, some}
 use Rattle.pack_rules.specs.Limits.{max_level}
 use Rattle.pack_rules.specs.Names.{Name}

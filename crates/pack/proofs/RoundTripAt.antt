@@ -11,7 +11,7 @@ use Rattle.wire.specs.Preorder as Preorder
 use Rattle.wire.specs.Bytes as Bytes
 use Rattle.pack_rules.specs.Names.{Name}
 use Rattle.pack_rules.specs.Syntax.{Package, StateDefs, def_cons, def_nil, e_binary, e_cast, e_const, e_if, e_iterate, e_pre, e_struct, e_var, e_when, i_fold, k_operator, l_char, l_int, o_shr, of_activation, reg_cons, reg_nil, t_array, t_char, t_named, x_cons, x_nil}
-use Rattle.wire.specs.Lists.{All, Bytes}
+use Rattle.wire.specs.Lists.{All}
 use Rattle.pack_rules.specs.Legal.{Deeper, FormedRegions, FormedStates, Fresh, Legal, Ready, completed, new_names, with_names}
 use Rattle.pack.proofs.RoundTrip.{read_back, read-back-completed, read-legal}
 use Rattle.pack.proofs.WrittenBack.{all_small, legal-ready, small_bytes}

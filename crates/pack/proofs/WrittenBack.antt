@@ -1,5 +1,5 @@
 -- What the lowerings take from the round trip: what is written reads back as the package with its table completed.
-use Rattle.std.proofs.Common.{◌≡◌, ℕ, zero, suc, ◌+◌, ◌<◌, Bool, true, false, cond, ◌&&◌, ltb, leb, List, [], ◌∷◌, ◌++◌, length, sym, refl, ap, ◌∙◌, subst, append-nil, arith, ltb-false, ltb-true, leb-true}
+use Rattle.std.proofs.Common.{◌≡◌, ℕ, zero, suc, ◌<◌, Bool, true, false, cond, ◌&&◌, ltb, leb, List, [], ◌∷◌, ◌++◌, length, sym, refl, ap, ◌∙◌, subst, append-nil, arith, ltb-false, ltb-true, leb-true}
 use Rattle.pack_rules.specs.Limits.{max_bytes}
 use Rattle.pack_rules.specs.Names.{Name, eq_name}
 use Rattle.pack_rules.specs.Syntax.{Package}

@@ -1,5 +1,5 @@
 use borrow.Enum.Refused.{opened}
-use Rattle.std.proofs.Common.{◌≡◌, ◌-◌, sym, ◌∙◌, arith}
+use Rattle.std.proofs.Common.{◌≡◌, sym, ◌∙◌, arith}
 use Rattle.wire.specs.Answer.{value}
 use Rattle.wire.proofs.Steps.{found}
 use Rattle.pack.specs.Heads.{expr_more}

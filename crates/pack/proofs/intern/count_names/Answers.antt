@@ -1,4 +1,4 @@
-use Rattle.std.proofs.Common.{◌-◌, ◌∙◌, zero-add, arith}
+use Rattle.std.proofs.Common.{◌∙◌, zero-add, arith}
 use native.Mathlib.Nat.{sub-zero}
 use Rattle.pack.specs.Intern.{table}
 use Rattle.pack.proofs.Interns.{count_turn, count-done}

@@ -1,4 +1,4 @@
-use Rattle.std.proofs.Common.{◌-◌, sym, ◌∙◌, arith}
+use Rattle.std.proofs.Common.{sym, ◌∙◌, arith}
 use native.Mathlib.Nat.{sub-zero}
 use Rattle.pack.specs.Intern.{found_of, table}
 use Rattle.pack.proofs.Interns.{found_here, found-past, found_none}

@@ -1,4 +1,4 @@
-use Rattle.std.proofs.Common.{◌-◌, sym, refl, ap, ◌∙◌, arith, length-take}
+use Rattle.std.proofs.Common.{sym, refl, ap, ◌∙◌, arith, length-take}
 use Rattle.pack.specs.Intern.{put_entries}
 use Rattle.pack.proofs.Interns.{put-entries-turn, put-entries-done}
 use Rattle.pack.proofs.intern.put_entries.Goals as goal

@@ -1,4 +1,4 @@
-use Rattle.std.proofs.Common.{◌-◌, sym, refl, ◌∙◌, arith, rules}
+use Rattle.std.proofs.Common.{sym, refl, ◌∙◌, arith, rules}
 use Rattle.pack.proofs.Interns.{eq_name-length, eq_name-nil, eq_name-more, eq_name-other}
 use Rattle.pack.proofs.intern.same.Goals as goal
 

@@ -1,4 +1,4 @@
-use Rattle.std.proofs.Common.{◌-◌, arith}
+use Rattle.std.proofs.Common.{arith}
 use Rattle.pack_rules.specs.Read.{name_bytes}
 use Rattle.pack.proofs.NameLaws.{bytes-all, bytes-block, bytes-last}
 use Rattle.pack.proofs.names.by_blocks.Goals as goal

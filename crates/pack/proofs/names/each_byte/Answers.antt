@@ -1,4 +1,4 @@
-use Rattle.std.proofs.Common.{◌-◌, refl, arith, rules}
+use Rattle.std.proofs.Common.{refl, arith, rules}
 use Rattle.pack.proofs.NameLaws.{bytes-done, bytes-more}
 use Rattle.pack.proofs.names.each_byte.Goals as goal
 

@@ -1,5 +1,5 @@
 use borrow.Enum.Refused.{opened}
-use Rattle.std.proofs.Common.{◌-◌, sym, refl, ◌∙◌, arith}
+use Rattle.std.proofs.Common.{sym, refl, ◌∙◌, arith}
 use Rattle.wire.proofs.Steps.{stopped}
 use Rattle.pack.proofs.NameLaws.{name-value, names-next, reading-done, reading-more, reading-none, reading-repeated, skip-to}
 use Rattle.pack.proofs.names.read_names.Goals as goal

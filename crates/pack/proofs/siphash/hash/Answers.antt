@@ -1,4 +1,4 @@
-use Rattle.std.proofs.Common.{◌-◌, ◌∙◌, arith}
+use Rattle.std.proofs.Common.{◌∙◌, arith}
 use Rattle.pack.proofs.SiphashLaws.{hash-begun, hash-turn, hash-done}
 use Rattle.pack.proofs.siphash.hash.Goals as goal
 

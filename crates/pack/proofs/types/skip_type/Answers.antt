@@ -1,7 +1,7 @@
 -- The invariant: what is pending from here is what was pending at the start. Each head takes a byte and adds at most one type.
 -- Assumes nothing.
 use borrow.Enum.Refused.{opened}
-use Rattle.std.proofs.Common.{◌≡◌, ◌-◌, sym, refl, ap, ◌∙◌, arith}
+use Rattle.std.proofs.Common.{◌≡◌, sym, refl, ap, ◌∙◌, arith}
 use Rattle.wire.specs.Answer.{value}
 use Rattle.wire.proofs.Preorders.{pending, pending-none}
 use Rattle.pack.specs.Heads.{type_more}
