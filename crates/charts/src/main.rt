@@ -3,13 +3,15 @@
 // activations the returned word (8 bytes, lowest first) and what the output and the report begin with.
 #![tactic(auto)]
 
-ghost use Rattle.std.specs.Prelude.{◌≤◌, ◌<◌, length};
+ghost use Rattle.std.specs.Prelude.{◌≤◌, ◌<◌, length, IfOk};
+ghost use Rattle.std.specs.Io.{ReadsAtMost};
 ghost use Rattle.charts.specs.Parts.{Onward};
 
 use machines::checked_read::read_or_zero;
 use machines::layout::between;
 use ol_lower::{ol_lower_activations, ol_lower_state_machines, ol_pack_check};
 use pack::record::Pack;
+use std::io;
 use wire::answer::Read;
 use wire::number::read_u32;
 
@@ -92,35 +94,48 @@ fn call(which: usize, pack: &[u8], output: &mut [u8], report: &mut [u8]) -> u64 
 }
 
 // Says which call it was.
-fn print_call(which: usize) {
+fn print_call(rt: &impl Print, which: usize) -> io::Result<()> {
     if which == 0 {
-        io::write_all(1, b", check");
-        return;
+        return print!(rt; ", check");
     }
     if which == 1 {
-        io::write_all(1, b", machines");
-        return;
+        return print!(rt; ", machines");
     }
-    io::write_all(1, b", activations");
+    print!(rt; ", activations")
 }
 
 // Says how a call differs.
-fn print_difference(which: usize, word: u64, output: bool, report: bool) {
-    print_call(which);
-    io::write_all(1, b" returned ");
-    io::print_decimal(1, word / 0x1_0000_0000);
-    io::write_all(1, b" ");
-    io::print_decimal(1, word % 0x1_0000_0000);
+fn print_difference(
+    rt: &impl Print,
+    which: usize,
+    word: u64,
+    output: bool,
+    report: bool,
+) -> io::Result<()> {
+    print_call(rt, which)?;
+    print!(rt;
+        " returned {} {}",
+        word / 0x1_0000_0000,
+        word % 0x1_0000_0000
+    )?;
     if !output {
-        io::write_all(1, b", its output differs");
+        print!(rt; ", its output differs")?;
     }
     if !report {
-        io::write_all(1, b", its report differs");
+        print!(rt; ", its report differs")?;
     }
+    Ok(())
 }
 
 // Whether a call on a pack returns this word and leaves these beginnings in its buffers.
-fn agrees(which: usize, pack: &[u8], stored: &[u8], output: &[u8], report: &[u8]) -> bool {
+fn agrees(
+    rt: &impl Print,
+    which: usize,
+    pack: &[u8],
+    stored: &[u8],
+    output: &[u8],
+    report: &[u8],
+) -> io::Result<bool> {
     let mut o = [FILL; Pack::BYTES];
     let mut r = [FILL; Pack::BYTES];
     let word = call(which, pack, &mut o, &mut r);
@@ -128,16 +143,16 @@ fn agrees(which: usize, pack: &[u8], stored: &[u8], output: &[u8], report: &[u8]
     let output_holds = holds(&o, output);
     let report_holds = holds(&r, report);
     if returned && output_holds && report_holds {
-        return true;
+        return Ok(true);
     }
-    print_difference(which, word, output_holds, report_holds);
-    false
+    print_difference(rt, which, word, output_holds, report_holds)?;
+    Ok(false)
 }
 
 // One call on a pack, whose answer stands at `at`.
-fn try_call(s: &[u8], pack: &[u8], which: usize, at: usize) -> Tried
+fn try_call(rt: &impl Print, s: &[u8], pack: &[u8], which: usize, at: usize) -> io::Result<Tried>
     requires { at ≤ length s.now }
-    ensures { (at ≤ result.next) × (result.next ≤ length s.now) }
+    ensures { IfOk result (λ t. (at ≤ t.next) × (t.next ≤ length s.now)) }
 {
     let word = part_at(s, at);
     let output = part_at(s, word.to);
@@ -145,57 +160,74 @@ fn try_call(s: &[u8], pack: &[u8], which: usize, at: usize) -> Tried
     let w = between(s, word.from, word.to);
     let o = between(s, output.from, output.to);
     let r = between(s, report.from, report.to);
-    Tried {
+    Ok(Tried {
         next: report.to,
-        agrees: agrees(which, pack, w, o, r),
-    }
+        agrees: agrees(rt, which, pack, w, o, r)?,
+    })
 }
 
 // The chart at `at`, in one line.
-fn try_chart(s: &[u8], at: usize) -> Tried
+fn try_chart(rt: &impl Print, s: &[u8], at: usize) -> io::Result<Tried>
     requires { at < length s.now }
-    ensures { (at < result.next) × (result.next ≤ length s.now) }
+    ensures { IfOk result (λ t. (at < t.next) × (t.next ≤ length s.now)) }
 {
     let name = part_at(s, at);
     let pack = part_at(s, name.to);
     let p = between(s, pack.from, pack.to);
-    io::write_all(1, between(s, name.from, name.to));
-    let a = try_call(s, p, 0, pack.to);
-    let b = try_call(s, p, 1, a.next);
-    let c = try_call(s, p, 2, b.next);
+    rt.write_all(between(s, name.from, name.to))?;
+    let a = try_call(rt, s, p, 0, pack.to)?;
+    let b = try_call(rt, s, p, 1, a.next)?;
+    let c = try_call(rt, s, p, 2, b.next)?;
     let agrees = a.agrees && b.agrees && c.agrees;
     if agrees {
-        io::write_all(1, b" ok");
+        print!(rt; " ok")?;
     }
-    io::write_all(1, b"\n");
-    Tried {
+    println!(rt)?;
+    Ok(Tried {
         next: c.next,
         agrees,
-    }
+    })
 }
 
 // All charts, and how many there are.
-fn try_all(s: &[u8]) {
-    let mut tried = 0;
-    let mut different = 0;
+fn try_all(rt: &impl Print, s: &[u8]) -> io::Result<()> {
+    let mut tried = 0u64;
+    let mut different = 0u64;
     let mut at = 0;
     while at < s.len() {
-        let t = try_chart(s, at);
+        let t = try_chart(rt, s, at)?;
         at = t.next;
         tried += 1;
         if !t.agrees {
             different += 1;
         }
     }
-    io::print_decimal(1, tried);
-    io::write_all(1, b" charts, ");
-    io::print_decimal(1, different);
-    io::write_all(1, b" different\n");
+    println!(rt; "{tried} charts, {different} different")
+}
+
+// Reads until the buffer is full or the input ends, and returns how many bytes it put at the buffer's start.
+fn read_full(input: &mut impl io::Read, buf: &mut [u8]) -> io::Result<usize>
+    ensures { ReadsAtMost result buf.new }
+{
+    let mut done = 0;
+    while done < buf.len() {
+        let n = input.read(&mut buf[done..])?;
+        if n == 0 {
+            break;
+        }
+        done += n;
+    }
+    Ok(done)
+}
+
+// Room for the input. A function of its own makes it, as the proof of `main` would count so many bytes one by one.
+fn input_room() -> [u8; 524288] {
+    [0; 524288]
 }
 
 // Tries all charts of standard input.
-fn main() {
-    let mut input = [0u8; 524288];
-    let n = io::read_full(0, &mut input);
-    try_all(&input[..n]);
+fn main(rt: HostRuntime) -> io::Result<()> {
+    let mut input = input_room();
+    let n = read_full(&mut rt.stdin(), &mut input)?;
+    try_all(&rt, &input[..n])
 }

@@ -3,6 +3,7 @@
 #![tactic(auto)]
 
 ghost use Rattle.std.specs.Prelude.{◌≡◌};
+ghost use Rattle.std.specs.Io.{ReadsAtMost};
 ghost use Rattle.pack_rules.specs.Limits.{max_bytes};
 ghost use Rattle.machine_rules.specs.Call.{lower_machines};
 ghost use Rattle.activation_rules.specs.Call.{lower_activations};
@@ -12,6 +13,7 @@ use activations::call::lower_activations;
 use machines::call::lower_state_machines;
 use pack::finish::Outcome;
 use pack::record::Pack;
+use std::io;
 
 // The calls that were made, with the number and the value that each returned.
 #[derive(Clone, Copy)]
@@ -21,13 +23,8 @@ enum Calls {
 }
 
 // Writes a call's line.
-fn print_line(call: &[u8], answer: Outcome) {
-    io::write_all(1, call);
-    io::write_all(1, b" ");
-    io::print_decimal(1, answer.number);
-    io::write_all(1, b" ");
-    io::print_decimal(1, answer.value);
-    io::write_all(1, b"\n");
+fn print_line(rt: &impl Print, call: &str, answer: Outcome) -> io::Result<()> {
+    println!(rt; "{call} {} {}", answer.number, answer.value)
 }
 
 // The second call, on what the first one wrote.
@@ -55,19 +52,34 @@ fn lower_both(pack: &[u8]) -> Calls
 }
 
 // Writes a line for each call. What is written no contract can say.
-fn print_calls(calls: Calls) {
+fn print_calls(rt: &impl Print, calls: Calls) -> io::Result<()> {
     match calls {
-        Calls::First(first) => print_line(b"machines", first),
+        Calls::First(first) => print_line(rt, "machines", first),
         Calls::Both(first, second) => {
-            print_line(b"machines", first);
-            print_line(b"activations", second);
+            print_line(rt, "machines", first)?;
+            print_line(rt, "activations", second)
         }
     }
 }
 
+// Reads until the buffer is full or the input ends, and returns how many bytes it put at the buffer's start.
+fn read_full(input: &mut impl io::Read, buf: &mut [u8]) -> io::Result<usize>
+    ensures { ReadsAtMost result buf.new }
+{
+    let mut done = 0;
+    while done < buf.len() {
+        let n = input.read(&mut buf[done..])?;
+        if n == 0 {
+            break;
+        }
+        done += n;
+    }
+    Ok(done)
+}
+
 // One byte more is read than a pack may have: a longer pack is seen to be longer, and what comes after is dropped.
-fn main() {
+fn main(rt: HostRuntime) -> io::Result<()> {
     let mut input = [0u8; Pack::BYTES + 1];
-    let n = io::read_full(0, &mut input);
-    print_calls(lower_both(&input[..n]));
+    let n = read_full(&mut rt.stdin(), &mut input)?;
+    print_calls(&rt, lower_both(&input[..n]))
 }

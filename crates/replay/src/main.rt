@@ -3,11 +3,13 @@
 #![tactic(auto)]
 
 ghost use Rattle.std.specs.Prelude.{◌+◌, ◌<◌, length};
+ghost use Rattle.std.specs.Io.{ReadsAtMost};
 ghost use Rattle.replay.specs.Tally.{Inside, Onward};
 
 use pack::check::check_pack;
 use pack::finish::Outcome;
 use pack::record::Pack;
+use std::io;
 use wire::answer::Read;
 use wire::number::read_u32;
 
@@ -106,13 +108,25 @@ fn replay(s: &[u8]) -> Tally {
     t
 }
 
+// Reads until the buffer is full or the input ends, and returns how many bytes it put at the buffer's start.
+fn read_full(input: &mut impl io::Read, buf: &mut [u8]) -> io::Result<usize>
+    ensures { ReadsAtMost result buf.new }
+{
+    let mut done = 0;
+    while done < buf.len() {
+        let n = input.read(&mut buf[done..])?;
+        if n == 0 {
+            break;
+        }
+        done += n;
+    }
+    Ok(done)
+}
+
 // Replays the records of standard input, and prints how many were compared and how many differ.
-fn main() {
+fn main(rt: HostRuntime) -> io::Result<()> {
     let mut buf = [0u8; Pack::BYTES];
-    let n = io::read_full(0, &mut buf);
+    let n = read_full(&mut rt.stdin(), &mut buf)?;
     let t = replay(&buf[..n]);
-    io::print_decimal(1, t.compared as u64);
-    io::write_all(1, b" compared, ");
-    io::print_decimal(1, t.different as u64);
-    io::write_all(1, b" different\n");
+    println!(rt; "{} compared, {} different", t.compared, t.different)
 }
