@@ -13,7 +13,7 @@ use Rattle.pack_rules.specs.Syntax.{Package}
 use Rattle.pack_rules.specs.Read.{Reading, bytes_after, deep_at, ends_early, illegal_at, read, too_long, whole}
 use Rattle.pack_rules.specs.Report.{Refusal, report_bytes}
 use Rattle.pack_rules.specs.Write.{encode, package_items, shorts}
-use Rattle.pack_rules.specs.Outcome.{Answers, Gives, Outcome, answers, begins, number_of, on_package, output_of, reported, reports, sized, value_of, writes, written}
+use Rattle.pack_rules.specs.Outcome.{Answers, Outcome, answers, begins, number_of, on_package, output_of, reported, reports, sized, value_of, writes, written}
 use Rattle.pack.specs.declared.finish.Outcome.{Outcome as Returned}
 use Rattle.machine_rules.specs.Machines.{machines_lowered, made_machines}
 use Rattle.machine_rules.specs.Call.{lower_machines, lower_package_machines, report_or_pack}
