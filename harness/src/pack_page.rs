@@ -10,16 +10,16 @@ use std::collections::BTreeSet;
 const HEAD: &str = "\
 -- Small packs with the harness's answers: the check at every kind of field, what packs are read as and written from, and what the
 -- answers leave in a caller's buffers. This page is made by `harness/tables pack`.
-use mathlib.Core.List.{List, [], _∷_, _++_}
+use mathlib.Core.List.{List, [], ◌∷◌, ◌++◌}
 use mathlib.Core.Bool.{true, false}
 use mathlib.Core.Option.{none, some}
-use mathlib.Core.Path.{_≡_, refl}
+use mathlib.Core.Path.{◌≡◌, refl}
 use lib.ListN.{replicate}
-use Rattle·pack_rules·specs.specs.Names.{Name}
-use Rattle·pack_rules·specs.specs.Syntax.{Package, def_cons, def_nil, e_array, e_arrow, e_binary, e_call, e_cast, e_const, e_field, e_if, e_index, e_iterate, e_merge, e_pre, e_struct, e_tuple, e_unary, e_var, e_when, i_fold, i_map, k_function, k_imported, k_operator, l_bool, l_char, l_float, l_int, o_add, o_and, o_bit_and, o_bit_or, o_bit_xor, o_div, o_eq, o_ge, o_gt, o_implies, o_le, o_lt, o_mod, o_mul, o_neg, o_neq, o_not, o_or, o_shl, o_shr, o_sub, o_xor, of_activation, of_machine, reg_cons, reg_nil, t_array, t_bool, t_char, t_float32, t_float64, t_int16, t_int32, t_int64, t_int8, t_named, t_uint16, t_uint32, t_uint64, t_uint8, x_cons, x_nil}
-use Rattle·pack_rules·specs.specs.Report.{Refusal, report_bytes}
-use Rattle·pack_rules·specs.specs.Outcome.{answers, check, reported, sized, written}
-use Rattle·pack_rules·proofs.proofs.Computed.{Call, Chart, Check, Cuts, calls_given, calls_stated, changes_given, changes_stated, checks_given, checks_stated, cuts_given, cuts_stated, packs_given, packs_stated, readings_given, readings_stated}
+use Rattle.pack_rules.specs.Names.{Name}
+use Rattle.pack_rules.specs.Syntax.{Package, def_cons, def_nil, e_array, e_arrow, e_binary, e_call, e_cast, e_const, e_field, e_if, e_index, e_iterate, e_merge, e_pre, e_struct, e_tuple, e_unary, e_var, e_when, i_fold, i_map, k_function, k_imported, k_operator, l_bool, l_char, l_float, l_int, o_add, o_and, o_bit_and, o_bit_or, o_bit_xor, o_div, o_eq, o_ge, o_gt, o_implies, o_le, o_lt, o_mod, o_mul, o_neg, o_neq, o_not, o_or, o_shl, o_shr, o_sub, o_xor, of_activation, of_machine, reg_cons, reg_nil, t_array, t_bool, t_char, t_float32, t_float64, t_int16, t_int32, t_int64, t_int8, t_named, t_uint16, t_uint32, t_uint64, t_uint8, x_cons, x_nil}
+use Rattle.pack_rules.specs.Report.{Refusal, report_bytes}
+use Rattle.pack_rules.specs.Outcome.{answers, check, reported, sized, written}
+use Rattle.pack_rules.proofs.Computed.{Call, Chart, Check, Cuts, calls_given, calls_stated, changes_given, changes_stated, checks_given, checks_stated, cuts_given, cuts_stated, packs_given, packs_stated, readings_given, readings_stated}
 
 -- Names have one letter, by which they are called here.
 ";

@@ -26,6 +26,20 @@ fn field(text: String) -> String {
     }
 }
 
+/// A constructor without arguments: the reference's name of it in small letters, after a letter for what it belongs to.
+fn constructor(of: char, it: &impl std::fmt::Debug) -> String {
+    let mut name = format!("{of}_");
+    let mut before = ' ';
+    for letter in format!("{it:?}").chars() {
+        if letter.is_uppercase() && !before.is_uppercase() && before != ' ' {
+            name.push('_');
+        }
+        name.push(letter.to_ascii_lowercase());
+        before = letter;
+    }
+    name
+}
+
 fn record(fields: &[(&str, String)]) -> String {
     let fields: Vec<String> = fields.iter().map(|(name, value)| format!("{name} = {value}")).collect();
     format!("record {{ {} }}", fields.join("; "))
@@ -54,7 +68,7 @@ pub fn sections(project: &Project) -> Vec<(&'static str, Vec<String>)> {
 fn node(n: &NodeDef) -> String {
     record(&[
         ("name", n.name.clone()),
-        ("kind", format!("k{:?}", n.kind)),
+        ("kind", constructor('k', &n.kind)),
         ("inputs", ports(&n.inputs)),
         ("outputs", ports(&n.outputs)),
         ("locals", locals(&n.locals)),
@@ -147,7 +161,7 @@ fn ty(t: &Type) -> String {
     match t {
         Type::Array { elem, len } => made("t_array", [len.to_string(), ty(elem)]),
         Type::Named { name } => made("t_named", [name.clone()]),
-        plain => format!("t{plain:?}"),
+        plain => constructor('t', plain),
     }
 }
 
@@ -169,8 +183,8 @@ fn expr(e: &Expr) -> String {
     match e {
         Expr::Const { lit } => made("e_const", [literal(lit)]),
         Expr::Var { name } => made("e_var", [name.clone()]),
-        Expr::Unary { op, arg } => made("e_unary", [format!("o{op:?}"), expr(arg)]),
-        Expr::Binary { op, lhs, rhs } => made("e_binary", [format!("o{op:?}"), expr(lhs), expr(rhs)]),
+        Expr::Unary { op, arg } => made("e_unary", [constructor('o', op), expr(arg)]),
+        Expr::Binary { op, lhs, rhs } => made("e_binary", [constructor('o', op), expr(lhs), expr(rhs)]),
         Expr::IfThenElse { cond, then_branch, else_branch } => {
             made("e_if", [expr(cond), expr(then_branch), expr(else_branch)])
         }
@@ -190,7 +204,7 @@ fn expr(e: &Expr) -> String {
         Expr::Merge { clock, on_true, on_false } => made("e_merge", [clock.clone(), expr(on_true), expr(on_false)]),
         Expr::Iterate { kind, node, init, arrays } => {
             let under = init.iter().map(|i| &**i).chain(arrays.iter());
-            made("e_iterate", [format!("i{kind:?}"), node.clone(), init.is_some().to_string(), exprs(under)])
+            made("e_iterate", [constructor('i', kind), node.clone(), init.is_some().to_string(), exprs(under)])
         }
     }
 }
