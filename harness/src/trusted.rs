@@ -6,7 +6,7 @@ use std::fs;
 use std::path::Path;
 
 /// The contracts of this file, and the claims of these names in crates/runs/specs.
-const CONTRACTS: (&str, &str) = ("ol_lower", "lib");
+const CONTRACTS: (&str, &str) = ("ol_lower_c", "lib");
 const CLAIMS: [(&str, &str); 6] = [
     ("Claim", "DemandThree"),
     ("Claim", "DemandDrawn"),
@@ -38,10 +38,10 @@ struct Source {
     aliases: HashMap<String, Module>,
 }
 
-/// `Rattle·pack.specs.Names`, or `Rattle·pack·specs.specs.Names` within the crate itself.
+/// `Rattle.pack.specs.Names`.
 fn module_of(path: &str) -> Option<Module> {
-    let (krate, module) = path.strip_prefix("Rattle·")?.split_once(".specs.")?;
-    Some((krate.trim_end_matches("·specs").to_string(), module.to_string()))
+    let (krate, module) = path.strip_prefix("Rattle.")?.split_once(".specs.")?;
+    Some((krate.to_string(), module.to_string()))
 }
 
 fn import(line: &str, source: &mut Source) {
@@ -204,7 +204,7 @@ fn render(root: &Path, sources: &Sources, reached: &BTreeMap<Module, BTreeSet<us
     let total: usize = reached.values().map(BTreeSet::len).sum();
     let mut out = format!(
         "# What must be believed\n\n\
-         {total} definitions. They are what the contracts of the C functions (crates/ol_lower/src/lib.rt) and the claims about runs \
+         {total} definitions. They are what the contracts of the C functions (crates/ol_lower_c/src/lib.rt) and the claims about runs \
          (crates/runs/specs/Claim, OwnCycles) speak of, and all that these definitions use. Everything else in crates/*/specs is internal: laws tie it to these, and \
          nothing of it has to be believed. Beside them: the prover, and the kit's definitions of lists, numbers, truth values \
          and equality.\n\n\

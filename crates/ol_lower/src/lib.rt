@@ -1,4 +1,4 @@
-// The C interface, and nothing else: an archive exports only the functions of its own crate. Every call returns one word, the
+// The three calls of the C interface, as a library for Rattle; the crate ol_lower_c exports them. Every call returns one word, the
 // number times 2^32 plus the value. So a word below 2^32 has the number 0, and is the value.
 #![tactic(auto)]
 
@@ -14,8 +14,7 @@ use pack::finish::returned_word;
 use runs::calls::{lower_activations, lower_state_machines};
 
 // Checks a pack.
-#[unsafe(no_mangle)]
-pub extern "C" fn ol_pack_check(pack: &[u8]) -> u64
+pub fn ol_pack_check(pack: &[u8]) -> u64
     ensures { result ≡ returned (check pack.now) }
 {
     returned_word(check_pack(pack))
@@ -23,8 +22,7 @@ pub extern "C" fn ol_pack_check(pack: &[u8]) -> u64
 
 // Lowers the machines of a pack. Where the number is 0, every run of the equations that it wrote for a machine is a run of the
 // plain chart.
-#[unsafe(no_mangle)]
-pub extern "C" fn ol_lower_state_machines(pack: &[u8], output: &mut [u8], report: &mut [u8]) -> u64
+pub fn ol_lower_state_machines(pack: &[u8], output: &mut [u8], report: &mut [u8]) -> u64
     ensures word { result ≡ returned (lower_machines pack.now (length output.old) (length report.old)) }
     ensures output { output.new ≡ output_of (lower_machines pack.now (length output.old) (length report.old)) output.old }
     ensures report { report.new ≡ report_of (lower_machines pack.now (length output.old) (length report.old)) report.old }
@@ -36,8 +34,7 @@ pub extern "C" fn ol_lower_state_machines(pack: &[u8], output: &mut [u8], report
 // Lowers the activations of a pack. Where the number is 0, every run of the equations that it wrote for an activation gives its
 // outputs what the chosen scope gives; and, under the premises of scopes on their own cycles (docs/RUNS.md), what that scope gives
 // over just the cycles in which it is chosen.
-#[unsafe(no_mangle)]
-pub extern "C" fn ol_lower_activations(pack: &[u8], output: &mut [u8], report: &mut [u8]) -> u64
+pub fn ol_lower_activations(pack: &[u8], output: &mut [u8], report: &mut [u8]) -> u64
     ensures word { result ≡ returned (lower_activations pack.now (length output.old) (length report.old)) }
     ensures output { output.new ≡ output_of (lower_activations pack.now (length output.old) (length report.old)) output.old }
     ensures report { report.new ≡ report_of (lower_activations pack.now (length output.old) (length report.old)) report.old }
