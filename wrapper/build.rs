@@ -1,4 +1,4 @@
-//! Links the static library that `rt staticlib ol_lower` writes.
+//! Links the static library that harness/library builds.
 
 use std::{env, path::PathBuf};
 

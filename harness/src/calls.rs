@@ -93,4 +93,4 @@ pub fn activations(function: LowerFn) -> Call {
     Call { name: "activations", function: Function::Lower(function), expected: crate::activations::expected }
 }
 
-pub const ABSENT: &str = "no call is linked: run `rt staticlib` on the crate that OL_LIBRARY names (ol_lower) first";
+pub const ABSENT: &str = "no call is linked: run harness/library first (OL_LIBRARY names the library, ol_lower)";

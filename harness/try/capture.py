@@ -1,5 +1,5 @@
 #!/usr/bin/env python3
-"""capture.py CRATE FOLDER: runs `rt try CRATE` and keeps the programs that it makes on the way.
+"""capture.py CRATE FOLDER: runs `rt try` in the crate's folder, with standard input as given, and keeps the programs that it makes on the way.
 
 `rt try` runs a program that is not proved and throws its executables away; here they are linked into FOLDER as they
 appear, so that they can be run on many packs."""
@@ -32,7 +32,7 @@ def main():
     os.makedirs(folder, exist_ok=True)
     seen = set()
     with tempfile.TemporaryDirectory(dir=os.path.dirname(os.path.abspath(folder))) as tmp:
-        run = subprocess.Popen(["rt", "try", crate], env=dict(os.environ, TMPDIR=tmp))
+        run = subprocess.Popen(["rt", "try"], cwd=crate, env=dict(os.environ, TMPDIR=tmp))
         while run.poll() is None:
             watch(tmp, folder, seen)
             time.sleep(0.001)
