@@ -1,5 +1,6 @@
 #!/usr/bin/env python3
-"""capture.py CRATE FOLDER: runs `rt try` in the crate's folder, with standard input as given, and keeps the programs that it makes on the way.
+"""capture.py CRATE FOLDER: runs `rt try` in the crate's folder CRATE, with its own standard input, and keeps the programs that
+it makes on the way.
 
 `rt try` runs a program that is not proved and throws its executables away; here they are linked into FOLDER as they
 appear, so that they can be run on many packs."""
