@@ -10,7 +10,7 @@ use std::collections::BTreeSet;
 const HEAD: &str = "\
 -- Small packs with the harness's answers: the check at every kind of field, what packs are read as and written from, and what the
 -- answers leave in a caller's buffers. This page is made by `harness/tables pack`.
-use mathlib.Core.List.{List, [], ◌∷◌, ◌++◌}
+use mathlib.Core.List.{List, [], ◌∷◌}
 use mathlib.Core.Bool.{true, false}
 use mathlib.Core.Option.{none, some}
 use mathlib.Core.Path.{◌≡◌, refl}
