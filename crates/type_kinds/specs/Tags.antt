@@ -1,4 +1,4 @@
--- Which types the tag bytes of a pack stand for.
+-- Internal: nothing here has to be believed; no contract rests on it yet. Which types the tag bytes of a pack stand for.
 use Rattle.std.specs.Prelude.{ℕ, List, [], ◌∷◌, get_or}
 use Rattle.type_kinds.specs.declared.TypeKind.TheVariants as kind
 use Rattle.type_kinds.specs.declared.DecodedType.{DecodedType}
