@@ -67,8 +67,8 @@ def words_of(files):
 
 
 def bare(text, old, new):
-    """Replaces a word outside comments, where it is no part of a path and no clause's name."""
-    it = re.compile(r"(--[^\n]*|(?:ensures|requires) " + re.escape(old) + r"\b)|(?<![\w'.-])" + re.escape(old) + r"(?![\w'.-])")
+    """Replaces a word outside comments, where it is no part of a path and no name of a clause or field."""
+    it = re.compile(r"(--[^\n]*|(?:ensures|requires) " + re.escape(old) + r"\b)|(?<![\w'.-])" + re.escape(old) + r"(?![\w'.-])(?! = )")
     return it.sub(lambda m: m.group(1) or new, text)
 
 
@@ -77,8 +77,12 @@ def main():
     source = [p for p in glob.glob("crates/*/**/*.rt", recursive=True) if "/out/" not in p]
     edits = glob.glob("crates/*/must-fail/*.edit")
     pages = glob.glob("docs/*.md") + ["README.md"] + glob.glob("harness/*.md") + glob.glob("harness/**/*.rs", recursive=True)
-    pages = [p for p in pages if "/target/" not in p and "/reference/" not in p]
+    # The page of the port has old names beside new ones.
+    pages = [p for p in pages if "/target/" not in p and "/reference/" not in p and p != "docs/PORT.md"]
     words, parts = words_of(antt)
+    # In src/, names under which a definition is brought in.
+    for path in source:
+        words.update(re.findall(r"(?<=\bas )[a-z]\w*[A-Z]\w*", read(path)))
     to_come = {snake(w) for w in words}
     camel = re.compile(r"(?<![\w'])[a-z][A-Za-z0-9]*[A-Z][A-Za-z0-9]*(?![A-Za-z0-9_])")
     changed = 0

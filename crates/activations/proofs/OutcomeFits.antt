@@ -1,5 +1,5 @@
 -- Number and value of what is answered fit 32 bits: the C interface has room for both in 64.
-use Prim.Native.Nat.{ℕ, ◌<◌, ◌≤◌}
+use Prim.Native.Nat.{ℕ, ◌+◌, ◌*◌, ◌<◌, ◌≤◌}
 use native.Mathlib.Omega.{arith}
 use mathlib.Core.List.{List}
 use mathlib.Core.Bool.{Bool, true, false, cond}
@@ -8,7 +8,7 @@ use lib.ListN.{length, drop}
 use lib.Dec.{ltb}
 use borrow.Author.Tests.{ltb-false}
 use Rattle.wire.specs.Writer.{State, full, st}
-use Rattle.pack_rules.specs.Outcome.{Gives, Outcome, answers, number_of, sized, value_of, writes}
+use Rattle.pack_rules.specs.Outcome.{Answers, Gives, Outcome, answers, number_of, returned, sized, value_of, writes}
 use Rattle.pack.specs.Finish.{answered, pack_of}
 use Rattle.pack.specs.Table.{texts_from}
 use Rattle.machines.specs.declared.verdicts.VerdictRow.{VerdictRow}
@@ -40,3 +40,8 @@ gives_fits room old z number value output output' g = table_fits (answered room 
 
 pub copy-fits : (room : ℕ) (b : List ℕ) (number value : ℕ) (output output' : List ℕ) → Gives (sized room b) number value output output' → (number ≤ 9) × (value < 4294967296)
 copy-fits room b number value output output' g = table_fits (sized room b) number value output output' (sized-fits room b) g
+
+-- number and value in one word are what the C interface returns
+pub returned-as : (x : Outcome) (number value : ℕ) (output output' report report' : List ℕ) → Answers x number value output output' report report' → number * 4294967296 + value ≡ returned x
+unfolding returned
+returned-as x number value output output' report report' a = λ j. a.gives.number_is j * 4294967296 + a.gives.value-is j

@@ -18,7 +18,7 @@ use Rattle.machine_rules.specs.Resolved.{ResolvedMachine}
 use Rattle.pack_rules.specs.Forms.{name_at}
 use Rattle.pack_rules.specs.Read.{Reading, bytes_after, deep_at, ends_early, illegal_at, machine_in, read, too_long, whole}
 use Rattle.pack_rules.specs.Report.{Refusal, entries, report_bytes}
-use Rattle.pack_rules.specs.Outcome.{Gives, Outcome, answers, number_of, on_package, reported, reports, sized, value_of, writes, written}
+use Rattle.pack_rules.specs.Outcome.{Answers, Gives, Outcome, answers, number_of, on_package, reported, reports, returned, sized, value_of, writes, written}
 use Rattle.pack.specs.Verdict.{SectionsAt, record_of, value_for, verdict_of}
 use Rattle.pack_rules.specs.Write.{enc, encode, package_items, shorts}
 use Rattle.pack.specs.declared.record.Pack.{Pack}
@@ -175,3 +175,17 @@ lowered-fits s output report bytes = go (read s) refl (value-small s (verdict_of
     go (deep_at o) e l = (omega arith, omega arith)
     go (bytes_after o) e l = (omega arith, omega arith)
     go (whole p) e l = opened-fits output report (made_machines p).refusals (machines_lowered p (made_machines p)) (report-small s (record_of s) p (record-stands s p e) bytes (read-value s p e).0)
+
+-- number and value of a call of the lowering: they fit, and are the word that the C interface returns
+module _ (s output output' report report' : List ℕ) (number value : ℕ) (bytes : Bytes s)
+    (a : Answers (lower_machines s (length output) (length report)) number value output output' report report') where
+  pub fit : (number ≤ 9) × (value < 4294967296)
+  fit =
+      let f = lowered-fits s (length output) (length report) bytes in
+      let n = a.gives.number_is in
+      let v = a.gives.value-is in
+      (omega (arith, f.0), omega (arith, f.1))
+
+  pub returned-as : number * 4294967296 + value ≡ returned (lower_machines s (length output) (length report))
+  unfolding returned
+  returned-as = λ j. a.gives.number_is j * 4294967296 + a.gives.value-is j

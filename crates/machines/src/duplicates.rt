@@ -3,7 +3,7 @@
 //   lows, highs   of each name so far its two halves, as many as there is room for
 // Only a name of which both halves stood before is compared with all before it, letter by letter.
 ghost use Rattle.std.specs.Prelude.{◌&&◌, ◌≡◌, set, take};
-ghost use Rattle.machines.specs.Fingerprints.{Halves, among as isAmong, high_of, low_of, may_equal};
+ghost use Rattle.machines.specs.Fingerprints.{Halves, among as is_among, high_of, low_of, may_equal};
 ghost use Rattle.pack_rules.specs.Names.{member};
 ghost use Rattle.pack.specs.Intern.{table};
 ghost use Rattle.machines.specs.Duplicates.{duplicate_at};
@@ -36,7 +36,7 @@ pub fn fingerprint_of(n: &[u8]) -> Fingerprint
 
 // Whether a half is among halves. The loop has no way out but its end, so that many are looked at in one step.
 fn contains_half(halves: &[u32], m: u32) -> bool
-    ensures { result ≡ isAmong m halves.now }
+    ensures { result ≡ is_among m halves.now }
 {
     let mut hit = false;
     let mut i = 0;

@@ -8,7 +8,7 @@ ghost use Rattle.std.specs.Prelude.{◌≡◌, ◌||◌, eqb, List, ◌<◌, ◌
 ghost use Rattle.machines.specs.RefineStack.{on_of, pushed_of, start_of};
 ghost use Rattle.pack_rules.specs.Names.{Name};
 ghost use Rattle.pack_rules.specs.Limits.{max_bytes};
-ghost use Rattle.machines.specs.ResolveAt.{enter_w, head_t, len_at, machine_w, max_of, qualify_of, state_w, target_t, walk as walkIn};
+ghost use Rattle.machines.specs.ResolveAt.{enter_w, head_t, len_at, machine_w, max_of, qualify_of, state_w, target_t, walk as walk_in};
 ghost use Rattle.machines.specs.LayoutAt.{moves_at};
 ghost use Rattle.machines.specs.MemoSound.{MemoSound, RowsSound};
 ghost use Rattle.wire.specs.Bytes.{word_range};
@@ -326,7 +326,7 @@ fn resolve_state(
     count: usize,
 ) -> Resolved
     requires { (length pack.now ≤ max_bytes) × MemoSound pack.now names offsets.now memo.now }
-    ensures { (ns : List Name) → length ns ≡ names → result ≡ state_w ns pack.now offsets.now machines.now (walkIn ns pack.now offsets.now machines.now levels) p at count }
+    ensures { (ns : List Name) → length ns ≡ names → result ≡ state_w ns pack.now offsets.now machines.now (walk_in ns pack.now offsets.now machines.now levels) p at count }
 {
     if Pack::STATES <= count {
         return Resolved::Large;
@@ -383,7 +383,7 @@ fn resolve_states(
     done: usize,
 ) -> Resolved
     requires { (length pack.now ≤ max_bytes) × MemoSound pack.now names offsets.now memo.now }
-    ensures { (ns : List Name) → length ns ≡ names → result ≡ walkIn ns pack.now offsets.now machines.now levels p count at done }
+    ensures { (ns : List Name) → length ns ≡ names → result ≡ walk_in ns pack.now offsets.now machines.now levels p count at done }
 {
     if levels == 0 {
         return Resolved::Large;

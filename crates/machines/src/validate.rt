@@ -6,7 +6,7 @@ ghost use Rattle.std.specs.Prelude.{List, ◌≡◌, ◌+◌, ◌≤◌, get_or,
 ghost use Rattle.pack_rules.specs.Names.{Name};
 ghost use Rattle.pack_rules.specs.Limits.{max_bytes};
 ghost use Rattle.machines.specs.MemoSound.{RowsSound};
-ghost use Rattle.machines.specs.ValidateAt.{AllRecalled, Has, OneRecalled, checked_region, checked_state, has_t, is_state_t, onward as onwardOf, recall_t as foretoldOf, row_drawn, rows_drawn, targets_t, unknown};
+ghost use Rattle.machines.specs.ValidateAt.{AllRecalled, Has, OneRecalled, checked_region, checked_state, has_t, is_state_t, onward as onward_of, recall_t as foretold_of, row_drawn, rows_drawn, targets_t, unknown};
 ghost use Rattle.machines.specs.Known.{Known};
 
 use crate::checked_read::{both, number};
@@ -111,7 +111,7 @@ pub fn recall_targets(
 
 // What is known of the states after one.
 pub fn onward(v: TargetMemo) -> TargetMemo
-    ensures { result ≡ onwardOf v }
+    ensures { result ≡ onward_of v }
 {
     if v.fine == 0 {
         return empty_memo();
@@ -210,7 +210,7 @@ fn check_targets(
 
 // What is known of the state at the word p, in the region at the word q.
 fn recall(v: TargetMemo, q: usize, p: usize) -> Checked
-    ensures { result ≡ foretoldOf v q p }
+    ensures { result ≡ foretold_of v q p }
 {
     if v.fine == 0 {
         return Checked::Target {

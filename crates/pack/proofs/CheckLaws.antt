@@ -1,5 +1,5 @@
 -- Laws of the check: the sections one after the other, and what the verdict on them tells.
-use Rattle.std.proofs.Common.{◌≡◌, ℕ, zero, suc, ◌+◌, ◌<◌, ◌≤◌, Bool, true, false, cond, not, ltb, List, [], ◌∷◌, ◌++◌, length, replicate, sym, refl, ap, ◌∙◌, subst, ⊎_elim, arith, length-append, ltb-false, le-ltb, lt-ltb}
+use Rattle.std.proofs.Common.{◌≡◌, ℕ, zero, suc, ◌+◌, ◌*◌, ◌<◌, ◌≤◌, Bool, true, false, cond, not, ltb, List, [], ◌∷◌, ◌++◌, length, replicate, sym, refl, ap, ◌∙◌, subst, ⊎_elim, arith, length-append, ltb-false, le-ltb, lt-ltb}
 use lib.ListN.{length-replicate}
 use types.Run.{OneOf}
 use denote.Enum.Declared.{tag_of}
@@ -24,7 +24,7 @@ use Rattle.pack.proofs.RoundTrip.{body_in, read-value}
 use Rattle.pack_rules.specs.Names.{Name, member}
 use Rattle.pack_rules.specs.Syntax.{Package}
 use Rattle.pack_rules.specs.Read.{Reading, activation_in, bytes_after, deep_at, ends_early, enum_in, illegal_at, machine_in, name, name_section, names_after, node_in, origin_in, pack_at, read, reading_of, too_long, whole}
-use Rattle.pack_rules.specs.Outcome.{answers, check, number_of, on_package, value_of}
+use Rattle.pack_rules.specs.Outcome.{answers, check, number_of, on_package, returned, value_of}
 use Rattle.pack.specs.Verdict.{SectionsAt, count_of, empty_package, empty_record, judged_of, name_count, names_of, names_or, number_for, offset_of, past_activations, past_enums, past_machines, past_names, past_nodes, past_origins, record_of, sections_of, value_for, verdict_of}
 
 -- how many names the name section has
@@ -278,6 +278,13 @@ check-is s v n w e f g = (f ∙ ap number_for e ∙ (go (read s)).0, g ∙ ap (�
     go (deep_at o) = (refl, refl)
     go (bytes_after o) = (refl, refl)
     go (whole p) = (refl, refl)
+
+-- the number and the value, in one word
+pub word-check : (s : List ℕ) (v : Verdict) (number value : ℕ) → v ≡ verdict_of (read s) → number ≡ number_for v → value ≡ value_for v (length s) → number * 4294967296 + value ≡ returned (check s)
+unfolding returned
+word-check s v n w e f g =
+    let h = check-is s v n w e f g in
+    λ i. h.0 i * 4294967296 + h.1 i
 
 -- both are small
 pub number_small : (v : Verdict) → number_for v ≤ 5

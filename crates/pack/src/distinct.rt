@@ -1,7 +1,7 @@
 // Names told apart as they are read (specs/Distinct): a table of cells, in which a name that was there before is met on its way.
 ghost use Rattle.std.specs.Prelude.{◌≡◌, ◌+◌, ◌<◌, length, slice_index};
 ghost use Rattle.wire.specs.Bytes.{word_range};
-ghost use Rattle.pack.specs.Distinct.{letters as letters_of, product as productOf, key_for, folded as foldedOf, long_way, way as way_of, tag as tag_of, first as first_of, after as after_of, is_of, free_from, free_on, telling as tellingIn, gets, tagged, entered};
+ghost use Rattle.pack.specs.Distinct.{letters as letters_of, product as product_of, key_for, folded as folded_of, long_way, way as way_of, tag as tag_of, first as first_of, after as after_of, is_of, free_from, free_on, telling as telling_in, gets, tagged, entered};
 
 use crate::cells::cell;
 use crate::intern::is_at;
@@ -26,7 +26,7 @@ fn letters(n: &[u8]) -> usize
 
 // Both halves of c, each with its half of the key, multiplied.
 fn product(key: usize, c: usize) -> usize
-    ensures { result ≡ productOf key c }
+    ensures { result ≡ product_of key c }
 {
     let x = (c % 4294967296 + key % 4294967296) % 4294967296;
     let y = (c / 4294967296 % 4294967296 + key / 4294967296 % 4294967296) % 4294967296;
@@ -45,7 +45,7 @@ fn key_for(key: usize, n: &[u8]) -> usize
 
 // The two halves of h added.
 fn folded(h: usize) -> usize
-    ensures { result ≡ foldedOf h }
+    ensures { result ≡ folded_of h }
 {
     h / 4294967296 + h % 4294967296
 }
@@ -153,7 +153,7 @@ pub fn free_slot(pack: &[u8], t: &[u16], n: &[u8], key: usize, h: usize) -> usiz
 
 // Whether all names have cells.
 pub fn enabled(t: &[u16]) -> bool
-    ensures { result ≡ tellingIn t.now }
+    ensures { result ≡ telling_in t.now }
 {
     (t.len() == ROOM) & (cell(t, CELLS) == 0)
 }

@@ -1,7 +1,7 @@
 // The number of a name by which it is found in a table and told apart from others: SipHash's, with one round for eight bytes and two
 // at the end (specs/Siphash).
 ghost use Rattle.std.specs.Prelude.{◌≡◌, ◌-◌, ◌<◌, ◌≤◌, length};
-ghost use Rattle.pack.specs.Siphash.{turned, half_round, rounded, mixed, joined, lanes_for, quad_at, hash as hashOf};
+ghost use Rattle.pack.specs.Siphash.{turned, half_round, rounded, mixed, joined, lanes_for, quad_at, hash as hash_of};
 
 use crate::cells::byte_at;
 use std::num::wrapping_add_u64;
@@ -117,7 +117,7 @@ fn lanes_for(l: usize) -> Lanes
 
 // The number of a name.
 pub fn hash(n: &[u8]) -> usize
-    ensures { result ≡ hashOf n.now }
+    ensures { result ≡ hash_of n.now }
 {
     let l = n.len();
     let mut h = lanes_for(l);

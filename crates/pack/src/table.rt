@@ -3,7 +3,7 @@
 ghost use Rattle.std.specs.Prelude.{◌≡◌, ◌+◌, ◌-◌, ◌*◌, ◌/◌, ◌<◌, ◌≤◌, length};
 ghost use Rattle.wire.specs.Bytes.{word_max, word_range};
 ghost use Rattle.pack.specs.Intern.{found_of};
-ghost use Rattle.pack.specs.Table.{word as word_in, put_word, further as furtherOf, place_from, place_of, Near, cell_at, seek, number_in, spare as spareIn, in_index, cell_for, linked, unindexed, linked_at, noted};
+ghost use Rattle.pack.specs.Table.{word as word_in, put_word, further as further_of, place_from, place_of, Near, cell_at, seek, number_in, spare as spare_in, in_index, cell_for, linked, unindexed, linked_at, noted};
 
 use crate::cells::{byte_at, set_byte};
 use crate::intern::{Found, find_name, is_at};
@@ -54,7 +54,7 @@ fn put_word(t: &mut [u8], i: usize, v: usize)
 
 // The way h of a name after one step more, after which f are left: the next bit, or the next letter.
 fn further(n: &[u8], f: usize, h: usize) -> usize
-    ensures { result ≡ furtherOf n.now f h }
+    ensures { result ≡ further_of n.now f h }
 {
     if h < 4 {
         let j = last(17358, f);
@@ -115,7 +115,7 @@ pub fn seek_name(t: &[u8], n: &[u8]) -> Found
 
 // Whether the number of one name more and its spot fit.
 fn spare(t: &[u8]) -> bool
-    ensures { result ≡ spareIn t.now }
+    ensures { result ≡ spare_in t.now }
 {
     (word(t, 0) < ROWS) & ((TEXTS <= t.len()) & (t.len() < ROOM))
 }

@@ -2,7 +2,7 @@
 ghost use Rattle.std.specs.Prelude.{◌≡◌, List, [], ℕ, ◌+◌, ◌≤◌, min, length};
 ghost use Rattle.wire.specs.Bytes.{two};
 ghost use Rattle.wire.specs.Decimal.{decimal};
-ghost use Rattle.wire.specs.Writer.{state_of, put, puts, swapped, full as isFull, st, overwritten};
+ghost use Rattle.wire.specs.Writer.{state_of, put, puts, swapped, full as is_full, st, overwritten};
 
 // How far each buffer is written, and whether something did not fit.
 #[derive(Clone, Copy)]
@@ -118,7 +118,7 @@ pub fn capped(n: usize, b: usize, l: usize) -> usize
 
 // A full writer.
 pub fn stopped(w: Writer) -> Writer
-    ensures { (o m : List ℕ) → state_of o m result ≡ isFull }
+    ensures { (o m : List ℕ) → state_of o m result ≡ is_full }
 {
     Writer {
         at: w.at,

@@ -1,11 +1,12 @@
-use Rattle.pack.proofs.Words.{word-is}
+use mathlib.Core.Path.{◌∙◌}
+use Rattle.activations.proofs.OutcomeFits.{returned-as}
 use Rattle.activations.proofs.call.lower_activations_word.Goals as goal
 
 pub returns : goal.returns
 returns c =
     let answers = c.lower_activations.ensures.answers in
     record {
-      word = word-is _ _ _ _ c.returned_word.ensures answers.gives.number_is answers.gives.value-is;
+      word = c.returned_word.ensures ∙ returned-as _ _ _ _ _ _ _ answers;
       output = answers.gives.output-is;
       report = answers.report-is;
     }
