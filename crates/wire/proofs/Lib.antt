@@ -1,8 +1,7 @@
 pub mod Answers
 pub mod Bounds
-pub mod Codes
 pub mod Preorders
-pub mod Steps
+pub mod Codes
 pub mod Formats
 pub mod TreeFormats
 pub mod Writers

@@ -5,19 +5,19 @@ use native.Mathlib.Omega.{arith}
 use mathlib.Core.List.{List}
 use mathlib.Core.Path.{◌≡◌, refl, sym, ap, ◌∙◌}
 use lib.ListN.{length}
-use Rattle.wire.specs.declared.answer.Skipped.{Skipped}
-use Rattle.wire.specs.declared.answer.Skipped.TheVariants as sk
+use Rattle.wire.specs.declared.answer.Stop.TheVariants.{Early}
+use Rattle.std.specs.Prelude.{Ok, Err}
 use Rattle.wire.specs.Preorder.{trees}
 use Rattle.wire.specs.Answer.{Answer, deep, early, illegal, map_a, value}
-use Rattle.wire.specs.Code.{after, next, skip}
+use Rattle.wire.specs.Code.{Skipped, after, next, skip}
 use Rattle.wire.proofs.Codes.{after_cong, after_map, after-skip, next-after, next-cong, skip-bind, skip-last}
 use Rattle.wire.proofs.Answers.{Fwd}
 
 -- the same with a count of trees still to come: `more s at` is how many trees stand under the head at `at`
 unfoldable pub run : (List ℕ → ℕ → Answer ℕ) → ℕ → List ℕ → ℕ → ℕ → Skipped
-run more zero s zero at = sk.To at
-run more zero s (suc n) at = sk.Early
-run more (suc f) s zero at = sk.To at
+run more zero s zero at = Ok at
+run more zero s (suc n) at = Err Early
+run more (suc f) s zero at = Ok at
 run more (suc f) s (suc n) at = after (more s at) λ m p. run more f s (m + n) p
 
 -- each head takes at least a byte, and there is none past the end
@@ -31,7 +31,7 @@ unfoldable pub pending : (List ℕ → ℕ → Answer ℕ) → List ℕ → ℕ 
 pending more s n at = run more (suc (length s)) s n at
 
 module _ (more : List ℕ → ℕ → Answer ℕ) (M : Moves more) (s : List ℕ) where
-  pub run_none : (f at : ℕ) → run more f s zero at ≡ sk.To at
+  pub run_none : (f at : ℕ) → run more f s zero at ≡ Ok at
   unfolding run
   run_none zero at = refl
   run_none (suc f) at = refl
@@ -48,27 +48,27 @@ module _ (more : List ℕ → ℕ → Answer ℕ) (M : Moves more) (s : List ℕ
   fuel (suc f) (suc g) (suc n) at hf hg =
       after_cong (more s at) _ _ (λ m p e. let l : at < p = M.on s at m p e in fuel f g (m + n) p (omega arith) (omega arith))
 
-  pub run-moves : (f n at q : ℕ) → run more f s n at ≡ sk.To q → at ≤ q
+  pub run-moves : (f n at q : ℕ) → run more f s n at ≡ Ok q → at ≤ q
   unfolding run after
   run-moves zero zero at q e = let g : at ≡ q = cc in omega arith
   run-moves zero (suc n) at q e = let z : ◌≡◌ {A = ℕ} 0 1 = cc in absurd (omega arith)
   run-moves (suc f) zero at q e = let g : at ≡ q = cc in omega arith
   run-moves (suc f) (suc n) at q e = go (λ m p. run-moves f (m + n) p q) (more s at) refl e
     where
-      go : ((m p : ℕ) → run more f s (m + n) p ≡ sk.To q → p ≤ q) → (a : Answer ℕ) → more s at ≡ a → after a (λ m p. run more f s (m + n) p) ≡ sk.To q → at ≤ q
+      go : ((m p : ℕ) → run more f s (m + n) p ≡ Ok q → p ≤ q) → (a : Answer ℕ) → more s at ≡ a → after a (λ m p. run more f s (m + n) p) ≡ Ok q → at ≤ q
       go ih (value m p) g d = let l : at < p = M.on s at m p g in let k : p ≤ q = ih m p d in omega arith
       go ih early g d = let z : ◌≡◌ {A = ℕ} 0 1 = cc in absurd (omega arith)
       go ih (illegal o) g d = let z : ◌≡◌ {A = ℕ} 0 1 = cc in absurd (omega arith)
       go ih (deep o) g d = let z : ◌≡◌ {A = ℕ} 0 1 = cc in absurd (omega arith)
 
-  pub run_inside : (f n at q : ℕ) → run more f s n at ≡ sk.To q → at ≤ length s → q ≤ length s
+  pub run_inside : (f n at q : ℕ) → run more f s n at ≡ Ok q → at ≤ length s → q ≤ length s
   unfolding run after
   run_inside zero zero at q e h = let g : at ≡ q = cc in omega arith
   run_inside zero (suc n) at q e h = let z : ◌≡◌ {A = ℕ} 0 1 = cc in absurd (omega arith)
   run_inside (suc f) zero at q e h = let g : at ≡ q = cc in omega arith
   run_inside (suc f) (suc n) at q e h = go (λ m p. run_inside f (m + n) p q) (more s at) refl e
     where
-      go : ((m p : ℕ) → run more f s (m + n) p ≡ sk.To q → p ≤ length s → q ≤ length s) → (a : Answer ℕ) → more s at ≡ a → after a (λ m p. run more f s (m + n) p) ≡ sk.To q → q ≤ length s
+      go : ((m p : ℕ) → run more f s (m + n) p ≡ Ok q → p ≤ length s → q ≤ length s) → (a : Answer ℕ) → more s at ≡ a → after a (λ m p. run more f s (m + n) p) ≡ Ok q → q ≤ length s
       go ih (value m p) g d = ih m p d (M.inside s at m p g)
       go ih early g d = let z : ◌≡◌ {A = ℕ} 0 1 = cc in absurd (omega arith)
       go ih (illegal o) g d = let z : ◌≡◌ {A = ℕ} 0 1 = cc in absurd (omega arith)
@@ -88,7 +88,7 @@ module _ (more : List ℕ → ℕ → Answer ℕ) (M : Moves more) (s : List ℕ
       append f (a + m) n p (omega arith) ∙
       ap (λ (k : ℕ). run more f s k p) (add_assoc a m n)))
 
-  pub pending-none : (at : ℕ) → pending more s 0 at ≡ sk.To at
+  pub pending-none : (at : ℕ) → pending more s 0 at ≡ Ok at
   unfolding pending
   pending-none at = run_none (suc (length s)) at
 
@@ -121,5 +121,5 @@ module _ {H : Type 0} (arity : H → ℕ) (head : List ℕ → ℕ → Answer H)
   pub fwd-trees : (f n at : ℕ) → length s ≤ at + f → Fwd (length s) at (trees arity head f s n at)
   unfolding skip
   fwd-trees f n at h ts q e =
-      let g : run (λ s at. map_a arity (head s at)) f s n at ≡ sk.To q = sym (skip-trees f n at h) ∙ ap skip e in
+      let g : run (λ s at. map_a arity (head s at)) f s n at ≡ Ok q = sym (skip-trees f n at h) ∙ ap skip e in
       record { on = run-moves (λ s at. map_a arity (head s at)) M s f n at q g; inside = run_inside (λ s at. map_a arity (head s at)) M s f n at q g }

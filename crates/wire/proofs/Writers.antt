@@ -6,6 +6,7 @@ use native.Mathlib.Omega.{arith}
 use mathlib.Core.Logic.{⊎_elim, ◌⊎◌, inl, inr}
 use mathlib.Core.Bool.{Bool, true, false, cond}
 use mathlib.Core.Path.{◌≡◌, refl, sym, ap, ◌∙◌}
+use borrow.Rule.Slice.PartMut.{put_mid}
 use mathlib.Core.List.{List, [], ◌∷◌, ◌++◌, append-nil, append_assoc}
 use lib.ListN.{length, take, drop, set, get_or, length-set, drop_of_length-le, length-drop, length-append}
 use lib.Seq.{take-suc-set, length-take-le, take_all, drop-length, drop-drop, take-length, append_snoc, paste, paste-suc, take-append_seam}
@@ -30,7 +31,7 @@ put_full out m w b e = rw e
 
 -- a store at the writer's place is one byte more
 pub put-more : (out m : List ℕ) (w : Writer) (b : ℕ) → w.full ≡ false → w.at < length out
-    → state_of (set out w.at b) m (record { at = w.at + 1; made = w.made; full = false }) ≡ put b (state_of out m w)
+    → state_of (set out w.at b) m (record { at = w.at + 1; made = w.made; full = w.full }) ≡ put b (state_of out m w)
 unfolding state_of put
 put-more out m w b e h =
     simp (e, length-set, add-one, take-suc-set out w.at b h, length-take-le w.at out (le_of_lt h), lt-ltb _ _ h)
@@ -113,30 +114,36 @@ paste-whole d s e at j p q = q ∙ rw (p, take-length) (append_assoc (take at d)
 
 -- A COPY AT ONCE
 
-take_min : (a : ℕ) (o : List ℕ) → take (min (0 + a) (length o)) o ≡ take a o
+-- a buffer's front up to a place that may lie past its end
+take_min : (a : ℕ) (o : List ℕ) → take a o ≡ take (min a (length o)) o
 take_min a o = ⊎_elim
-    (λ (g : length o < a). let e : min (0 + a) (length o) ≡ length o = omega arith in rw (e, take-length, take_all a o (omega arith)))
-    (λ (g : a ≤ length o). let e : min (0 + a) (length o) ≡ a = omega arith in rw e)
+    (λ (g : length o < a). let e : min a (length o) ≡ length o = omega arith in rw (e, take-length, take_all a o (omega arith)))
+    (λ (g : a ≤ length o). let e : min a (length o) ≡ a = omega arith in rw e)
     (lt-or-le (length o) a)
+
+-- a part of a buffer, written over
+pub mid-over : (at n : ℕ) (d xs ys : List ℕ) → n ≡ length xs → ys ≡ xs → put_mid at n d ys ≡ overwritten at xs d
+unfolding overwritten
+mid-over at n d xs ys e f = rw (e, f, drop-drop (length xs) at d)
 
 pub bytes-full : (o m xs : List ℕ) (w : Writer) → w.full ≡ true → state_of o m w ≡ puts xs (state_of o m w)
 unfolding state_of
 bytes-full o m xs w e = rw e (sym (puts-full xs))
 
 -- where there is no room for all of them the writer is full
-pub bytes-over : (o m xs : List ℕ) (w : Writer) (a : ℕ) → w.full ≡ false → a ≡ min (0 + w.at) (length o) → length o - a < length xs → full ≡ puts xs (state_of o m w)
+pub bytes-over : (o m xs : List ℕ) (w : Writer) (a : ℕ) → w.full ≡ false → a ≡ min w.at (length o) → length o - a < length xs → full ≡ puts xs (state_of o m w)
 unfolding state_of
 bytes-over o m xs w a f e h =
-    let t : take w.at o ≡ take a o = sym (take_min w.at o) ∙ ap (λ i. take i o) (sym e) in
+    let t : take w.at o ≡ take a o = take_min w.at o ∙ ap (λ i. take i o) (sym e) in
     let l : length (take a o) ≡ a = length-take-le a o (omega arith) in
     rw (f, t, puts-fit (length o) (length m) (take w.made m) xs (take a o) (omega arith), lt-leb (length (take a o) + length xs) (length o) (omega arith))
 
 -- and else they stand there
-pub bytes-copied : (o k m xs : List ℕ) (w : Writer) (a e : ℕ) → w.full ≡ false → a ≡ min (0 + w.at) (length o) → length xs ≤ length o - a → e ≡ a + length xs
-    → k ≡ overwritten a xs o → state_of k m (record { at = e; made = w.made; full = false }) ≡ puts xs (state_of o m w)
+pub bytes-copied : (o k m xs : List ℕ) (w : Writer) (a e : ℕ) → w.full ≡ false → a ≡ min w.at (length o) → length xs ≤ length o - a → e ≡ a + length xs
+    → k ≡ overwritten a xs o → state_of k m (record { at = e; made = w.made; full = w.full }) ≡ puts xs (state_of o m w)
 unfolding state_of overwritten
 bytes-copied o k m xs w a e f g h p q =
-    let u : take w.at o ≡ take a o = sym (take_min w.at o) ∙ ap (λ i. take i o) (sym g) in
+    let u : take w.at o ≡ take a o = take_min w.at o ∙ ap (λ i. take i o) (sym g) in
     let l : length (take a o) ≡ a = length-take-le a o (omega arith) in
     let n : length (take a o ++ xs) ≡ e = omega (arith, length-append (take a o) xs) in
     let j : k ≡ (take a o ++ xs) ++ drop (a + length xs) o = q ∙ sym (append_assoc (take a o) xs _) in

@@ -29,24 +29,14 @@ impl Writer {
 pub fn put_byte(out: &mut [u8], w: Writer, b: u8) -> Writer
     ensures { (m : List ℕ) → state_of out.new m result ≡ put b (state_of out.old m w) }
 {
-    let at = w.at;
-    let full = w.full;
-    if full {
+    if w.full {
         return w;
     }
-    if at < out.len() {
-        out[at] = b;
-        Writer {
-            at: at + 1,
-            made: w.made,
-            full: false,
-        }
+    if w.at < out.len() {
+        out[w.at] = b;
+        Writer { at: w.at + 1, ..w }
     } else {
-        Writer {
-            at: at,
-            made: w.made,
-            full: true,
-        }
+        Writer { full: true, ..w }
     }
 }
 
@@ -64,45 +54,36 @@ pub fn append(src: &[u8], dst: &mut [u8], at: usize) -> usize
     ensures value { result ≡ at + length src.now }
     ensures dst_after { dst.new ≡ overwritten at src.now dst.old }
 {
-    let mut j = 0;
-    let mut o = at;
-    while j < src.len() {
-        dst[o] = src[j];
-        o += 1;
-        j += 1;
-    }
-    o
+    let end = at + src.len();
+    dst[at..end].copy_from_slice(src);
+    end
 }
 
 // The bytes of src, copied at once.
 pub fn put_bytes(src: &[u8], out: &mut [u8], w: Writer) -> Writer
     ensures { (m : List ℕ) → state_of out.new m result ≡ puts src.now (state_of out.old m w) }
 {
-    let full = w.full;
-    if full {
+    if w.full {
         return w;
     }
-    let at = capped(out.len(), 0, w.at);
+    let at = w.at.min(out.len());
     if out.len() - at < src.len() {
         return stopped(w);
     }
     let end = append(src, out, at);
-    Writer {
-        at: end,
-        made: w.made,
-        full: false,
-    }
+    Writer { at: end, ..w }
 }
 
 // The decimal digits of n.
 pub fn put_digits(out: &mut [u8], w: Writer, n: usize) -> Writer
     ensures { (m : List ℕ) → state_of out.new m result ≡ puts (decimal n) (state_of out.old m w) }
 {
+    let last = b'0' + (n % 10) as u8;
     if n < 10 {
-        return put_byte(out, w, 48 + (n % 10) as u8);
+        return put_byte(out, w, last);
     }
     let v = put_digits(out, w, n / 10);
-    put_byte(out, v, 48 + (n % 10) as u8)
+    put_byte(out, v, last)
 }
 
 // b + l, or n where that is less: the end of a part that starts at b and is cut at n.
@@ -110,21 +91,14 @@ pub fn capped(n: usize, b: usize, l: usize) -> usize
     requires { b ≤ n }
     ensures { result ≡ min (b + l) n }
 {
-    if l < n - b {
-        return b + l;
-    }
-    n
+    b + l.min(n - b)
 }
 
 // A full writer.
 pub fn stopped(w: Writer) -> Writer
     ensures { (o m : List ℕ) → state_of o m result ≡ is_full }
 {
-    Writer {
-        at: w.at,
-        made: w.made,
-        full: true,
-    }
+    Writer { full: true, ..w }
 }
 
 // The writer with its two places exchanged, so that what writes to `out` writes to `made`.
@@ -134,6 +108,6 @@ pub fn turned(w: Writer) -> Writer
     Writer {
         at: w.made,
         made: w.at,
-        full: w.full,
+        ..w
     }
 }
