@@ -3,21 +3,18 @@ use Rattle.std.proofs.Common.{◌≡◌, ℕ, zero, suc, ◌+◌, ◌*◌, ◌<�
 use lib.ListN.{length-replicate}
 use types.Run.{OneOf}
 use denote.Enum.Declared.{tag_of}
-use Rattle.wire.specs.contracts.answer.Read as Read-enum
-use Rattle.wire.specs.contracts.answer.Skipped as Skipped-enum
 use Rattle.pack.specs.contracts.check.Verdict as Verdict-enum
-use Rattle.wire.specs.declared.answer.Read.{Read}
-use Rattle.wire.specs.declared.answer.Read.TheVariants as rd
-use Rattle.wire.specs.declared.answer.Skipped.{Skipped}
-use Rattle.wire.specs.declared.answer.Skipped.TheVariants as sk
 use Rattle.pack.specs.declared.check.Verdict.{Verdict}
 use Rattle.pack.specs.declared.check.Verdict.TheVariants as vd
 use Rattle.pack.specs.declared.record.Pack.{Pack}
 use Rattle.wire.specs.Answer.{Answer, bind, byte, counted, deep, early, guard, illegal, many, map_a, u16, value}
-use Rattle.wire.specs.Code.{next, onward, read_of, skip, skips}
-use Rattle.wire.proofs.Codes.{bind-steps, last_step, steps, steps-deep, steps-early, steps-illegal}
+use Rattle.std.specs.Prelude.{Ok, Err}
+use Rattle.wire.specs.declared.answer.Number.{Number}
+use Rattle.wire.specs.declared.answer.Stop.{Stop}
+use Rattle.wire.specs.declared.answer.Stop.TheVariants.{Early, Illegal, Deep}
+use Rattle.wire.specs.Code.{Read, Skipped, next, onward, read_of, skip, skips}
+use Rattle.wire.proofs.Codes.{bind-steps, last_step, read_found, steps, steps-err}
 use Rattle.wire.proofs.Answers.{bind-value, map-value}
-use Rattle.wire.proofs.Steps.{found, never-is}
 use Rattle.wire.proofs.Bounds.{offset_in}
 use Rattle.pack.proofs.Bounds.{within-pack}
 use Rattle.pack.proofs.RoundTrip.{body_in, read-value}
@@ -39,20 +36,19 @@ section-length : (s : List ℕ) (ns : List Name) (q : ℕ) → name_section s 0 
 unfolding name_section
 section-length s ns q e = let b = bind-value (u16 s 0) _ ns q e in (b.0, b.1, b.2, omega (arith, names-length s [] b.0 b.1 ns q b.3))
 
-pub count-goes : (s : List ℕ) (r : Read) (v p : ℕ) → r ≡ rd.Is v p → r ≡ read_of (u16 s 0) → v ≡ name_count s
+pub count-ok : (s : List ℕ) (n : Number) → Ok n ≡ read_of (u16 s 0) → n.value ≡ name_count s
 unfolding name_count count_of
-count-goes s r v p h e = sym (ap count_of (found r (u16 s 0) v p h e))
+count-ok s n e = sym (ap count_of (read_found (u16 s 0) n e))
 
-stopped-count : (x : Answer ℕ) (r : Read) → OneOf (1 ∷ 2 ∷ 3 ∷ []) (tag_of Read-enum.the_type r) → r ≡ read_of x → 0 ≡ count_of x
-unfolding read_of count_of
-stopped-count (value n q) r h e = absurd (never-is r n q h e)
-stopped-count early r h e = refl
-stopped-count (illegal o) r h e = refl
-stopped-count (deep o) r h e = refl
-
-pub count-stops : (s : List ℕ) (r : Read) → OneOf (1 ∷ 2 ∷ 3 ∷ []) (tag_of Read-enum.the_type r) → r ≡ read_of (u16 s 0) → 0 ≡ name_count s
-unfolding name_count
-count-stops s r h e = stopped-count (u16 s 0) r h e
+pub count-err : (s : List ℕ) (e : Stop) → Err e ≡ read_of (u16 s 0) → 0 ≡ name_count s
+unfolding name_count count_of read_of
+count-err s e h = go (u16 s 0) h
+  where
+    go : (x : Answer ℕ) → Err e ≡ read_of x → 0 ≡ count_of x
+    go (value n q) h = cc
+    go early h = refl
+    go (illegal o) h = refl
+    go (deep o) h = refl
 
 -- where the name section is read, it has as many names as it counts
 pub count-is : (s : List ℕ) (ns : List Name) (q : ℕ) → name_section s 0 ≡ value ns q → length ns ≡ name_count s
@@ -71,19 +67,12 @@ names-count : (s : List ℕ) → length (names_of s) ≡ name_count s
 unfolding names_of
 names-count s = names-enough s (name_section s 0) refl
 
-pub offset-stops : (r : Skipped) → OneOf (1 ∷ 2 ∷ 3 ∷ []) (tag_of Skipped-enum.the_type r) → 0 ≡ offset_of r
-unfolding offset_of
-offset-stops (sk.To q) h = absurd (never-is (rd.Is q q) q q h refl)
-offset-stops sk.Early h = refl
-offset-stops (sk.Illegal o) h = refl
-offset-stops (sk.Deep o) h = refl
-
 -- the sections after the names
 module _ (ns : List Name) (s : List ℕ) where
   abbrev section_parts : List (ℕ → Skipped)
   section_parts = skips (counted (enum_in ns s) s) ∷ skips (counted (node_in ns s) s) ∷ skips (counted (machine_in ns s) s) ∷ skips (counted (activation_in ns s) s) ∷ skips (counted (origin_in ns s) s) ∷ []
 
-  section-parts : (p : ℕ) → skip (body_in ns s p) ≡ steps section_parts (sk.To p)
+  section-parts : (p : ℕ) → skip (body_in ns s p) ≡ steps section_parts (Ok p)
   unfolding body_in
   section-parts p = bind-steps (counted (enum_in ns s) s) p _ _ (λ x0 p0. bind-steps (counted (node_in ns s) s) p0 _ _ (λ x1 p1. bind-steps (counted (machine_in ns s) s) p1 _ _ (λ x2 p2. bind-steps (counted (activation_in ns s) s) p2 _ _ (λ x3 p3. last_step (counted (origin_in ns s) s) p3 _))))
 
@@ -106,10 +95,10 @@ module _ (s : List ℕ) where
 
   pass : (x : Answer (List Name)) → name_section s 0 ≡ x → past_origins s ≡ skip (bind x (λ ns p. body_in ns s p))
   unfolding skip bind
-  pass (value ns q) g = chain ∙ ap (steps (section_parts (names_of s) s)) (names-past (value ns q) g) ∙ ap (λ (t : List Name). steps (section_parts t s) (sk.To q)) (names-read ns q g) ∙ sym (section-parts ns s q)
-  pass early g = stuck sk.Early (names-past early g) steps-early
-  pass (illegal o) g = stuck (sk.Illegal o) (names-past (illegal o) g) (λ fs. steps-illegal fs o)
-  pass (deep o) g = stuck (sk.Deep o) (names-past (deep o) g) (λ fs. steps-deep fs o)
+  pass (value ns q) g = chain ∙ ap (steps (section_parts (names_of s) s)) (names-past (value ns q) g) ∙ ap (λ (t : List Name). steps (section_parts t s) (Ok q)) (names-read ns q g) ∙ sym (section-parts ns s q)
+  pass early g = stuck (Err Early) (names-past early g) (λ fs. steps-err fs Early)
+  pass (illegal o) g = stuck (Err (Illegal o)) (names-past (illegal o) g) (λ fs. steps-err fs (Illegal o))
+  pass (deep o) g = stuck (Err (Deep o)) (names-past (deep o) g) (λ fs. steps-err fs (Deep o))
 
   past-pack : past_origins s ≡ skip (pack_at s 0)
   unfolding pack_at body_in
@@ -169,21 +158,21 @@ module _ (s : List ℕ) (names : ℕ) (a b c d e f : Skipped) (w : Went s names 
       λ i. record { names = gn i; enums = ga i; nodes = gb i; machines = gc i; activations = gd i; origins = ge i; end = gf i }
 
 -- where reading stands, by an offset
-onward-to : {A : Type 0} (r : ℕ → Answer A) (from to : Skipped) (p q : ℕ) (x : A) → from ≡ sk.To p → to ≡ onward r from → r p ≡ value x q → to ≡ sk.To q
+onward-to : {A : Type 0} (r : ℕ → Answer A) (from to : Skipped) (p q : ℕ) (x : A) → from ≡ Ok p → to ≡ onward r from → r p ≡ value x q → to ≡ Ok q
 unfolding onward next skips skip
 onward-to r from to p q x e g h = g ∙ ap (onward r) e ∙ ap skip h
 
 placed : {A : Type 0} (r : ℕ → Answer A) (i j p q : ℕ) (x : A) → i ≡ p → j ≡ q → r p ≡ value x q → r i ≡ value x j
 placed r i j p q x e g h = ap r e ∙ h ∙ ap (value x) (sym g)
 
-at_offset : (r : Skipped) (q : ℕ) → r ≡ sk.To q → offset_of r ≡ q
+at_offset : (r : Skipped) (q : ℕ) → r ≡ Ok q → offset_of r ≡ q
 unfolding offset_of
 at_offset r q g = ap offset_of g
 
 -- the sections of a pack that is read stand where its record says
 module _ (s : List ℕ) where
   -- a section's step with the names that were read
-  stepped : {A : Type 0} (r : List Name → ℕ → Answer A) (ns : List Name) (from to : Skipped) (p q : ℕ) (x : A) → names_of s ≡ ns → from ≡ sk.To p → to ≡ onward (r (names_of s)) from → r ns p ≡ value x q → to ≡ sk.To q
+  stepped : {A : Type 0} (r : List Name → ℕ → Answer A) (ns : List Name) (from to : Skipped) (p q : ℕ) (x : A) → names_of s ≡ ns → from ≡ Ok p → to ≡ onward (r (names_of s)) from → r ns p ≡ value x q → to ≡ Ok q
   stepped r ns from to p q x n e g h = onward-to (r ns) from to p q x e (g ∙ ap (λ (t : List Name). onward (r t) from) n) h
 
   pub sections-stand : (p : Package) (q : ℕ) → pack_at s 0 ≡ value p q → SectionsAt s (sections_of s) p
@@ -197,7 +186,7 @@ module _ (s : List ℕ) where
       let b3 = bind-value (counted (machine_in ns s) s b2.1) _ p q b2.3 in
       let b4 = bind-value (counted (activation_in ns s) s b3.1) _ p q b3.3 in
       let b5 = map-value _ (counted (origin_in ns s) s b4.1) p q b4.3 in
-      let ta : past_names s ≡ sk.To b0.1 = names-past s _ b0.2 in
+      let ta : past_names s ≡ Ok b0.1 = names-past s _ b0.2 in
       let tb = stepped (λ t. counted (enum_in t s) s) ns (past_names s) (past_enums s) _ _ _ n ta refl b1.2 in
       let tc = stepped (λ t. counted (node_in t s) s) ns (past_enums s) (past_nodes s) _ _ _ n tb refl b2.2 in
       let td = stepped (λ t. counted (machine_in t s) s) ns (past_nodes s) (past_machines s) _ _ _ n tc refl b3.2 in
@@ -321,18 +310,6 @@ not-whole v h e = go (subst (λ (y : Verdict). OneOf (1 ∷ 2 ∷ 3 ∷ 4 ∷ 5 
   where
     go : OneOf (1 ∷ 2 ∷ 3 ∷ 4 ∷ 5 ∷ []) 0 → ⊥
     go h = ⊎_elim (λ e. omega arith) (⊎_elim (λ e. omega arith) (⊎_elim (λ e. omega arith) (⊎_elim (λ e. omega arith) (λ e. omega arith)))) h
-
--- the code's arms
-pub judged-after : (r : Skipped) (q n : ℕ) → r ≡ sk.To q → q < n → vd.After q ≡ judged_of r n
-unfolding judged_of
-judged-after r q n e h = sym (ap (λ (x : Skipped). judged_of x n) e ∙ rw (lt-ltb q n h))
-
-pub judged-whole : (r : Skipped) (q n : ℕ) → r ≡ sk.To q → n ≤ q → vd.Whole ≡ judged_of r n
-unfolding judged_of
-judged-whole r q n e h = sym (ap (λ (x : Skipped). judged_of x n) e ∙ rw (le-ltb q n h))
-
-pub judged-is : (r t : Skipped) (v : Verdict) (n : ℕ) → r ≡ t → v ≡ judged_of t n → v ≡ judged_of r n
-judged-is r t v n e h = h ∙ ap (λ (x : Skipped). judged_of x n) (sym e)
 
 pub table_is : (v u : Verdict) (n : ℕ) → v ≡ u → (number_for u ≡ number_for v) × (value_for u n ≡ value_for v n)
 table_is v u n e = (ap number_for (sym e), ap (λ (x : Verdict). value_for x n) (sym e))

@@ -1,79 +1,44 @@
 -- Laws of expressions: the fields of each tag as the code goes through them, that heads move forward, and how many expressions stand under one.
 use Rattle.std.proofs.Common.{◌≡◌, ℕ, zero, suc, ◌+◌, ◌-◌, ◌*◌, ◌<◌, ◌≤◌, Bool, true, false, eqb, List, [], ◌∷◌, length, get_or, sym, refl, ap, ◌∙◌, arith, ltb-true, ne_eqb}
 use lib.ListN.{get_or-eq_default}
-use types.Run.{OneOf}
-use denote.Enum.Declared.{tag_of}
-use Rattle.wire.specs.contracts.answer.Read as Read-enum
-use Rattle.wire.specs.declared.answer.Skipped.{Skipped}
-use Rattle.wire.specs.declared.answer.Read.{Read}
-use Rattle.wire.specs.declared.answer.Read.TheVariants as rd
-use Rattle.wire.specs.Answer.{Answer, below, bind, byte, guard, illegal, index, many, map_a, u16, u64, value}
-use Rattle.wire.specs.Code.{becomes_of, next_r, next_s, past_of, read_of, skip, then_is}
-use Rattle.wire.proofs.Codes.{becomes-read, read-map-bind, read-map-id, read-map-map, skip-bind_s, skip-map, then_is-read}
+use Rattle.std.specs.Prelude.{Ok, Err}
+use Rattle.wire.specs.declared.answer.Stop.{Stop}
+use Rattle.wire.specs.declared.answer.Stop.TheVariants.{Illegal}
+use Rattle.wire.specs.declared.answer.Number.{Number}
+use Rattle.wire.specs.Answer.{Answer, below, bind, byte, deep, early, guard, illegal, index, many, map_a, u16, u64, value}
+use Rattle.wire.specs.Code.{Read, Skipped, read_of, skip}
+use Rattle.wire.proofs.Codes.{read_found, skip_found, skip-map}
+use Rattle.pack_rules.specs.Names.{Name}
+use Rattle.pack_rules.specs.Read.{expr_in}
 use Rattle.wire.proofs.Answers.{Fwd, bind-value, byte-ends, byte-value, fwd-below, fwd-bind, fwd-index, fwd-many, fwd-map, fwd-u16, fwd-u64, fwd-value, guard-value, many-length, map-map, map-value, u16-value, fwd-cond, fwd-byte}
-use Rattle.wire.proofs.Preorders.{Moves, pending, pending-none, skip-trees}
-use Rattle.wire.proofs.Steps.{never-is, pending-stopped, pending-went}
+use Rattle.wire.proofs.Preorders.{Moves, pending, pending-err, pending-none, pending-ok, skip-trees}
 use Rattle.pack_rules.specs.Forms.{ExprHead, call, call_fields, expr_arity, expr_at, expr_fields, expr_head, expr_rows, flag_of, iterate, iterate_fields, literal, literal_of, sample, struct, struct_fields, when_fields}
 use Rattle.pack.proofs.TypeLaws.{fwd-type}
 use Rattle.pack_rules.specs.Syntax.{l_bool, l_char, l_float, l_int}
 use Rattle.pack.specs.Heads.{expr_left, expr_more}
 
-pub call-read : (names : ℕ) (s : List ℕ) (at : ℕ) → read_of (map_a expr_arity (call_fields names s at)) ≡ next_r (read_of (index names s at)) (λ i p. read_of (u16 s p))
-unfolding call_fields expr_arity
-call-read names s at = read-map-bind expr_arity (index names s at) _ _ (λ i p. read-map-id expr_arity (call i) (u16 s p) (λ n. refl))
-
-pub when-read : (names : ℕ) (s : List ℕ) (at : ℕ) → read_of (map_a expr_arity (when_fields names s at)) ≡ next_r (read_of (index names s at)) (λ i p. becomes_of (read_of (below 2 s p)) 1)
-unfolding when_fields expr_arity
-when-read names s at = read-map-bind expr_arity (index names s at) _ _ (λ i p. sym (becomes-read (sample i) expr_arity 1 (below 2 s p) (λ b. refl)))
-
-pub struct-read : (names : ℕ) (s : List ℕ) (at : ℕ) → read_of (map_a expr_arity (struct_fields names s at)) ≡ next_r (read_of (index names s at)) (λ i p. next_r (read_of (u16 s p)) (λ n q. then_is (skip (many (index names s) n q)) n))
-unfolding struct_fields expr_arity
-struct-read names s at =
-    read-map-bind expr_arity (index names s at) _ _ (λ i p.
-    read-map-bind expr_arity (u16 s p) _ _ (λ n q.
-    ap read_of (map-map expr_arity (struct i) (many (index names s) n q)) ∙
-    sym (then_is-read (λ fs. length fs) n (many (index names s) n q) (λ fs r e. many-length (index names s) n q fs r e))))
-
-pub iterate-read : (names : ℕ) (s : List ℕ) (at : ℕ) → read_of (map_a expr_arity (iterate_fields names s at)) ≡ next_r (read_of (below 2 s at)) (λ k p. next_r (read_of (index names s p)) (λ i q. next_r (read_of (below 2 s q)) (λ b o. next_r (read_of (u16 s o)) (λ n e. rd.Is (b + n) e))))
-unfolding iterate_fields expr_arity
-iterate-read names s at =
-    read-map-bind expr_arity (below 2 s at) _ _ (λ k p.
-    read-map-bind expr_arity (index names s p) _ _ (λ i q.
-    read-map-bind expr_arity (below 2 s q) _ _ (λ b o.
-    read-map-map expr_arity (iterate k i b) (u16 s o))))
+-- a struct has as many expressions under it as field names
+pub struct-ok : (names : ℕ) (s : List ℕ) (at : ℕ) (i n : Number) (q : ℕ) → Ok i ≡ read_of (index names s at) → Ok n ≡ read_of (u16 s i.next) → Ok q ≡ skip (many (index names s) n.value n.next) → Ok (record { value = n.value; next = q }) ≡ read_of (map_a expr_arity (struct_fields names s at))
+unfolding struct_fields expr_arity read_of map_a bind
+struct-ok names s at i n q e g h =
+    let a = read_found (index names s at) i e in
+    let b = read_found (u16 s i.next) n g in
+    let d = skip_found (many (index names s) n.value n.next) q h in
+    let l = many-length (index names s) n.value n.next d.0 q d.1 in
+    rw (a, b, d.1) (ap (λ (k : ℕ). Ok (record { value = k; next = q })) (sym l))
 
 -- the row of a tag
 pub row : (names tag k : ℕ) (s : List ℕ) (at : ℕ) (r : Read) → tag ≡ k → r ≡ read_of (map_a expr_arity (get_or (expr_rows names s at) k (illegal at))) → r ≡ read_of (map_a expr_arity (expr_fields names tag s at))
 unfolding expr_fields
 row names tag k s at r e h = rw e h
 
-pub row-none : (names tag : ℕ) (s : List ℕ) (at : ℕ) → 17 ≤ tag → rd.Illegal at ≡ read_of (map_a expr_arity (expr_fields names tag s at))
+pub row-none : (names tag : ℕ) (s : List ℕ) (at : ℕ) → 17 ≤ tag → Err (Illegal at) ≡ read_of (map_a expr_arity (expr_fields names tag s at))
 unfolding expr_fields expr_rows read_of map_a
 row-none names tag s at h = rw (get_or-eq_default (expr_rows names s at) (illegal at) h)
 
-pub expr_more-read : (names : ℕ) (s : List ℕ) (at : ℕ) → read_of (expr_more names s at) ≡ next_r (read_of (below 17 s at)) (λ tag p. read_of (map_a expr_arity (expr_fields names tag s p)))
-unfolding expr_more expr_head
-expr_more-read names s at = read-map-bind expr_arity (below 17 s at) _ _ (λ tag p. refl)
-
-pub literal-skip : (s : List ℕ) (at : ℕ) → skip (literal s at) ≡ next_s (read_of (below 4 s at)) (λ tag p. skip (literal_of tag s p))
-unfolding literal
-literal-skip s at = skip-bind_s (below 4 s at) _ _ (λ tag p. refl)
-
-pub literal-bool : (tag : ℕ) (s : List ℕ) (at : ℕ) → tag ≡ 0 → skip (literal_of tag s at) ≡ skip (below 2 s at)
-unfolding literal_of
-literal-bool tag s at e = rw e (skip-map (λ b. l_bool (flag_of b)) (below 2 s at))
-
-pub literal-int : (tag : ℕ) (s : List ℕ) (at : ℕ) → tag ≡ 1 → skip (literal_of tag s at) ≡ skip (u64 s at)
-unfolding literal_of
-literal-int tag s at e = rw e (skip-map l_int (u64 s at))
-
-pub literal-float : (tag : ℕ) (s : List ℕ) (at : ℕ) → tag ≡ 2 → skip (literal_of tag s at) ≡ skip (u64 s at)
-unfolding literal_of
-literal-float tag s at e = rw e (skip-map l_float (u64 s at))
-
-pub literal-char : (tag : ℕ) (s : List ℕ) (at : ℕ) → (tag ≡ 0 → ⊥) → (tag ≡ 1 → ⊥) → (tag ≡ 2 → ⊥) → skip (literal_of tag s at) ≡ skip (byte s at)
-unfolding literal_of
-literal-char tag s at e f g = rw (ne_eqb tag 0 e, ne_eqb tag 1 f, ne_eqb tag 2 g) (skip-map l_char (byte s at))
+-- a number that is at least k and is not k: `omega` takes at most 6 such facts at once, so a `match` of more arms goes by this step
+pub step : (k n : ℕ) → k ≤ n → (n ≡ k → ⊥) → k + 1 ≤ n
+step k n h d = omega arith
 
 -- what holds of every row holds of the row of any tag
 unfoldable Each : {A : Type 0} → (Answer A → Type 0) → List (Answer A) → Type 0
@@ -293,16 +258,17 @@ pub record Going (one : Bool) (names : ℕ) (s : List ℕ) (at n p : ℕ) : Type
   pub few : n ≤ 1 + 65536 * p
   pub first : one ≡ true → (n ≡ 1) × (p ≡ at)
 
-left-all : (names : ℕ) (s : List ℕ) (at : ℕ) → then_is (pending (expr_more names) s 1 at) 0 ≡ read_of (expr_left false names s at)
-unfolding expr_left
-left-all names s at = ap (λ (x : Skipped). then_is x 0) (sym (expr-pending names s at)) ∙ then_is-read _ 0 (expr_at names s at) (λ t q e. refl)
+-- no expression is left where all was read
+unfoldable pub none_left : Skipped → Read
+none_left (Ok q) = Ok (record { value = 0; next = q })
+none_left (Err e) = Err e
 
-rest-is : (r : Read) → OneOf (1 ∷ 2 ∷ 3 ∷ []) (tag_of Read-enum.the_type r) → r ≡ then_is (past_of r) 0
-unfolding then_is past_of
-rest-is (rd.Is v q) h = absurd (never-is (rd.Is v q) v q h refl)
-rest-is rd.Early h = refl
-rest-is (rd.Illegal o) h = refl
-rest-is (rd.Deep o) h = refl
+none-left : {T : Type 0} (a : Answer T) → none_left (skip a) ≡ read_of (map_a (λ t. 0) a)
+unfolding none_left skip read_of map_a
+none-left (value t q) = refl
+none-left early = refl
+none-left (illegal o) = refl
+none-left (deep o) = refl
 
 module _ (names : ℕ) (s : List ℕ) (at : ℕ) where
   pub nodes-begin : (one : Bool) → Going one names s at 1 at
@@ -313,21 +279,39 @@ module _ (names : ℕ) (s : List ℕ) (at : ℕ) where
   unfolding expr_left
   nodes-first one n p r t g e = e ∙ ap (λ (q : ℕ). read_of (expr_more names s q)) (g.first t).1 ∙ ap (λ (b : Bool). read_of (expr_left b names s at)) (sym t)
 
-  pub nodes-stopped : (one : Bool) (n p : ℕ) (r : Read) → 0 < n → OneOf (1 ∷ 2 ∷ 3 ∷ []) (tag_of Read-enum.the_type r) → Going one names s at n p → r ≡ read_of (expr_more names s p) → r ≡ read_of (expr_left one names s at)
-  nodes-stopped true n p r l h g e = nodes-first true n p r refl g e
-  nodes-stopped false n p r l h g e = rest-is r h ∙ ap (λ (x : Skipped). then_is x 0) (pending-stopped (expr_more names) (expr_moves names) s n p r (past_of r) l h e refl ∙ g.same) ∙ left-all names s at
+  -- all nodes were read, as far as they can be
+  pub nodes-all : (r : Read) (z : Skipped) → skip (expr_at names s at) ≡ z → r ≡ none_left z → r ≡ read_of (expr_left false names s at)
+  unfolding expr_left
+  nodes-all r z e f = f ∙ ap none_left (sym e) ∙ none-left (expr_at names s at)
 
-  pub nodes-went : (one : Bool) (n p m q : ℕ) → ((i : ℕ) → get_or s i 0 < 256) → one ≡ false → 0 < n → Going one names s at n p → expr_more names s p ≡ value m q → Going one names s at (n - 1 + m) q
-  nodes-went one n p m q b f l g e =
+  pub nodes-err : (one : Bool) (n p : ℕ) (e : Stop) → 0 < n → Going one names s at n p → Err e ≡ read_of (expr_more names s p) → Err e ≡ read_of (expr_left one names s at)
+  unfolding none_left
+  nodes-err true n p e l g h = nodes-first true n p (Err e) refl g h
+  nodes-err false n p e l g h = nodes-all (Err e) (Err e) (expr-pending names s at ∙ sym (pending-err (expr_more names) (expr_moves names) s n p e _ l h g.same)) refl
+
+  pub nodes-went : (one : Bool) (n p : ℕ) (h : Number) → ((i : ℕ) → get_or s i 0 < 256) → one ≡ false → 0 < n → Going one names s at n p → Ok h ≡ read_of (expr_more names s p) → Going one names s at (n - 1 + h.value) h.next
+  nodes-went one n p h b f l g e =
+      let v = read_found (expr_more names s p) h e in
       record {
-        same = pending-went (expr_more names) (expr_moves names) s n p m q _ l e g.same;
-        few = omega (arith, g.few, expr-small names s b p m q e, (expr_moves names).on s p m q e);
+        same = pending-ok (expr_more names) (expr_moves names) s n p h _ l e g.same;
+        few = omega (arith, g.few, expr-small names s b p h.value h.next v, (expr_moves names).on s p h.value h.next v);
         first = λ t. let z : false ≡ true = sym f ∙ t in let i : ◌≡◌ {A = ℕ} 0 1 = cc in absurd (omega arith);
       }
 
-  pub nodes-done : (one : Bool) (n p : ℕ) → n ≤ 0 → Going one names s at n p → rd.Is 0 p ≡ read_of (expr_left one names s at)
-  unfolding then_is
+  pub nodes-done : (one : Bool) (n p : ℕ) → n ≤ 0 → Going one names s at n p → Ok (record { value = 0; next = p }) ≡ read_of (expr_left one names s at)
+  unfolding none_left
   nodes-done true n p l g = absurd (omega (arith, (g.first refl).0))
   nodes-done false n p l g =
       let e : 0 ≡ n = omega arith in
-      ap (λ (x : Skipped). then_is x 0) (sym (pending-none (expr_more names) (expr_moves names) s p) ∙ ap (λ (k : ℕ). pending (expr_more names) s k p) e ∙ g.same) ∙ left-all names s at
+      nodes-all _ (Ok p) (expr-pending names s at ∙ sym (sym (pending-none (expr_more names) (expr_moves names) s p) ∙ ap (λ (k : ℕ). pending (expr_more names) s k p) e ∙ g.same)) refl
+
+-- an expression is skipped by its indexes
+pub record Skips (names : ℕ) (s : List ℕ) (at : ℕ) (r : Skipped) : Type 0 where
+  pub by_number : r ≡ skip (expr_at names s at)
+  pub by_names : (ns : List Name) → length ns ≡ names → r ≡ skip (expr_in ns s at)
+
+pub expr-skips : (names : ℕ) (s : List ℕ) (at : ℕ) (r : Skipped) → r ≡ skip {A = ℕ} (map_a (λ t. 0) (expr_at names s at)) → Skips names s at r
+unfolding expr_in
+expr-skips names s at r e =
+    let g : r ≡ skip (expr_at names s at) = e ∙ skip-map _ (expr_at names s at) in
+    record { by_number = g; by_names = λ ns h. g ∙ ap (λ (n : ℕ). skip (expr_at n s at)) (sym h) ∙ sym (skip-map _ (expr_at (length ns) s at)) }

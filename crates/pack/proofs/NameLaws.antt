@@ -2,13 +2,14 @@
 use Rattle.std.proofs.Common.{◌≡◌, ℕ, zero, suc, ◌+◌, ◌-◌, ◌<◌, ◌≤◌, Bool, true, false, cond, not, ◌&&◌, ◌||◌, eqb, ltb, leb, List, [], ◌∷◌, ◌++◌, length, get_or, take, drop, sym, refl, ap, ◌∙◌, ⊎_elim, add-one, arith, length-drop, drop_of_length-le, length-take, take_all, drop-cons, le-ltb, lt-ltb, ne_eqb, le-leb, leb-true}
 use mathlib.Core.Bool.{and_assoc, and-eq-true_iff, and-true, or_assoc}
 use borrow.Author.Tests.{lt-leb}
-use Rattle.wire.specs.declared.answer.Read.TheVariants as rd
-use Rattle.wire.specs.declared.answer.Skipped.TheVariants as sk
+use lib.Pointwise.{pointwise}
+use Rattle.std.specs.Prelude.{Ok, Err}
+use Rattle.wire.specs.declared.answer.Stop.{Stop}
+use Rattle.wire.specs.declared.answer.Stop.TheVariants.{Illegal}
 use Rattle.wire.specs.Answer.{Answer, bind, byte, deep, early, guard, illegal, many, u16, value}
 use Rattle.pack_rules.specs.Read.{char, name, name_byte, name_bytes, name_section, names_after, size}
-use Rattle.wire.specs.Code.{next, next_r, next_s, read_of, skip}
+use Rattle.wire.specs.Code.{Skipped, next, read_of, skip}
 use Rattle.wire.proofs.Answers.{bind-value, byte-value, guard-value}
-use Rattle.wire.proofs.Codes.{guard-read, guard-skip, skip-bind_s}
 use Rattle.wire.proofs.Writers.{lt-or-le}
 use Rattle.pack_rules.specs.Names.{eq_name, member}
 use Rattle.pack.specs.RawNames.{Inside, one_of, raw_end, raw_name, raw_names}
@@ -103,10 +104,10 @@ bytes-last n b r e = e ∙ ap name_bytes (take_all (length n - b) (drop b n) (om
 pub bytes-ends : (n : List ℕ) (i j : ℕ) (x y : Bool) → x ≡ name_bytes (take j n) → y ≡ name_bytes (take (length n - i) (drop i n)) → i ≤ j → x && y ≡ name_bytes n
 bytes-ends n i j x y e f l = (λ k. e k && bytes-last n i y f k) ∙ bytes-parts n i j l
 
-pub bytes-block : (n : List ℕ) (i : ℕ) (a x z : Bool) → x ≡ name_bytes (take (i + 16 - i) (drop i n)) → a ≡ name_bytes (take i n) && z → a && x ≡ name_bytes (take (i + 16) n) && z
-bytes-block n i a x z e f =
+pub bytes-block : (n : List ℕ) (i j : ℕ) (a x z : Bool) → j ≡ i + 16 → x ≡ name_bytes (take (i + 16 - i) (drop i n)) → a ≡ name_bytes (take i n) && z → a && x ≡ name_bytes (take j n) && z
+bytes-block n i j a x z h e f =
     let k : i + 16 - i ≡ 16 = omega arith in
-    let m : 16 + i ≡ i + 16 = omega arith in
+    let m : 16 + i ≡ j = omega arith in
     (λ j. f j && (e ∙ ap (λ (y : ℕ). name_bytes (take y (drop i n))) k) j)
     ∙ turn (name_bytes (take i n)) z (name_bytes (take 16 (drop i n)))
     ∙ ap (λ (y : Bool). y && z) (bytes-then n i 16 ∙ ap (λ (y : ℕ). name_bytes (take y n)) m)
@@ -120,14 +121,6 @@ bytes-block n i a x z e f =
 
 pub bytes-all : (n : List ℕ) (i : ℕ) (a : Bool) → length n - 16 ≤ i → a ≡ name_bytes (take i n) && name_bytes (drop (length n - 16) n) → a ≡ name_bytes n
 bytes-all n i a l e = e ∙ bytes-parts n (length n - 16) i l
-
-pub name-skip : (s : List ℕ) (at : ℕ) → skip (name s at) ≡ next_s (read_of (size s at)) (λ n p. skip (many (char s) n p))
-unfolding name
-name-skip s at = skip-bind_s (size s at) _ _ (λ n p. refl)
-
-pub char-skip : (s : List ℕ) (at : ℕ) → skip (char s at) ≡ next_s (read_of (byte s at)) (λ v q. cond (name_byte v) (sk.To q) (sk.Illegal at))
-unfolding char
-char-skip s at = guard-skip name_byte at (byte s at)
 
 char-there : (s : List ℕ) (at : ℕ) → at < length s → name_byte (get_or s at 0) ≡ true → char s at ≡ value (get_or s at 0) (at + 1)
 unfolding char byte guard
@@ -143,16 +136,12 @@ chars-there s (suc n) at l e =
     rw (char-there s at (omega arith) b.0, chars-there s n (at + 1) (omega arith) b.1, d, k)
 
 -- characters that are all there and all a name's
-pub spelled-skip : (s : List ℕ) (n at : ℕ) → leb (at + n) (length s) && name_bytes (take n (drop at s)) ≡ true → skip (many (char s) n at) ≡ sk.To (at + n)
+pub spelled-skip : (s : List ℕ) (n at : ℕ) → leb (at + n) (length s) && name_bytes (take n (drop at s)) ≡ true → skip (many (char s) n at) ≡ Ok (at + n)
 unfolding skip
 spelled-skip s n at h = let b = (and-eq-true_iff (leb (at + n) (length s)) _).0 h in ap skip (chars-there s n at (leb-true _ _ b.0) b.1)
 
 pub spelled-inside : (s : List ℕ) (n at : ℕ) → leb (at + n) (length s) && name_bytes (take n (drop at s)) ≡ true → at + n ≤ length s
 spelled-inside s n at h = leb-true _ _ ((and-eq-true_iff _ _).0 h).0
-
-pub size-read : (s : List ℕ) (at : ℕ) → read_of (size s at) ≡ next_r (read_of (byte s at)) (λ v q. cond (ltb 0 v) (rd.Is v q) (rd.Illegal at))
-unfolding size
-size-read s at = guard-read (λ n. ltb 0 n) at (byte s at)
 
 pub inside-step : (s : List ℕ) (n at : ℕ) → 0 < n → Inside s n at → (at + 1 + get_or s at 0 ≤ length s) × Inside s (n - 1) (at + 1 + get_or s at 0)
 unfolding Inside
@@ -237,7 +226,7 @@ name-value s at x q e =
     record { is = r.is ∙ ap (λ (k : ℕ). take k (drop b.1 s)) v.is ∙ ap (λ (k : ℕ). take (get_or s at 0) (drop k s)) v.to; to = omega (arith, r.to, v.to, v.is); inside = i }
 
 -- the next name of the section
-pub names-repeated : (s : List ℕ) (t : List (List ℕ)) (k at : ℕ) (x : List ℕ) (q : ℕ) → 0 < k → name s at ≡ value x q → member x t ≡ true → skip (names_after s t k at) ≡ sk.Illegal at
+pub names-repeated : (s : List ℕ) (t : List (List ℕ)) (k at : ℕ) (x : List ℕ) (q : ℕ) → 0 < k → name s at ≡ value x q → member x t ≡ true → skip (names_after s t k at) ≡ Err (Illegal at)
 unfolding names_after bind guard skip
 names-repeated s t zero at x q l e m = absurd (omega arith)
 names-repeated s t (suc k) at x q l e m = rw (e, m)
@@ -247,32 +236,21 @@ unfolding names_after bind guard
 names-went s t zero at x q l e m = absurd (omega arith)
 names-went s t (suc k) at x q l e m = let h : suc k - 1 ≡ k = omega arith in rw (e, m, h)
 
-pub names-done : (s : List ℕ) (t : List (List ℕ)) (k at : ℕ) → k ≤ 0 → skip (names_after s t k at) ≡ sk.To at
+pub names-done : (s : List ℕ) (t : List (List ℕ)) (k at : ℕ) → k ≤ 0 → skip (names_after s t k at) ≡ Ok at
 unfolding names_after skip
 names-done s t zero at l = refl
 names-done s t (suc k) at l = absurd (omega arith)
 
-pub names-next : (s : List ℕ) (t : List (List ℕ)) (k at : ℕ) → 0 < k → skip (names_after s t k at) ≡ next (skip (name s at)) (λ q. skip (names_after s t k at))
-unfolding names_after bind guard skip next
-names-next s t zero at l = absurd (omega arith)
-names-next s t (suc k) at l = go (name s at)
+pub names-stopped : (s : List ℕ) (t : List (List ℕ)) (k at : ℕ) (e : Stop) → 0 < k → Err e ≡ skip (name s at) → Err e ≡ skip (names_after s t k at)
+unfolding names_after bind guard skip
+names-stopped s t zero at e l h = absurd (omega arith)
+names-stopped s t (suc k) at e l h = go (name s at) h
   where
-    go : (a : Answer (List ℕ)) → skip (bind (guard (λ x. not (member x t)) at a) (λ x p. names_after s (t ++ x ∷ []) k p)) ≡ next (skip a) (λ q. skip (bind (guard (λ x. not (member x t)) at a) (λ x p. names_after s (t ++ x ∷ []) k p)))
-    go (value x q) = refl
-    go early = refl
-    go (illegal o) = refl
-    go (deep o) = refl
-
-pub skip-to : {A : Type 0} (a : Answer A) (q : ℕ) → skip a ≡ sk.To q → (x : A) × (a ≡ value x q)
-unfolding skip
-skip-to (value x p) q e = let g : p ≡ q = cc in (x, ap (value x) g)
-skip-to early q e = let z : ◌≡◌ {A = ℕ} 0 1 = cc in absurd (omega arith)
-skip-to (illegal o) q e = let z : ◌≡◌ {A = ℕ} 0 1 = cc in absurd (omega arith)
-skip-to (deep o) q e = let z : ◌≡◌ {A = ℕ} 0 1 = cc in absurd (omega arith)
-
-pub section-skip : (s : List ℕ) (at : ℕ) → skip (name_section s at) ≡ next_s (read_of (u16 s at)) (λ n p. skip (names_after s [] n p))
-unfolding name_section
-section-skip s at = skip-bind_s (u16 s at) _ _ (λ n p. refl)
+    go : (a : Answer (List ℕ)) → Err e ≡ skip a → Err e ≡ skip (bind (guard (λ x. not (member x t)) at a) (λ x p. names_after s (t ++ x ∷ []) k p))
+    go (value x q) h = cc
+    go early h = h
+    go (illegal o) h = h
+    go (deep o) h = h
 
 -- the loop's invariant: n names of the section have been read, and stand inside
 pub record NamesRead (s : List ℕ) (count q n p : ℕ) : Type 0 where
@@ -295,12 +273,20 @@ reading-more s count q n p x to b r l e f g =
     let w : raw_names s (n + 1) q ≡ raw_names s n q ++ x ∷ [] = ap (λ (k : ℕ). raw_names s k q) (add-one n) ∙ raw_names-more s n q ∙ ap (λ (k : ℕ). raw_names s n q ++ raw_name s k ∷ []) r.here ∙ ap (λ (y : List ℕ). raw_names s n q ++ y ∷ []) (sym v.is) in
     record { few = omega arith; inside = rw add-one (Inside-more s n q r.inside i); here = rw add-one (raw_end-more s n q ∙ ap (λ (k : ℕ). k + 1 + get_or s k 0) r.here ∙ sym v.to); same = ap (λ (t : List (List ℕ)). skip (names_after s t (count - (n + 1)) to)) w ∙ ap (λ (k : ℕ). skip (names_after s (raw_names s n q ++ x ∷ []) k to)) (sym u) ∙ sym (names-went s (raw_names s n q) (count - n) p x to (omega arith) e m) ∙ r.same }
 
-pub reading-repeated : (s : List ℕ) (count q n p : ℕ) (x : List ℕ) (to : ℕ) (b : Bool) → NamesRead s count q n p → n < count → name s p ≡ value x to → b ≡ one_of s p n q → b ≡ true → sk.Illegal p ≡ skip (names_after s [] count q)
+pub reading-repeated : (s : List ℕ) (count q n p : ℕ) (x : List ℕ) (to : ℕ) (b : Bool) → NamesRead s count q n p → n < count → name s p ≡ value x to → b ≡ one_of s p n q → b ≡ true → Err (Illegal p) ≡ skip (names_after s [] count q)
 unfolding one_of
 reading-repeated s count q n p x to b r l e f g =
     let v = name-value s p x to e in
     let m : member x (raw_names s n q) ≡ true = ap (λ (y : List ℕ). member y (raw_names s n q)) v.is ∙ sym f ∙ g in
     sym (names-repeated s (raw_names s n q) (count - n) p x to (omega arith) e m) ∙ r.same
 
-pub reading-done : (s : List ℕ) (count q n p : ℕ) → NamesRead s count q n p → count ≤ n → sk.To p ≡ skip (names_after s [] count q)
+pub reading-done : (s : List ℕ) (count q n p : ℕ) → NamesRead s count q n p → count ≤ n → Ok p ≡ skip (names_after s [] count q)
 reading-done s count q n p r l = sym (names-done s (raw_names s n q) (count - n) p (omega arith)) ∙ r.same
+
+-- what `==` of two slices says of names
+pub same-is : (a b : List ℕ) → pointwise eqb a b ≡ eq_name a b
+unfolding eq_name
+same-is [] [] = refl
+same-is [] (y ∷ ys) = refl
+same-is (x ∷ xs) [] = refl
+same-is (x ∷ xs) (y ∷ ys) = ap (λ (t : Bool). eqb x y && t) (same-is xs ys)

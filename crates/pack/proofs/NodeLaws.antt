@@ -1,37 +1,23 @@
 -- Laws of nodes taken apart: what was read of a node's head, with the name after its tag, is the node.
 use Rattle.std.proofs.Common.{◌≡◌, ℕ, zero, suc, ◌+◌, true, List, [], ◌∷◌, get_or, sym, refl, ap, ◌∙◌, arith, ne_eqb}
-use types.Run.{OneOf}
-use denote.Enum.Declared.{tag_of}
-use Rattle.wire.specs.contracts.answer.Read as Read-enum
-use Rattle.wire.specs.declared.answer.Read.{Read}
-use Rattle.wire.specs.declared.answer.Read.TheVariants as rd
+use Rattle.std.specs.Prelude.{Result, Ok, Err}
+use Rattle.wire.specs.declared.answer.Stop.{Stop}
+use Rattle.wire.specs.declared.answer.Number.{Number}
 use Rattle.pack.specs.declared.exprs.Node.{Node}
 use Rattle.pack.specs.declared.exprs.Node.TheVariants as nd
 use Rattle.pack.specs.declared.exprs.Decoded.{Decoded}
-use Rattle.pack.specs.declared.exprs.Decoded.TheVariants as dc
 use Rattle.wire.specs.Answer.{Answer, below, bind, deep, early, illegal, index, map_a, u16, value}
-use Rattle.wire.specs.Code.{read_of}
+use Rattle.wire.specs.Code.{Read, read_of}
 use Rattle.wire.proofs.Answers.{bind-value, byte-value, guard-value, map-value}
 use Rattle.pack_rules.specs.Forms.{ExprHead, array, arrow, binary, call, call_fields, cast, conditional, const, element, expr_arity, expr_fields, expr_head, expr_rows, field, iterate_fields, merge, previous, sample, struct_fields, tuple, unary, var, when_fields}
 use Rattle.pack.specs.Heads.{expr_left, expr_more}
 use Rattle.pack.specs.Nodes.{by_tag, decoded, named_of, node_of}
-use Rattle.wire.proofs.Steps.{found, never-is}
+use Rattle.wire.proofs.Codes.{read_found}
 
--- where no number was read there is no name
-pub named_none : (tag n : ℕ) (r : Read) → OneOf (1 ∷ 2 ∷ 3 ∷ []) (tag_of Read-enum.the_type r) → nd.Other n ≡ named_of tag n r
+-- a number that was read is the name of a node whose tag has one
+pub named-is : (tag k n : ℕ) (r : Read) (i : Number) (d : Node) → tag ≡ k → r ≡ Ok i → d ≡ by_tag k n i.value → d ≡ named_of tag n r
 unfolding named_of
-named_none tag n (rd.Is i q) h = absurd (never-is (rd.Is i q) i q h refl)
-named_none tag n rd.Early h = refl
-named_none tag n (rd.Illegal o) h = refl
-named_none tag n (rd.Deep o) h = refl
-
-pub named-is : (tag k n : ℕ) (r : Read) (i q : ℕ) (d : Node) → tag ≡ k → r ≡ rd.Is i q → d ≡ by_tag k n i → d ≡ named_of tag n r
-unfolding named_of
-named-is tag k n r i q d f e g = g ∙ ap (λ (t : ℕ). by_tag t n i) (sym f) ∙ sym (ap (named_of tag n) e)
-
-pub named-rest : (tag n : ℕ) (r : Read) (i q : ℕ) → (tag ≡ 1 → ⊥) → (tag ≡ 7 → ⊥) → (tag ≡ 14 → ⊥) → (tag ≡ 15 → ⊥) → r ≡ rd.Is i q → nd.Other n ≡ named_of tag n r
-unfolding by_tag
-named-rest tag n r i q a b c d e = named-is tag tag n r i q (nd.Other n) refl e (rw (ne_eqb tag 1 a, ne_eqb tag 7 b, ne_eqb tag 14 c, ne_eqb tag 15 d))
+named-is tag k n r i d f e g = g ∙ ap (λ (t : ℕ). by_tag t n i.value) (sym f) ∙ sym (ap (named_of tag n) e)
 
 -- the node of a head that was read
 unfoldable pub node_in : Answer ExprHead → Node
@@ -41,11 +27,9 @@ node_in (illegal o) = nd.Other 0
 node_in (deep o) = nd.Other 0
 
 -- a node in place of the number that was read
-unfoldable pub place : Node → Read → Decoded
-place d (rd.Is n q) = dc.Is d q
-place d rd.Early = dc.Early
-place d (rd.Illegal o) = dc.Illegal o
-place d (rd.Deep o) = dc.Deep o
+unfoldable pub place : Node → Read → Result Decoded Stop
+place d (Ok n) = Ok (record { node = d; next = n.next })
+place d (Err e) = Err e
 
 placed : (a : Answer ExprHead) → place (node_in a) (read_of (map_a expr_arity a)) ≡ decoded a
 unfolding place node_in read_of map_a decoded
@@ -81,26 +65,24 @@ plain-iterate names s at = plain-bind _ _ (λ k p. plain-bind _ _ (λ i q. plain
 
 told-plain : (tag : ℕ) (r : Read) (a : Answer ExprHead) → ((n i : ℕ) → nd.Other n ≡ by_tag tag n i) → Plain a → Told tag r a
 unfolding named_of
-told-plain tag (rd.Is i p) a f k h q e = k h q e ∙ f (expr_arity h) i
-told-plain tag rd.Early a f k h q e = k h q e
-told-plain tag (rd.Illegal o) a f k h q e = k h q e
-told-plain tag (rd.Deep o) a f k h q e = k h q e
+told-plain tag (Ok i) a f k h q e = k h q e ∙ f (expr_arity h) i.value
+told-plain tag (Err o) a f k h q e = k h q e
 
 module _ (names : ℕ) (s : List ℕ) (at : ℕ) where
-  index_read : (i q : ℕ) → index names s at ≡ value i q → read_of (u16 s at) ≡ rd.Is i q
+  index_read : (i q : ℕ) → index names s at ≡ value i q → read_of (u16 s at) ≡ Ok (record { value = i; next = q })
   unfolding index read_of
   index_read i q e = ap read_of (guard-value _ at (u16 s at) i q e).0
 
   told-map : (tag : ℕ) (f : ℕ → ExprHead) → ((i : ℕ) → node_of (f i) ≡ by_tag tag (expr_arity (f i)) i) → Told tag (read_of (u16 s at)) (map_a f (index names s at))
   told-map tag f k h q e =
       let m = map-value f (index names s at) h q e in
-      named-is tag tag (expr_arity h) _ m.0 q (node_of h) refl (index_read m.0 q m.1) (sym (ap node_of m.2) ∙ k m.0 ∙ ap (λ (y : ExprHead). by_tag tag (expr_arity y) m.0) m.2)
+      named-is tag tag (expr_arity h) _ (record { value = m.0; next = q }) (node_of h) refl (index_read m.0 q m.1) (sym (ap node_of m.2) ∙ k m.0 ∙ ap (λ (y : ExprHead). by_tag tag (expr_arity y) m.0) m.2)
 
   told-bind : (tag : ℕ) (f : ℕ → ℕ → ExprHead) (r : ℕ → Answer ℕ) → ((i n : ℕ) → node_of (f i n) ≡ by_tag tag (expr_arity (f i n)) i) → Told tag (read_of (u16 s at)) (bind (index names s at) (λ i p. map_a (f i) (r p)))
   told-bind tag f r k h q e =
       let b = bind-value (index names s at) _ h q e in
       let m = map-value (f b.0) (r b.1) h q b.3 in
-      named-is tag tag (expr_arity h) _ b.0 b.1 (node_of h) refl (index_read b.0 b.1 b.2) (sym (ap node_of m.2) ∙ k b.0 m.0 ∙ ap (λ (y : ExprHead). by_tag tag (expr_arity y) b.0) m.2)
+      named-is tag tag (expr_arity h) _ (record { value = b.0; next = b.1 }) (node_of h) refl (index_read b.0 b.1 b.2) (sym (ap node_of m.2) ∙ k b.0 m.0 ∙ ap (λ (y : ExprHead). by_tag tag (expr_arity y) b.0) m.2)
 
   told-call : Told 7 (read_of (u16 s at)) (call_fields names s at)
   unfolding call_fields node_of expr_arity by_tag
@@ -190,15 +172,17 @@ named_in names s at v q e =
     sym t ∙ sym (ap node_in a.1)
 
 -- what the code reads of a node
-module _ (names : ℕ) (s : List ℕ) (at : ℕ) (r : Read) (e : r ≡ read_of (expr_left true names s at)) where
-  pub node-stops : (x : Read) → r ≡ x → place (node_in (expr_head names s at)) x ≡ decoded (expr_head names s at)
-  unfolding expr_left expr_more
-  node-stops x g = ap (place (node_in (expr_head names s at))) (sym g ∙ e) ∙ placed (expr_head names s at)
+module _ (names : ℕ) (s : List ℕ) (at : ℕ) where
+  pub node-err : (e : Stop) → Err e ≡ read_of (expr_left true names s at) → Err e ≡ decoded (expr_head names s at)
+  unfolding expr_left expr_more place
+  node-err e h = ap (place (node_in (expr_head names s at))) h ∙ placed (expr_head names s at)
 
-  pub node-found : (v q : ℕ) → r ≡ rd.Is v q → expr_more names s at ≡ value v q
+  pub node-found : (n : Number) → Ok n ≡ read_of (expr_left true names s at) → expr_more names s at ≡ value n.value n.next
   unfolding expr_left
-  node-found v q g = found r (expr_more names s at) v q g e
+  node-found n e = read_found (expr_more names s at) n e
 
-  pub node-goes : (v q : ℕ) (first : Read) (d : Node) → r ≡ rd.Is v q → first ≡ read_of (u16 s (at + 1)) → d ≡ named_of (get_or s at 0) v first → dc.Is d q ≡ decoded (expr_head names s at)
-  unfolding place
-  node-goes v q first d g h k = ap (λ (x : Node). dc.Is x q) (k ∙ ap (named_of (get_or s at 0) v) h ∙ named_in names s at v q (node-found v q g)) ∙ node-stops (rd.Is v q) g
+  pub node-ok : (n : Number) (first : Read) (d : Node) → Ok n ≡ read_of (expr_left true names s at) → first ≡ read_of (u16 s (at + 1)) → d ≡ named_of (get_or s at 0) n.value first → Ok (record { node = d; next = n.next }) ≡ decoded (expr_head names s at)
+  unfolding place expr_left expr_more
+  node-ok n first d e h k =
+      ap (λ (x : Node). place x (Ok n)) (k ∙ ap (named_of (get_or s at 0) n.value) h ∙ named_in names s at n.value n.next (node-found n e)) ∙
+      ap (place (node_in (expr_head names s at))) e ∙ placed (expr_head names s at)

@@ -1,12 +1,9 @@
 -- Reading the first part of some bytes: it ends early, or it finds what reading all of them finds.
 use Rattle.std.proofs.Common.{◌≡◌, ℕ, zero, suc, ◌+◌, ◌<◌, ◌≤◌, Bool, not, ltb, ◌⊎◌, List, [], ◌∷◌, ◌++◌, length, take, refl, ap, ◌∙◌, inl, inr, ⊎_elim, arith, length-take, get_or-take, le-ltb, lt-ltb}
-use denote.Enum.Declared.{tag_of}
-use types.Run.{OneOf}
-use Rattle.wire.specs.declared.answer.Skipped.{Skipped}
-use Rattle.wire.specs.declared.answer.Skipped.TheVariants as sk
-use Rattle.wire.specs.contracts.answer.Skipped as Skipped-enum
 use Rattle.wire.specs.Answer.{Answer, bind, byte, deep, early, guard, illegal, many, value}
-use Rattle.wire.specs.Code.{skip}
+use Rattle.std.specs.Prelude.{Err}
+use Rattle.wire.specs.declared.answer.Stop.TheVariants.{Early}
+use Rattle.wire.specs.Code.{Skipped, skip}
 use Rattle.wire.proofs.Writers.{lt-or-le}
 use Rattle.pack_rules.specs.Names.{Name, member}
 use Rattle.pack_rules.specs.Read.{char, name, name_byte, names_after, size}
@@ -58,15 +55,9 @@ module _ (s : List ℕ) (m : ℕ) where
   ahead-names t (suc n) at = ahead-bind _ _ _ _ (ahead-guard (λ x. not (member x t)) at _ _ (ahead-name at)) (λ x p. ahead-names (t ++ (x ∷ [])) n p)
 
   -- names of the first part that do not end early are those of the whole
-  pub names-ahead : (n at : ℕ) (r : Skipped) → OneOf (0 ∷ 2 ∷ 3 ∷ []) (tag_of Skipped-enum.the_type r) → r ≡ skip (names_after (take m s) [] n at) → r ≡ skip (names_after s [] n at)
+  pub names-ahead : (n at : ℕ) (r : Skipped) → (r ≡ Err Early → ⊥) → r ≡ skip (names_after (take m s) [] n at) → r ≡ skip (names_after s [] n at)
   unfolding skip
   names-ahead n at r h e = ⊎_elim
-      (λ (g : names_after (take m s) [] n at ≡ early). absurd (none r h (e ∙ ap skip g)))
+      (λ (g : names_after (take m s) [] n at ≡ early). absurd (h (e ∙ ap skip g)))
       (λ (g : names_after (take m s) [] n at ≡ names_after s [] n at). e ∙ ap skip g)
       (ahead-names [] n at)
-    where
-      none : (r : Skipped) → OneOf (0 ∷ 2 ∷ 3 ∷ []) (tag_of Skipped-enum.the_type r) → r ≡ sk.Early → ⊥
-      none (sk.To q) h e = let z : ◌≡◌ {A = ℕ} 0 1 = cc in omega arith
-      none sk.Early h e = ⊎_elim (λ g. omega arith) (⊎_elim (λ g. omega arith) (λ g. omega arith)) h
-      none (sk.Illegal o) h e = let z : ◌≡◌ {A = ℕ} 0 1 = cc in omega arith
-      none (sk.Deep o) h e = let z : ◌≡◌ {A = ℕ} 0 1 = cc in omega arith

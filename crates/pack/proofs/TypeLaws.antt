@@ -1,29 +1,14 @@
 -- Laws of types: the fields of each tag as the code goes through them, and that heads move forward.
-use Rattle.std.proofs.Common.{◌≡◌, ℕ, suc, ◌<◌, ◌≤◌, eqb, List, length, refl, ap, ◌∙◌, arith, ne_eqb}
-use Rattle.wire.specs.declared.answer.Read.TheVariants as rd
+use Rattle.std.proofs.Common.{◌≡◌, ℕ, suc, ◌<◌, ◌≤◌, eqb, List, length, sym, refl, ap, ◌∙◌, arith}
 use Rattle.wire.specs.Answer.{below, bind, guard, index, map_a, u32, value}
-use Rattle.wire.specs.Code.{becomes_of, next_r, read_of, skip}
-use Rattle.wire.proofs.Codes.{becomes-read, read-bind}
+use Rattle.wire.specs.Code.{Skipped, skip}
+use Rattle.wire.proofs.Codes.{skip-map}
+use Rattle.pack_rules.specs.Names.{Name}
+use Rattle.pack_rules.specs.Read.{type_in}
 use Rattle.wire.proofs.Answers.{Fwd, bind-value, byte-ends, byte-value, fwd-index, fwd-map, fwd-value, guard-value, map-bind, map-value, fwd-cond, fwd-u32}
 use Rattle.wire.proofs.Preorders.{Moves, fwd-trees, pending, skip-trees}
 use Rattle.pack_rules.specs.Forms.{TypeHead, named, plain, sized, type_arity, type_at, type_fields, type_head}
 use Rattle.pack.specs.Heads.{type_more}
-
-pub type_fields-array : (names tag : ℕ) (s : List ℕ) (at : ℕ) → tag ≡ 12 → becomes_of (read_of (u32 s at)) 1 ≡ read_of (map_a type_arity (type_fields names tag s at))
-unfolding type_fields type_arity
-type_fields-array names tag s at e = rw e (becomes-read sized type_arity 1 (u32 s at) (λ x. refl))
-
-pub type_fields-named : (names tag : ℕ) (s : List ℕ) (at : ℕ) → tag ≡ 13 → becomes_of (read_of (index names s at)) 0 ≡ read_of (map_a type_arity (type_fields names tag s at))
-unfolding type_fields type_arity
-type_fields-named names tag s at e = rw e (becomes-read named type_arity 0 (index names s at) (λ x. refl))
-
-pub type_fields-plain : (names tag : ℕ) (s : List ℕ) (at : ℕ) → (tag ≡ 12 → ⊥) → (tag ≡ 13 → ⊥) → rd.Is 0 at ≡ read_of (map_a type_arity (type_fields names tag s at))
-unfolding type_fields type_arity read_of map_a
-type_fields-plain names tag s at e f = rw (ne_eqb tag 12 e, ne_eqb tag 13 f)
-
-pub type_more-read : (names : ℕ) (s : List ℕ) (at : ℕ) → read_of (type_more names s at) ≡ next_r (read_of (below 14 s at)) (λ tag p. read_of (map_a type_arity (type_fields names tag s p)))
-unfolding type_more type_head
-type_more-read names s at = ap read_of (map-bind type_arity (below 14 s at) _) ∙ read-bind (below 14 s at) _
 
 fwd-fields : (names tag : ℕ) (s : List ℕ) (at : ℕ) → Fwd (length s) at (type_fields names tag s at)
 unfolding type_fields
@@ -61,3 +46,14 @@ type-small names s at m p e = let a = map-value type_arity (type_head names s at
 pub fwd-type : (names : ℕ) (s : List ℕ) (at : ℕ) → Fwd (length s) at (type_at names s at)
 unfolding type_at type_more
 fwd-type names s at = fwd-trees type_arity (type_head names) (type_moves names) s (suc (length s)) 1 at (omega arith)
+
+-- a type is skipped by its indexes
+pub record Skips (names : ℕ) (s : List ℕ) (at : ℕ) (r : Skipped) : Type 0 where
+  pub by_number : r ≡ skip (type_at names s at)
+  pub by_names : (ns : List Name) → length ns ≡ names → r ≡ skip (type_in ns s at)
+
+pub type-skips : (names : ℕ) (s : List ℕ) (at : ℕ) (r : Skipped) → r ≡ pending (type_more names) s 1 at → Skips names s at r
+unfolding type_in
+type-skips names s at r e =
+    let g : r ≡ skip (type_at names s at) = e ∙ sym (type-pending names s at) in
+    record { by_number = g; by_names = λ ns h. g ∙ ap (λ (n : ℕ). skip (type_at n s at)) (sym h) ∙ sym (skip-map _ (type_at (length ns) s at)) }

@@ -1,13 +1,13 @@
 -- Internal: nothing here has to be believed; laws tie it to what docs/TRUSTED.md lists.
 -- A node of an expression as the code takes it apart, and the code's steps on it as functions.
-use Rattle.std.specs.Prelude.{ℕ, cond, length, ◌==◌}
+use Rattle.std.specs.Prelude.{ℕ, cond, length, ◌==◌, Result, Ok, Err}
 use Rattle.wire.specs.Answer.{Answer, value, early, illegal, deep}
-use Rattle.wire.specs.declared.answer.Read.{Read}
-use Rattle.wire.specs.declared.answer.Read.TheVariants as rd
+use Rattle.wire.specs.declared.answer.Stop.{Stop}
+use Rattle.wire.specs.declared.answer.Stop.TheVariants.{Early, Illegal, Deep}
+use Rattle.wire.specs.Code.{Read}
 use Rattle.pack.specs.declared.exprs.Node.{Node}
 use Rattle.pack.specs.declared.exprs.Node.TheVariants as nd
 use Rattle.pack.specs.declared.exprs.Decoded.{Decoded}
-use Rattle.pack.specs.declared.exprs.Decoded.TheVariants as dc
 use Rattle.pack_rules.specs.Forms.{ExprHead, const, var, unary, binary, conditional, previous, arrow, call, field, element, tuple, array, struct, cast, sample, merge, iterate, expr_arity}
 
 -- a variable's name, a clock's, a called node's; of the others only how many expressions stand under them
@@ -31,11 +31,11 @@ node_of (merge i) = nd.Clocked i 2
 node_of (iterate k i b n) = nd.Other (expr_arity (iterate k i b n))
 
 -- the node of a head that was read
-unfoldable pub decoded : Answer ExprHead → Decoded
-decoded (value h q) = dc.Is (node_of h) q
-decoded early = dc.Early
-decoded (illegal o) = dc.Illegal o
-decoded (deep o) = dc.Deep o
+unfoldable pub decoded : Answer ExprHead → Result Decoded Stop
+decoded (value h q) = Ok (record { node = node_of h; next = q })
+decoded early = Err Early
+decoded (illegal o) = Err (Illegal o)
+decoded (deep o) = Err (Deep o)
 
 -- the code's steps: a node of this tag, with n expressions under it and the name i
 unfoldable pub by_tag : ℕ → ℕ → ℕ → Node
@@ -48,7 +48,5 @@ by_tag tag n i =
 
 -- the same by the number that was read as the first of its fields; where there is none it has no name
 unfoldable pub named_of : ℕ → ℕ → Read → Node
-named_of tag n (rd.Is i q) = by_tag tag n i
-named_of tag n rd.Early = nd.Other n
-named_of tag n (rd.Illegal o) = nd.Other n
-named_of tag n (rd.Deep o) = nd.Other n
+named_of tag n (Ok i) = by_tag tag n i.value
+named_of tag n (Err e) = nd.Other n

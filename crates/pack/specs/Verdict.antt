@@ -1,13 +1,12 @@
 -- Internal: nothing here has to be believed; laws tie it to what docs/TRUSTED.md lists.
 -- The code's verdict on bytes, and where a pack's sections stand.
-use Rattle.std.specs.Prelude.{◌≡◌, ℕ, cond, List, [], length, replicate, nat_lt}
-use Rattle.wire.specs.declared.answer.Skipped.{Skipped}
-use Rattle.wire.specs.declared.answer.Skipped.TheVariants as sk
+use Rattle.std.specs.Prelude.{◌≡◌, ℕ, cond, List, [], length, replicate, nat_lt, Ok, Err}
+use Rattle.wire.specs.declared.answer.Stop.TheVariants as st
 use Rattle.pack.specs.declared.check.Verdict.{Verdict}
 use Rattle.pack.specs.declared.check.Verdict.TheVariants as vd
 use Rattle.pack.specs.declared.record.Pack.{Pack}
 use Rattle.wire.specs.Answer.{Answer, counted, deep, early, illegal, u16, value}
-use Rattle.wire.specs.Code.{onward, skip}
+use Rattle.wire.specs.Code.{Skipped, onward, skip}
 use Rattle.pack_rules.specs.Limits.{max_bytes}
 use Rattle.pack_rules.specs.Names.{Name}
 use Rattle.pack_rules.specs.Syntax.{Package}
@@ -24,10 +23,10 @@ verdict_of (whole p) = vd.Whole
 
 -- what reading all sections of n bytes came to
 unfoldable pub judged_of : Skipped → ℕ → Verdict
-judged_of (sk.To q) n = cond (nat_lt q n) (vd.After q) vd.Whole
-judged_of sk.Early n = vd.EndsEarly
-judged_of (sk.Illegal o) n = vd.Illegal o
-judged_of (sk.Deep o) n = vd.Deep o
+judged_of (Ok q) n = cond (nat_lt q n) (vd.After q) vd.Whole
+judged_of (Err st.Early) n = vd.EndsEarly
+judged_of (Err (st.Illegal o)) n = vd.Illegal o
+judged_of (Err (st.Deep o)) n = vd.Deep o
 
 -- the table's number for a verdict, and its value where there are n bytes
 unfoldable pub number_for : Verdict → ℕ
@@ -48,10 +47,8 @@ value_for (vd.After o) n = o
 
 -- where reading stands, or 0
 unfoldable pub offset_of : Skipped → ℕ
-offset_of (sk.To q) = q
-offset_of sk.Early = 0
-offset_of (sk.Illegal o) = 0
-offset_of (sk.Deep o) = 0
+offset_of (Ok q) = q
+offset_of (Err e) = 0
 
 -- a number that was read, or 0
 unfoldable pub count_of : Answer ℕ → ℕ

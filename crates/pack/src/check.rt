@@ -9,8 +9,8 @@ ghost use Rattle.pack_rules.specs.Limits.{max_bytes};
 use crate::cursor::opening;
 use crate::finish::{Outcome, returned_word};
 use crate::record::Pack;
-use crate::sections::{then_activations, then_enums, then_machines, then_nodes, then_origins};
-use wire::answer::{Read, Skipped};
+use crate::sections::{skip_activations, skip_enums, skip_machines, skip_nodes, skip_origins};
+use wire::answer::{Skipped, Stop};
 use wire::number::read_u16;
 
 // What a byte slice is as a pack: the table's answers 1 to 5 with their offsets, or a whole pack.
@@ -35,39 +35,54 @@ pub struct Opened {
 fn name_count(pack: &[u8]) -> usize
     ensures { result ≡ name_count pack.now }
 {
-    let r = read_u16(pack, 0);
-    let Read::Is { value, next: _ } = r else {
-        return 0;
-    };
-    value
-}
-
-// Where reading stands.
-pub fn reached(r: Skipped) -> usize
-    ensures { result ≡ offset_of r }
-{
-    match r {
-        Skipped::To(at) => at,
-        _ => 0,
+    match read_u16(pack, 0) {
+        Ok(count) => count.value,
+        Err(_) => 0,
     }
 }
 
+// Where reading stands.
+#[tactic(auto, unfolding(crate::specs::Verdict::offset_of))]
+pub fn reached(r: Skipped) -> usize
+    ensures { result ≡ offset_of r }
+{
+    r.unwrap_or(0)
+}
+
 // What reading all sections came to.
+#[tactic(auto, unfolding(crate::specs::Verdict::judged_of))]
 fn judged(r: Skipped, len: usize) -> Verdict
     ensures { result ≡ judged_of r len }
 {
     match r {
-        Skipped::To(at) => {
+        Ok(at) => {
             if at < len {
                 Verdict::After(at)
             } else {
                 Verdict::Whole
             }
         }
-        Skipped::Early => Verdict::EndsEarly,
-        Skipped::Illegal(o) => Verdict::Illegal(o),
-        Skipped::Deep(o) => Verdict::Deep(o),
+        Err(Stop::Early) => Verdict::EndsEarly,
+        Err(Stop::Illegal(o)) => Verdict::Illegal(o),
+        Err(Stop::Deep(o)) => Verdict::Deep(o),
     }
+}
+
+// Where each section ends and the next one begins, noted as they are read. The end of the last one.
+fn note_sections(s: &[u8], pack: &mut Pack) -> Skipped
+    requires short { length s.now ≤ max_bytes }
+    requires begun { pack.old ≡ record { names = name_count s.now; enums = 0; nodes = 0; machines = 0; activations = 0; origins = 0; end = 0 } }
+    ensures value { result ≡ skip (pack_at s.now 0) }
+    ensures noted { pack.new ≡ sections_of s.now }
+{
+    let names = pack.names;
+    pack.enums = opening(s)?;
+    pack.nodes = skip_enums(s, names, pack.enums)?;
+    pack.machines = skip_nodes(s, names, pack.nodes)?;
+    pack.activations = skip_machines(s, names, pack.machines)?;
+    pack.origins = skip_activations(s, names, pack.activations)?;
+    pack.end = skip_origins(s, names, pack.origins)?;
+    Ok(pack.end)
 }
 
 // Reads all sections.
@@ -76,24 +91,18 @@ fn read_sections(s: &[u8]) -> Opened
     ensures verdict_value { result.verdict ≡ judged_of (skip (pack_at s.now 0)) (length s.now) }
     ensures pack_value { result.pack ≡ sections_of s.now }
 {
-    let names = name_count(s);
-    let a = opening(s);
-    let b = then_enums(s, names, a);
-    let c = then_nodes(s, names, b);
-    let d = then_machines(s, names, c);
-    let e = then_activations(s, names, d);
-    let f = then_origins(s, names, e);
-    let pack = Pack {
-        names,
-        enums: reached(a),
-        nodes: reached(b),
-        machines: reached(c),
-        activations: reached(d),
-        origins: reached(e),
-        end: reached(f),
+    let mut pack = Pack {
+        names: name_count(s),
+        enums: 0,
+        nodes: 0,
+        machines: 0,
+        activations: 0,
+        origins: 0,
+        end: 0,
     };
+    let end = note_sections(s, &mut pack);
     Opened {
-        verdict: judged(f, s.len()),
+        verdict: judged(end, s.len()),
         pack,
     }
 }

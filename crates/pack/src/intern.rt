@@ -24,17 +24,7 @@ pub enum Found {
 pub fn same(a: &[u8], b: &[u8]) -> bool
     ensures { result ≡ eq_name a.now b.now }
 {
-    if a.len() != b.len() {
-        return false;
-    }
-    let mut i = 0;
-    while i < a.len() {
-        if a[i] != b[i] {
-            return false;
-        }
-        i += 1;
-    }
-    true
+    a == b
 }
 
 // Whether the name whose length byte stands at p is n.

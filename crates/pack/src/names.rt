@@ -1,4 +1,5 @@
 // The name section.
+#![tactic(auto, unfolding(wire::specs::Answer::bind, wire::specs::Answer::guard, wire::specs::Code::read_of, wire::specs::Code::skip, pack_rules::specs::Read::char, pack_rules::specs::Read::size, pack_rules::specs::Read::name, pack_rules::specs::Read::name_section))]
 ghost use Rattle.std.specs.Prelude.{◌≡◌, ◌+◌, ◌*◌, ◌≤◌, ◌&&◌, [], length, take, drop, nat_le, nat_lt, slice_index};
 ghost use Rattle.wire.specs.Answer.{many};
 ghost use Rattle.wire.specs.Code.{read_of, skip};
@@ -10,9 +11,8 @@ ghost use Rattle.pack.specs.Distinct.{Tells};
 use crate::distinct::{ROOM, enabled, enter, free_slot, probe};
 use crate::intern::same;
 use crate::siphash::hash;
-use wire::answer::{Read, Skipped, past};
+use wire::answer::{Read, Skipped, Stop};
 use wire::number::{read_byte, read_u16};
-use wire::writer::capped;
 
 // Whether b is one of the numbers from low on and below high.
 fn within(b: usize, low: usize, high: usize) -> bool
@@ -36,10 +36,8 @@ fn each_byte(n: &[u8]) -> bool
     ensures { result ≡ name_bytes n.now }
 {
     let mut all = true;
-    let mut i = 0;
-    while i < n.len() {
-        all = all & name_byte(n[i] as usize);
-        i += 1;
+    for b in n {
+        all = all & name_byte(usize::from(*b));
     }
     all
 }
@@ -62,11 +60,8 @@ fn by_blocks(n: &[u8]) -> bool
 {
     let b = n.len() - 16;
     let mut all = each_byte(&n[b..]);
-    let mut i = 0;
-    while i < b {
-        let e = i + 16;
-        all = all & each_byte(&n[i..e]);
-        i = e;
+    for k in 0..(n.len() - 1) / 16 {
+        all = all & each_byte(&n[16 * k..16 * k + 16]);
     }
     all
 }
@@ -91,14 +86,11 @@ fn name_bytes(n: &[u8]) -> bool
 pub fn skip_char(pack: &[u8], at: usize) -> Skipped
     ensures { result ≡ skip (char pack.now at) }
 {
-    let r = read_byte(pack, at);
-    let Read::Is { value: b, next: p } = r else {
-        return past(r);
-    };
-    if name_byte(b) {
-        Skipped::To(p)
+    let b = read_byte(pack, at)?;
+    if name_byte(b.value) {
+        Ok(b.next)
     } else {
-        Skipped::Illegal(at)
+        Err(Stop::Illegal(at))
     }
 }
 
@@ -106,60 +98,46 @@ pub fn skip_char(pack: &[u8], at: usize) -> Skipped
 pub fn read_size(pack: &[u8], at: usize) -> Read
     ensures { result ≡ read_of (size pack.now at) }
 {
-    let r = read_byte(pack, at);
-    let Read::Is { value: n, next: _ } = r else {
-        return r;
-    };
-    if 0 < n { r } else { Read::Illegal(at) }
+    let size = read_byte(pack, at)?;
+    if 0 < size.value {
+        Ok(size)
+    } else {
+        Err(Stop::Illegal(at))
+    }
 }
 
 // Whether the count bytes from q on are there and are bytes of a name.
 fn spelled(pack: &[u8], count: usize, q: usize) -> bool
     ensures { result ≡ nat_le (q + count) (length pack.now) && name_bytes (take count (drop q pack.now)) }
 {
-    if pack.len() < q {
-        return false;
+    if q <= pack.len() && count <= pack.len() - q {
+        name_bytes(&pack[q..q + count])
+    } else {
+        false
     }
-    if pack.len() - q < count {
-        return false;
-    }
-    let e = q + count;
-    name_bytes(&pack[q..e])
 }
 
 // The count characters from q on, one by one.
 fn skip_chars(pack: &[u8], count: usize, q: usize) -> Skipped
     ensures { result ≡ skip (many (char pack.now) count q) }
 {
-    let mut n = count;
     let mut p = q;
-    while 0 < n {
-        let e = skip_char(pack, p);
-        let Skipped::To(next) = e else {
-            return e;
-        };
-        n = n - 1;
-        p = next;
+    for _ in 0..count {
+        p = skip_char(pack, p)?;
     }
-    Skipped::To(p)
+    Ok(p)
 }
 
 // A name. Its characters are gone through one by one only to find which of them is wrong.
 pub fn skip_name(pack: &[u8], at: usize) -> Skipped
     ensures { result ≡ skip (name pack.now at) }
 {
-    let t = read_size(pack, at);
-    let Read::Is {
-        value: count,
-        next: q,
-    } = t
-    else {
-        return past(t);
-    };
-    if spelled(pack, count, q) {
-        return Skipped::To(q + count);
+    let size = read_size(pack, at)?;
+    if spelled(pack, size.value, size.next) {
+        Ok(size.next + size.value)
+    } else {
+        skip_chars(pack, size.value, size.next)
     }
-    skip_chars(pack, count, q)
 }
 
 // Whether the names whose length bytes stand at a and at b are the same.
@@ -167,8 +145,8 @@ pub fn same_name(pack: &[u8], a: usize, b: usize) -> bool
     requires { (a + 1 + slice_index pack.now a ≤ length pack.now) × (b + 1 + slice_index pack.now b ≤ length pack.now) }
     ensures { result ≡ eq_name (raw_name pack.now a) (raw_name pack.now b) }
 {
-    let e = a + 1 + pack[a] as usize;
-    let f = b + 1 + pack[b] as usize;
+    let e = a + 1 + usize::from(pack[a]);
+    let f = b + 1 + usize::from(pack[b]);
     same(&pack[a + 1..e], &pack[b + 1..f])
 }
 
@@ -177,15 +155,12 @@ pub fn seen(pack: &[u8], x: usize, count: usize, at: usize) -> bool
     requires { (x + 1 + slice_index pack.now x ≤ length pack.now) × Inside pack.now count at }
     ensures { result ≡ one_of pack.now x count at }
 {
-    let mut n = count;
     let mut p = at;
-    while 0 < n {
+    for _ in 0..count {
         if same_name(pack, x, p) {
             return true;
         }
-        let k = pack[p] as usize;
-        p = p + 1 + k;
-        n = n - 1;
+        p = p + 1 + usize::from(pack[p]);
     }
     false
 }
@@ -221,20 +196,15 @@ fn read_names(pack: &[u8], q: usize, count: usize, key: usize, t: &mut [u16]) ->
     requires { Tells pack.now q 0 key t.old }
     ensures { result ≡ skip (names_after pack.now [] count q) }
 {
-    let mut n: usize = 0;
     let mut p = q;
-    while n < count {
-        let e = skip_name(pack, p);
-        let Skipped::To(next) = e else {
-            return e;
-        };
+    for n in 0..count {
+        let next = skip_name(pack, p)?;
         if repeated(pack, q, n, p, next, key, t) {
-            return Skipped::Illegal(p);
+            return Err(Stop::Illegal(p));
         }
-        n += 1;
         p = next;
     }
-    Skipped::To(p)
+    Ok(p)
 }
 
 // The same without cells, each name looked for among those before it.
@@ -261,9 +231,9 @@ fn read_names_keyed(pack: &[u8], q: usize, count: usize, part: usize) -> Skipped
 {
     if 0 < part {
         let r = read_names_keyed(&pack[..part], q, count, 0);
-        let Skipped::Early = r else {
+        if r != Err(Stop::Early) {
             return r;
-        };
+        }
     }
     if count <= pack.len() / 17 {
         return read_names_hashed(pack, q, count, 0);
@@ -276,11 +246,11 @@ fn read_names_keyed(pack: &[u8], q: usize, count: usize, part: usize) -> Skipped
 fn names_by_table(pack: &[u8], q: usize, count: usize) -> Skipped
     ensures { result ≡ skip (names_after pack.now [] count q) }
 {
-    let m = capped(pack.len(), 0, 64);
+    let m = pack.len().min(64);
     let r = names_by_scan(&pack[..m], q, count);
-    let Skipped::Early = r else {
+    if r != Err(Stop::Early) {
         return r;
-    };
+    }
     if (pack.len() / 17 < count) & (8192 < pack.len()) {
         return read_names_keyed(pack, q, count, pack.len() / 16);
     }
@@ -291,16 +261,10 @@ fn names_by_table(pack: &[u8], q: usize, count: usize) -> Skipped
 pub fn skip_names(pack: &[u8], at: usize) -> Skipped
     ensures { result ≡ skip (name_section pack.now at) }
 {
-    let t = read_u16(pack, at);
-    let Read::Is {
-        value: count,
-        next: q,
-    } = t
-    else {
-        return past(t);
-    };
-    if count < 32 {
-        return names_by_scan(pack, q, count);
+    let count = read_u16(pack, at)?;
+    if count.value < 32 {
+        names_by_scan(pack, count.next, count.value)
+    } else {
+        names_by_table(pack, count.next, count.value)
     }
-    names_by_table(pack, q, count)
 }

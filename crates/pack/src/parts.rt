@@ -1,156 +1,98 @@
-// What definitions are made of: names, types, expressions, ports, equations, transitions.
-// Each function starts from where reading stands; what stopped stays so.
+// What definitions are made of: names, ports, equations, transitions. Types and expressions have modules of their own.
+#![tactic(auto, unfolding(wire::specs::Answer::bind, wire::specs::Answer::map_a, wire::specs::Code::read_of, wire::specs::Code::skip, wire::specs::Answer::guard, pack_rules::specs::Read::name_in, pack_rules::specs::Read::optional_in, pack_rules::specs::Read::port_in, pack_rules::specs::Read::equation_in, pack_rules::specs::Read::transition_in))]
 ghost use Rattle.std.specs.Prelude.{◌≡◌, ◌≤◌, ◌||◌, List, length, ◌==◌, nat_lt};
-ghost use Rattle.wire.specs.Code.{onward, read_of};
+ghost use Rattle.wire.specs.Code.{read_of, skip};
 ghost use Rattle.wire.specs.Answer.{guard, u16, counted};
 ghost use Rattle.pack_rules.specs.Limits.{absent, max_bytes};
 ghost use Rattle.pack_rules.specs.Names.{Name};
-ghost use Rattle.pack_rules.specs.Read.{name_in, optional_in, names_in, type_in, expr_in, port_in, ports_in, equation_in, equations_in, transition_in};
+ghost use Rattle.pack_rules.specs.Read.{name_in, optional_in, names_in, port_in, ports_in, equation_in, equations_in, transition_in};
 
 use crate::exprs::skip_expr;
 use crate::record::Pack;
 use crate::types::skip_type;
-use wire::answer::{Read, Skipped, left, past};
-use wire::number::{read_u16, then_count, then_index};
+use wire::answer::{Read, Skipped, Stop};
+use wire::number::{read_index, read_u16, skip_list};
 
 // An index of the name section.
-pub fn then_name(pack: &[u8], names: usize, from: Skipped) -> Skipped
-    ensures { (ns : List Name) → length ns ≡ names → result ≡ onward (name_in ns pack.now) from }
+pub fn skip_index(pack: &[u8], names: usize, at: usize) -> Skipped
+    ensures { (ns : List Name) → length ns ≡ names → result ≡ skip (name_in ns pack.now at) }
 {
-    then_index(pack, names, from)
+    Ok(read_index(pack, names, at)?.next)
 }
 
 // A name, or `Pack::ABSENT` for none.
 fn read_optional(pack: &[u8], names: usize, at: usize) -> Read
     ensures { result ≡ read_of (guard (λ i. nat_lt i names || i == absent) at (u16 pack.now at)) }
 {
-    let r = read_u16(pack, at);
-    let Read::Is { value, next: _ } = r else {
-        return r;
-    };
-    if value < names {
-        return r;
+    let name = read_u16(pack, at)?;
+    if name.value < names || name.value == Pack::ABSENT {
+        Ok(name)
+    } else {
+        Err(Stop::Illegal(at))
     }
-    if value == Pack::ABSENT {
-        return r;
-    }
-    Read::Illegal(at)
 }
 
-// The same, from where reading stands.
-pub fn then_optional(pack: &[u8], names: usize, from: Skipped) -> Skipped
-    ensures { (ns : List Name) → length ns ≡ names → result ≡ onward (optional_in ns pack.now) from }
+// The same, passed over.
+pub fn skip_optional(pack: &[u8], names: usize, at: usize) -> Skipped
+    ensures { (ns : List Name) → length ns ≡ names → result ≡ skip (optional_in ns pack.now at) }
 {
-    let Skipped::To(at) = from else {
-        return from;
-    };
-    past(read_optional(pack, names, at))
+    Ok(read_optional(pack, names, at)?.next)
 }
 
 // Names after their count.
-pub fn then_names(pack: &[u8], names: usize, from: Skipped) -> Skipped
-    ensures { (ns : List Name) → length ns ≡ names → result ≡ onward (names_in ns pack.now) from }
+pub fn skip_index_list(pack: &[u8], names: usize, at: usize) -> Skipped
+    ensures { (ns : List Name) → length ns ≡ names → result ≡ skip (names_in ns pack.now at) }
 {
-    let c = then_count(pack, from);
-    let mut n = c.left;
-    let mut r = c.at;
-    while 0 < n {
-        r = then_name(pack, names, r);
-        n = left(r, n - 1);
-    }
-    r
-}
-
-// A type.
-pub fn then_type(pack: &[u8], names: usize, from: Skipped) -> Skipped
-    requires { length pack.now ≤ max_bytes }
-    ensures { (ns : List Name) → length ns ≡ names → result ≡ onward (type_in ns pack.now) from }
-{
-    let Skipped::To(at) = from else {
-        return from;
-    };
-    skip_type(pack, names, at)
-}
-
-// An expression.
-pub fn then_expr(pack: &[u8], names: usize, from: Skipped) -> Skipped
-    requires { length pack.now ≤ max_bytes }
-    ensures { (ns : List Name) → length ns ≡ names → result ≡ onward (expr_in ns pack.now) from }
-{
-    let Skipped::To(at) = from else {
-        return from;
-    };
-    skip_expr(pack, names, at)
+    skip_list(pack, at, |p| skip_index(pack, names, p))
 }
 
 // A name and its type.
-pub fn then_port(pack: &[u8], names: usize, from: Skipped) -> Skipped
+pub fn skip_port(pack: &[u8], names: usize, at: usize) -> Skipped
     requires { length pack.now ≤ max_bytes }
-    ensures { (ns : List Name) → length ns ≡ names → result ≡ onward (port_in ns pack.now) from }
+    ensures { (ns : List Name) → length ns ≡ names → result ≡ skip (port_in ns pack.now at) }
 {
-    let a = then_name(pack, names, from);
-    then_type(pack, names, a)
+    let a = skip_index(pack, names, at)?;
+    skip_type(pack, names, a)
 }
 
 // Ports after their count.
-pub fn then_ports(pack: &[u8], names: usize, from: Skipped) -> Skipped
+pub fn skip_ports(pack: &[u8], names: usize, at: usize) -> Skipped
     requires { length pack.now ≤ max_bytes }
-    ensures { (ns : List Name) → length ns ≡ names → result ≡ onward (ports_in ns pack.now) from }
+    ensures { (ns : List Name) → length ns ≡ names → result ≡ skip (ports_in ns pack.now at) }
 {
-    let c = then_count(pack, from);
-    let mut n = c.left;
-    let mut r = c.at;
-    while 0 < n {
-        r = then_port(pack, names, r);
-        n = left(r, n - 1);
-    }
-    r
+    skip_list(pack, at, |p| skip_port(pack, names, p))
 }
 
 // Left names and an expression.
-pub fn then_equation(pack: &[u8], names: usize, from: Skipped) -> Skipped
+pub fn skip_equation(pack: &[u8], names: usize, at: usize) -> Skipped
     requires { length pack.now ≤ max_bytes }
-    ensures { (ns : List Name) → length ns ≡ names → result ≡ onward (equation_in ns pack.now) from }
+    ensures { (ns : List Name) → length ns ≡ names → result ≡ skip (equation_in ns pack.now at) }
 {
-    let a = then_names(pack, names, from);
-    then_expr(pack, names, a)
+    let a = skip_index_list(pack, names, at)?;
+    skip_expr(pack, names, a)
 }
 
 // Equations after their count.
-pub fn then_equations(pack: &[u8], names: usize, from: Skipped) -> Skipped
+pub fn skip_equations(pack: &[u8], names: usize, at: usize) -> Skipped
     requires { length pack.now ≤ max_bytes }
-    ensures { (ns : List Name) → length ns ≡ names → result ≡ onward (equations_in ns pack.now) from }
+    ensures { (ns : List Name) → length ns ≡ names → result ≡ skip (equations_in ns pack.now at) }
 {
-    let c = then_count(pack, from);
-    let mut n = c.left;
-    let mut r = c.at;
-    while 0 < n {
-        r = then_equation(pack, names, r);
-        n = left(r, n - 1);
-    }
-    r
+    skip_list(pack, at, |p| skip_equation(pack, names, p))
 }
 
 // A guard and its target.
-pub fn then_transition(pack: &[u8], names: usize, from: Skipped) -> Skipped
+pub fn skip_transition(pack: &[u8], names: usize, at: usize) -> Skipped
     requires { length pack.now ≤ max_bytes }
-    ensures { (ns : List Name) → length ns ≡ names → result ≡ onward (transition_in ns pack.now) from }
+    ensures { (ns : List Name) → length ns ≡ names → result ≡ skip (transition_in ns pack.now at) }
 {
-    let a = then_expr(pack, names, from);
-    then_name(pack, names, a)
+    let a = skip_expr(pack, names, at)?;
+    skip_index(pack, names, a)
 }
 
 // Transitions after their count.
-pub fn then_transitions(pack: &[u8], names: usize, from: Skipped) -> Skipped
+pub fn skip_transitions(pack: &[u8], names: usize, at: usize) -> Skipped
     requires { length pack.now ≤ max_bytes }
-    ensures { (ns : List Name) → length ns ≡ names → result ≡ onward (counted (transition_in ns pack.now) pack.now) from }
+    ensures { (ns : List Name) → length ns ≡ names → result ≡ skip (counted (transition_in ns pack.now) pack.now at) }
 {
-    let c = then_count(pack, from);
-    let mut n = c.left;
-    let mut r = c.at;
-    while 0 < n {
-        r = then_transition(pack, names, r);
-        n = left(r, n - 1);
-    }
-    r
+    skip_list(pack, at, |p| skip_transition(pack, names, p))
 }

@@ -1,9 +1,11 @@
 -- Laws that carry the code's answers along the definitions: one for each way in which a definition puts answers together.
-use Rattle.std.proofs.Common.{◌≡◌, ℕ, ◌+◌, ◌-◌, ◌<◌, ◌≤◌, zero, suc, List, ◌∷◌, Ok, Err, refl, sym, ap, ◌∙◌, arith}
+use Rattle.std.proofs.Common.{Err, List, Ok, Result, [], ap, arith, get_or, ltb, ltb-true, refl, suc, sym, zero, ℕ, ◌+◌, ◌-◌, ◌<◌, ◌∙◌, ◌∷◌, ◌≡◌, ◌≤◌}
 use Rattle.wire.specs.declared.answer.Stop.{Stop}
+use Rattle.wire.specs.declared.answer.Stop.TheVariants.{Early, Illegal, Deep}
 use Rattle.wire.specs.declared.answer.Number.{Number}
-use Rattle.wire.specs.Answer.{Answer, bind, counted, deep, early, illegal, many, map_a, u16, value}
-use Rattle.wire.specs.Code.{Skipped, after, listed, next, read_of, rep, skip, skips}
+use Rattle.wire.proofs.Answers.{guard-value, u16-value}
+use Rattle.wire.specs.Answer.{Answer, below, bind, byte, counted, deep, early, guard, illegal, many, map_a, u16, value}
+use Rattle.wire.specs.Code.{Skipped, after, listed, next, onward, read_of, rep, skip, skips}
 
 -- what was found, from the code's answer
 pub read_found : (a : Answer ℕ) (n : Number) → Ok n ≡ read_of a → a ≡ value n.value n.next
@@ -31,6 +33,13 @@ skip-read_err (value v q) e h = cc
 skip-read_err early e h = cc
 skip-read_err (illegal o) e h = cc
 skip-read_err (deep o) e h = cc
+
+pub after-read_err : (a : Answer ℕ) (k : ℕ → ℕ → Skipped) (e : Stop) → Err e ≡ read_of a → Err e ≡ after a k
+unfolding after read_of
+after-read_err (value v q) k e h = cc
+after-read_err early k e h = cc
+after-read_err (illegal o) k e h = cc
+after-read_err (deep o) k e h = cc
 
 pub skip-bind : {A B : Type 0} (a : Answer A) (k : A → ℕ → Answer B) → skip (bind a k) ≡ after a (λ x q. skip (k x q))
 unfolding skip bind after
@@ -103,6 +112,36 @@ skip-seq early k t h = refl
 skip-seq (illegal o) k t h = refl
 skip-seq (deep o) k t h = refl
 
+-- straight-line code: a production's parts, in order
+unfoldable pub steps : List (ℕ → Skipped) → Skipped → Skipped
+steps [] r = r
+steps (f ∷ fs) r = steps fs (next r f)
+
+pub steps-err : (fs : List (ℕ → Skipped)) (e : Stop) → Err e ≡ steps fs (Err e)
+unfolding steps next
+steps-err [] e = refl
+steps-err (f ∷ fs) e = steps-err fs e
+
+-- the part that is read first, then the others
+pub bind-steps : {A B : Type 0} (f : ℕ → Answer A) (p : ℕ) (k : A → ℕ → Answer B) (fs : List (ℕ → Skipped)) → ((x : A) (q : ℕ) → skip (k x q) ≡ steps fs (Ok q)) → skip (bind (f p) k) ≡ steps (skips f ∷ fs) (Ok p)
+unfolding steps next skips skip bind
+bind-steps {A} f p k fs h = go (f p)
+  where
+    go : (a : Answer A) → skip (bind a k) ≡ steps fs (skip a)
+    go (value x q) = h x q
+    go early = steps-err fs Early
+    go (illegal o) = steps-err fs (Illegal o)
+    go (deep o) = steps-err fs (Deep o)
+
+pub last_step : {A B : Type 0} (f : ℕ → Answer A) (p : ℕ) (c : A → B) → skip (map_a c (f p)) ≡ steps (skips f ∷ []) (Ok p)
+unfolding steps next skips
+last_step f p c = skip-map c (f p)
+
+pub from-steps : {A : Type 0} (h : ℕ → Answer A) (fs : List (ℕ → Skipped)) → ((p : ℕ) → skip (h p) ≡ steps fs (Ok p)) → (r : Skipped) → onward h r ≡ steps fs r
+unfolding onward next skips
+from-steps h fs e (Ok p) = e p
+from-steps h fs e (Err o) = steps-err fs o
+
 -- a list after its count
 pub listed-counted : {A : Type 0} (f : ℕ → Answer A) (s : List ℕ) (at : ℕ) → listed s (skips f) at ≡ skip (counted f s at)
 unfolding listed counted skips
@@ -127,11 +166,26 @@ unfolding listed after
 listed-ok s k at n z e h = let g = read_found (u16 s at) n e in rw g h
 
 pub listed-err : (s : List ℕ) (k : ℕ → Skipped) (at : ℕ) (e : Stop) → Err e ≡ read_of (u16 s at) → Err e ≡ listed s k at
-unfolding listed after read_of
-listed-err s k at e h = go (u16 s at) h
-  where
-    go : (a : Answer ℕ) → Err e ≡ read_of a → Err e ≡ after a (rep k)
-    go (value v q) h = cc
-    go early h = cc
-    go (illegal o) h = cc
-    go (deep o) h = cc
+unfolding listed
+listed-err s k at e h = after-read_err (u16 s at) (rep k) e h
+
+-- how many elements a list has is a number of two bytes
+pub u16-small : (s : List ℕ) (at : ℕ) (n : Number) → ((i : ℕ) → get_or s i 0 < 256) → Ok n ≡ read_of (u16 s at) → n.value < 65536
+u16-small s at n b e = let p = u16-value s at n.value n.next (read_found (u16 s at) n e) in omega (arith, b at, b (at + 1))
+
+pub below-small : (m : ℕ) (s : List ℕ) (at : ℕ) (n : Number) → Ok n ≡ read_of (below m s at) → n.value < m
+unfolding below
+below-small m s at n e = ltb-true n.value m (guard-value (λ i. ltb i m) at _ n.value n.next (read_found (guard (λ i. ltb i m) at (byte s at)) n e)).1
+
+-- a loop over a list begins with all of it to come
+pub rep-start : (k : ℕ → Skipped) (m p : ℕ) → rep k (m - 0) p ≡ rep k m p
+rep-start k m p = ap (λ (n : ℕ). rep k n p) (omega arith)
+
+-- what a `?` hands back
+pub handed-back : {T E : Type 0} (r : Result T E) (e : E) → (x : E) × (r ≡ Err x) × (x ≡ e) → r ≡ Err e
+handed-back r e h = h.1 ∙ ap Err h.2
+
+-- what stands after a number that was read
+pub skip-ok : {B : Type 0} (a : Answer ℕ) (k : ℕ → ℕ → Answer B) (n : Number) (z : Skipped) → Ok n ≡ read_of a → z ≡ skip (k n.value n.next) → z ≡ skip (bind a k)
+unfolding bind
+skip-ok a k n z h d = let g = read_found a n h in rw g d

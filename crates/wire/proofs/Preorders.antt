@@ -1,16 +1,18 @@
 -- Trees in preorder, read by a loop that counts the trees still to come: it agrees with reading them as trees.
-use Prim.Native.Nat.{ℕ, ◌+◌, ◌≤◌, ◌<◌, zero, suc}
+use Prim.Native.Nat.{ℕ, ◌+◌, ◌-◌, ◌≤◌, ◌<◌, zero, suc}
 use native.Mathlib.Nat.{zero-add, suc-add, add_assoc}
 use native.Mathlib.Omega.{arith}
 use mathlib.Core.List.{List}
 use mathlib.Core.Path.{◌≡◌, refl, sym, ap, ◌∙◌}
 use lib.ListN.{length}
+use Rattle.wire.specs.declared.answer.Stop.{Stop}
 use Rattle.wire.specs.declared.answer.Stop.TheVariants.{Early}
+use Rattle.wire.specs.declared.answer.Number.{Number}
 use Rattle.std.specs.Prelude.{Ok, Err}
 use Rattle.wire.specs.Preorder.{trees}
 use Rattle.wire.specs.Answer.{Answer, deep, early, illegal, map_a, value}
-use Rattle.wire.specs.Code.{Skipped, after, next, skip}
-use Rattle.wire.proofs.Codes.{after_cong, after_map, after-skip, next-after, next-cong, skip-bind, skip-last}
+use Rattle.wire.specs.Code.{Skipped, after, next, read_of, skip}
+use Rattle.wire.proofs.Codes.{after_cong, after_map, after-read_err, after-skip, next-after, next-cong, read_found, skip-bind, skip-last}
 use Rattle.wire.proofs.Answers.{Fwd}
 
 -- the same with a count of trees still to come: `more s at` is how many trees stand under the head at `at`
@@ -123,3 +125,19 @@ module _ {H : Type 0} (arity : H → ℕ) (head : List ℕ → ℕ → Answer H)
   fwd-trees f n at h ts q e =
       let g : run (λ s at. map_a arity (head s at)) f s n at ≡ Ok q = sym (skip-trees f n at h) ∙ ap skip e in
       record { on = run-moves (λ s at. map_a arity (head s at)) M s f n at q g; inside = run_inside (λ s at. map_a arity (head s at)) M s f n at q g }
+
+-- the loop over heads: one head more, and where there is none
+module _ (more : List ℕ → ℕ → Answer ℕ) (M : Moves more) (s : List ℕ) where
+  pub pending-ok : (n at : ℕ) (h : Number) (z : Skipped) → 0 < n → Ok h ≡ read_of (more s at) → pending more s n at ≡ z → pending more s (n - 1 + h.value) h.next ≡ z
+  unfolding after
+  pending-ok zero at h z l e f = absurd (omega arith)
+  pending-ok (suc n) at h z l e f =
+      let g : suc n - 1 + h.value ≡ h.value + n = omega arith in
+      ap (λ (k : ℕ). pending more s k h.next) g ∙ ap (λ (a : Answer ℕ). after a (λ m p. pending more s (m + n) p)) (sym (read_found (more s at) h e)) ∙ sym (pending-step more M s n at) ∙ f
+
+  pub pending-err : (n at : ℕ) (e : Stop) (z : Skipped) → 0 < n → Err e ≡ read_of (more s at) → pending more s n at ≡ z → Err e ≡ z
+  pending-err zero at e z l h f = absurd (omega arith)
+  pending-err (suc n) at e z l h f = after-read_err (more s at) (λ m p. pending more s (m + n) p) e h ∙ sym (pending-step more M s n at) ∙ f
+
+  pub pending-done : (n at : ℕ) (z : Skipped) → n ≤ 0 → pending more s n at ≡ z → Ok at ≡ z
+  pending-done n at z l e = let g : 0 ≡ n = omega arith in sym (pending-none more M s at) ∙ ap (λ (k : ℕ). pending more s k at) g ∙ e

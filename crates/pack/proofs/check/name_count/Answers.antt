@@ -1,9 +1,8 @@
-use borrow.Enum.Refused.{opened}
-use Rattle.pack.proofs.CheckLaws.{count-goes, count-stops}
+use Rattle.pack.proofs.CheckLaws.{count-err, count-ok}
 use Rattle.pack.proofs.check.name_count.Goals as goal
 
-pub returns-in_default : goal.returns-in_default
-returns-in_default c = count-stops _ _ (opened c.in_default.in_default-own.keys2) c.read_u16-r.ensures
+pub returns-in-Ok : goal.returns-in-Ok
+returns-in-Ok c = count-ok _ _ c.in-Ok.ensures
 
-pub returns : goal.returns
-returns c = count-goes _ _ _ _ c.in-Is.is c.read_u16-r.ensures
+pub returns-in-Err : goal.returns-in-Err
+returns-in-Err c = count-err _ _ c.in-Err.ensures

@@ -1,10 +1,8 @@
-use Rattle.std.proofs.Common.{◌≡◌}
+use Rattle.std.proofs.Common.{◌≡◌, ◌-◌}
 use Rattle.wire.specs.Answer.{index}
-use Rattle.wire.specs.Code.{rep, skip}
+use Rattle.wire.specs.Code.{rep, skips}
 use Rattle.pack.proofs.exprs.skip_indexes.Given as goal
 
-abbrev pub invariant-loop-n : goal.invariant-loop-n
-invariant-loop-n l = rep (λ q. skip (index l.names l.pack q)) l.n l.p ≡ rep (λ q. skip (index l.names l.pack q)) l.count l.at
-
-abbrev pub decreases-loop-n : goal.decreases-loop-n
-decreases-loop-n l = l.n
+-- what is left to skip from here is what was to be skipped at the start
+abbrev pub invariant-loop : goal.invariant-loop
+invariant-loop l = rep (skips (index l.names l.pack)) (l.count - l.counter) l.p ≡ rep (skips (index l.names l.pack)) l.count l.initial.p

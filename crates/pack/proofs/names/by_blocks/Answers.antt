@@ -3,12 +3,12 @@ use Rattle.pack_rules.specs.Read.{name_bytes}
 use Rattle.pack.proofs.NameLaws.{bytes-all, bytes-block, bytes-last}
 use Rattle.pack.proofs.names.by_blocks.Goals as goal
 
-pub loop-i-init : goal.loop-i-init
+pub loop-k-init : goal.loop-k-init
 unfolding name_bytes
-loop-i-init c = (omega arith, bytes-last c.args.n.now _ _ c.each_byte-all.ensures)
+loop-k-init c = bytes-last c.args.n.now _ _ c.each_byte-all.ensures
 
-pub loop-i-preserved : goal.loop-i-preserved
-loop-i-preserved c = (omega (arith, c.requires), bytes-block c.args.n.now c.loop-i.i _ _ _ c.each_byte-all-in-loop-i.ensures c.loop-i.invariant.1)
+pub loop-k-preserved : goal.loop-k-preserved
+loop-k-preserved c = bytes-block c.args.n.now _ _ _ _ _ (omega arith) c.each_byte-all-in-loop-k.ensures c.loop-k.invariant
 
 pub returns : goal.returns
-returns c = bytes-all c.args.n.now c.loop-i.i _ c.loop-i-test.false c.loop-i.invariant.1
+returns c = bytes-all c.args.n.now _ _ (omega (arith, c.loop-k-test.false, c.requires)) c.loop-k.invariant

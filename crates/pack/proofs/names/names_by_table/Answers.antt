@@ -1,10 +1,9 @@
-use borrow.Enum.Refused.{opened}
-use Rattle.std.proofs.Common.{arith, length-take}
+use Rattle.std.proofs.Common.{◌≡◌, true, false, sym, ◌∙◌, arith, length-take}
 use Rattle.pack.proofs.Prefix.{names-ahead}
 use Rattle.pack.proofs.names.names_by_table.Goals as goal
 
 pub slice_bounds-names_by_scan-end : goal.slice_bounds-names_by_scan-end
-slice_bounds-names_by_scan-end c = simp length-take (omega (arith, c.capped-m.ensures))
+slice_bounds-names_by_scan-end c = simp length-take (omega (arith, c.min-m.ensures))
 
-pub returns-in_default : goal.returns-in_default
-returns-in_default c = names-ahead c.args.pack.now c.capped-m.result _ _ _ (opened c.in_default.in_default-own.keys2) c.names_by_scan-r.ensures
+pub returns-then-ne : goal.returns-then-ne
+returns-then-ne c = names-ahead c.args.pack.now c.min-m.result _ _ _ (λ e. let z : true ≡ false = sym c.if-ne.true ∙ (rw e at c.ne.ensures) in cc) c.names_by_scan-r.ensures

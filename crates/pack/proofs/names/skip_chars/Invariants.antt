@@ -1,11 +1,8 @@
-use Rattle.std.proofs.Common.{◌≡◌}
-use Rattle.wire.specs.Answer.{many}
-use Rattle.wire.specs.Code.{rep, skip}
+use Rattle.std.proofs.Common.{◌≡◌, ◌-◌}
+use Rattle.wire.specs.Code.{rep, skips}
 use Rattle.pack_rules.specs.Read.{char}
 use Rattle.pack.proofs.names.skip_chars.Given as goal
 
-abbrev pub invariant-loop-n : goal.invariant-loop-n
-invariant-loop-n l = rep (λ o. skip (char l.pack o)) l.n l.p ≡ skip (many (char l.pack) l.count l.q)
-
-abbrev pub decreases-loop-n : goal.decreases-loop-n
-decreases-loop-n l = l.n
+-- what is left to skip from here is what was to be skipped at the start
+abbrev pub invariant-loop : goal.invariant-loop
+invariant-loop l = rep (skips (char l.pack)) (l.count - l.counter) l.p ≡ rep (skips (char l.pack)) l.count l.initial.p

@@ -1,0 +1,9 @@
+use Rattle.std.proofs.Common.{rules, ◌∙◌}
+use Rattle.wire.specs.Code.{skips}
+use Rattle.wire.proofs.Codes.{listed-counted}
+use Rattle.pack_rules.specs.Read.{port_in, ports_in}
+use Rattle.pack.proofs.parts.skip_ports.Goals as goal
+
+pub returns : goal.returns
+unfolding skips ports_in
+returns c ns e = c.skip_list.ensures (skips (port_in ns c.args.pack.now)) (λ p r l h. search rules) ∙ listed-counted _ _ _

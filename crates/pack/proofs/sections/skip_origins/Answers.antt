@@ -1,0 +1,9 @@
+use Rattle.std.proofs.Common.{rules, ◌∙◌}
+use Rattle.wire.specs.Code.{skips}
+use Rattle.wire.proofs.Codes.{listed-counted}
+use Rattle.pack_rules.specs.Read.{origin_in}
+use Rattle.pack.proofs.sections.skip_origins.Goals as goal
+
+pub returns : goal.returns
+unfolding skips
+returns c ns e = c.skip_list.ensures (skips (origin_in ns c.args.pack.now)) (λ p r l h. search rules) ∙ listed-counted _ _ _
