@@ -1,14 +1,12 @@
 -- Laws of the check: the sections one after the other, and what the verdict on them tells.
 use Rattle.std.proofs.Common.{◌≡◌, ℕ, zero, suc, ◌+◌, ◌*◌, ◌<◌, ◌≤◌, Bool, true, false, cond, not, ltb, List, [], ◌∷◌, ◌++◌, length, replicate, sym, refl, ap, ◌∙◌, subst, ⊎_elim, arith, length-append, ltb-false, le-ltb, lt-ltb}
 use lib.ListN.{length-replicate}
-use types.Run.{OneOf}
-use denote.Enum.Declared.{tag_of}
-use Rattle.pack.specs.contracts.check.Verdict as Verdict-enum
-use Rattle.pack.specs.declared.check.Verdict.{Verdict}
-use Rattle.pack.specs.declared.check.Verdict.TheVariants as vd
+use Rattle.pack.specs.declared.finish.CallError.{CallError}
+use Rattle.pack.specs.declared.finish.CallError.TheVariants as ce
+use Rattle.pack.specs.Finish.{error_number, error_value, number_for, value_for}
 use Rattle.pack.specs.declared.record.Pack.{Pack}
 use Rattle.wire.specs.Answer.{Answer, bind, byte, counted, deep, early, guard, illegal, many, map_a, u16, value}
-use Rattle.std.specs.Prelude.{Ok, Err}
+use Rattle.std.specs.Prelude.{Result, Ok, Err, ⊤}
 use Rattle.wire.specs.declared.answer.Number.{Number}
 use Rattle.wire.specs.declared.answer.Stop.{Stop}
 use Rattle.wire.specs.declared.answer.Stop.TheVariants.{Early, Illegal, Deep}
@@ -21,8 +19,8 @@ use Rattle.pack.proofs.RoundTrip.{body_in, read-value}
 use Rattle.pack_rules.specs.Names.{Name, member}
 use Rattle.pack_rules.specs.Syntax.{Package}
 use Rattle.pack_rules.specs.Read.{Reading, activation_in, bytes_after, deep_at, ends_early, enum_in, illegal_at, machine_in, name, name_section, names_after, node_in, origin_in, pack_at, read, reading_of, too_long, whole}
-use Rattle.pack_rules.specs.Outcome.{answers, check, number_of, on_package, returned, value_of}
-use Rattle.pack.specs.Verdict.{SectionsAt, count_of, empty_package, empty_record, judged_of, name_count, names_of, names_or, number_for, offset_of, past_activations, past_enums, past_machines, past_names, past_nodes, past_origins, record_of, sections_of, value_for, verdict_of}
+use Rattle.pack_rules.specs.Outcome.{Outcome, answers, check, number_of, on_package, value_of}
+use Rattle.pack.specs.Verdict.{SectionsAt, count_of, empty_package, empty_record, judged_of, name_count, names_of, names_or, past_activations, past_enums, past_machines, past_names, past_nodes, past_origins, record_of, offset_of, sections_of, verdict_of}
 
 -- how many names the name section has
 names-length : (s : List ℕ) (t : List Name) (n at : ℕ) (ns : List Name) (q : ℕ) → names_after s t n at ≡ value ns q → length ns ≡ length t + n
@@ -210,18 +208,18 @@ module _ (s : List ℕ) where
       })
 
 -- the verdict on what reading all sections came to
-judged-reading : (n : ℕ) (x : Answer Package) → judged_of (skip x) n ≡ verdict_of (reading_of n x)
+judged-reading : (n : ℕ) (x : Answer Package) → judged_of (skip x) n ≡ verdict_of n (reading_of n x)
 unfolding judged_of skip verdict_of reading_of
 judged-reading n (value p q) = go (ltb q n)
   where
-    go : (t : Bool) → cond t (vd.After q) vd.Whole ≡ verdict_of (cond t (bytes_after q) (whole p))
+    go : (t : Bool) → cond t (Err (ce.BytesAfter q)) (Ok tt) ≡ verdict_of n (cond t (bytes_after q) (whole p))
     go true = refl
     go false = refl
 judged-reading n early = refl
 judged-reading n (illegal o) = refl
 judged-reading n (deep o) = refl
 
-pub open-long : (s : List ℕ) → 65536 < length s → vd.TooLong ≡ verdict_of (read s)
+pub open-long : (s : List ℕ) → 65536 < length s → Err ce.TooLong ≡ verdict_of (length s) (read s)
 unfolding read verdict_of
 open-long s h = rw (lt-ltb 65536 (length s) h)
 
@@ -237,8 +235,8 @@ read_short : (s : List ℕ) → length s ≤ 65536 → read s ≡ reading_of (le
 unfolding read
 read_short s h = rw (le-ltb 65536 (length s) h)
 
-pub open-short : (s : List ℕ) (v : Verdict) → length s ≤ 65536 → v ≡ judged_of (skip (pack_at s 0)) (length s) → v ≡ verdict_of (read s)
-open-short s v h e = e ∙ judged-reading (length s) (pack_at s 0) ∙ ap verdict_of (sym (read_short s h))
+pub open-short : (s : List ℕ) (v : Result ⊤ CallError) → length s ≤ 65536 → v ≡ judged_of (skip (pack_at s 0)) (length s) → v ≡ verdict_of (length s) (read s)
+open-short s v h e = e ∙ judged-reading (length s) (pack_at s 0) ∙ ap (verdict_of (length s)) (sym (read_short s h))
 
 -- a whole pack's sections stand where its record says
 pub record-stands : (s : List ℕ) (p : Package) → read s ≡ whole p → SectionsAt s (record_of s) p
@@ -255,61 +253,74 @@ pub empty_stands : SectionsAt (replicate 12 0) empty_record empty_package
 unfolding empty_record
 empty_stands = sections-stand (replicate 12 0) empty_package 12 empty-read
 
--- the number and the value of the check
-pub check-is : (s : List ℕ) (v : Verdict) (number value : ℕ) → v ≡ verdict_of (read s) → number ≡ number_for v → value ≡ value_for v (length s) → (number ≡ number_of (check s)) × (value ≡ value_of (check s))
-unfolding check on_package number_of value_of number_for value_for verdict_of
-check-is s v n w e f g = (f ∙ ap number_for e ∙ (go (read s)).0, g ∙ ap (λ (x : Verdict). value_for x (length s)) e ∙ (go (read s)).1)
+-- a pack that is not whole, whatever is done with a package
+pub stopped-reading : (s : List ℕ) (e : CallError) (k : Package → Outcome) → Err e ≡ verdict_of (length s) (read s) → on_package s (read s) k ≡ answers (error_number e) (error_value e)
+unfolding on_package verdict_of
+stopped-reading s e k h = go (read s) h
   where
-    go : (x : Reading) → (number_for (verdict_of x) ≡ number_of (on_package s x (λ p. answers 0 (length s)))) × (value_for (verdict_of x) (length s) ≡ value_of (on_package s x (λ p. answers 0 (length s))))
-    go too_long = (refl, refl)
-    go ends_early = (refl, refl)
-    go (illegal_at o) = (refl, refl)
-    go (deep_at o) = (refl, refl)
-    go (bytes_after o) = (refl, refl)
-    go (whole p) = (refl, refl)
+    go : (r : Reading) → Err e ≡ verdict_of (length s) r → on_package s r k ≡ answers (error_number e) (error_value e)
+    go too_long h = let g : ce.TooLong ≡ e = cc in ap (λ (x : CallError). answers (error_number x) (error_value x)) g
+    go ends_early h = let g : ce.EndsEarly (length s) ≡ e = cc in ap (λ (x : CallError). answers (error_number x) (error_value x)) g
+    go (illegal_at o) h = let g : ce.Illegal o ≡ e = cc in ap (λ (x : CallError). answers (error_number x) (error_value x)) g
+    go (deep_at o) h = let g : ce.TooDeep o ≡ e = cc in ap (λ (x : CallError). answers (error_number x) (error_value x)) g
+    go (bytes_after o) h = let g : ce.BytesAfter o ≡ e = cc in ap (λ (x : CallError). answers (error_number x) (error_value x)) g
+    go (whole p) h = cc
 
--- the number and the value, in one word
-pub word-check : (s : List ℕ) (v : Verdict) (number value : ℕ) → v ≡ verdict_of (read s) → number ≡ number_for v → value ≡ value_for v (length s) → number * 4294967296 + value ≡ returned (check s)
-unfolding returned
-word-check s v n w e f g =
-    let h = check-is s v n w e f g in
-    λ i. h.0 i * 4294967296 + h.1 i
+-- a whole one
+pub whole-reading : (s : List ℕ) → Ok tt ≡ verdict_of (length s) (read s) → (p : Package) × (read s ≡ whole p)
+unfolding verdict_of
+whole-reading s h = go (read s) refl h
+  where
+    go : (r : Reading) → read s ≡ r → Ok tt ≡ verdict_of (length s) r → (p : Package) × (read s ≡ whole p)
+    go (whole p) g h = (p, g)
+    go too_long g h = cc
+    go ends_early g h = cc
+    go (illegal_at o) g h = cc
+    go (deep_at o) g h = cc
+    go (bytes_after o) g h = cc
+
+-- the number and the value of the check
+abbrev pub Checked : List ℕ → Result ℕ CallError → Type 0
+Checked s r = (number_for r ≡ number_of (check s)) × (value_for r ≡ value_of (check s))
+
+pub check-err : (s : List ℕ) (e : CallError) → Err e ≡ verdict_of (length s) (read s) → Checked s (Err e)
+unfolding check number_of value_of
+check-err s e h = let t = stopped-reading s e (λ p. answers 0 (length s)) h in (sym (ap number_of t), sym (ap value_of t))
+
+pub check-ok : (s : List ℕ) → Ok tt ≡ verdict_of (length s) (read s) → Checked s (Ok (length s))
+unfolding check on_package number_of value_of
+check-ok s h = let w = whole-reading s h in rw w.1 (refl, refl)
 
 -- both are small
-pub number_small : (v : Verdict) → number_for v ≤ 5
-unfolding number_for
-number_small vd.Whole = omega arith
-number_small vd.TooLong = omega arith
-number_small vd.EndsEarly = omega arith
-number_small (vd.Illegal o) = omega arith
-number_small (vd.Deep o) = omega arith
-number_small (vd.After o) = omega arith
-
-reading_small : (n : ℕ) (x : Answer Package) → n ≤ 65536 → offset_in x ≤ n → value_for (verdict_of (reading_of n x)) n ≤ 65536
-unfolding reading_of verdict_of value_for offset_in
-reading_small n (value p q) h l = go (ltb q n)
+reading_small : (n : ℕ) (x : Answer Package) (e : CallError) → n ≤ 65536 → offset_in x ≤ n → Err e ≡ verdict_of n (reading_of n x) → error_value e ≤ 65536
+unfolding reading_of verdict_of offset_in
+reading_small n (value p q) e h l i = go (ltb q n) i
   where
-    go : (t : Bool) → value_for (verdict_of (cond t (bytes_after q) (whole p))) n ≤ 65536
-    go true = omega arith
-    go false = h
-reading_small n early h l = h
-reading_small n (illegal o) h l = omega arith
-reading_small n (deep o) h l = omega arith
+    go : (t : Bool) → Err e ≡ verdict_of n (cond t (bytes_after q) (whole p)) → error_value e ≤ 65536
+    go true i = let g : ce.BytesAfter q ≡ e = cc in subst (λ (x : CallError). error_value x ≤ 65536) g (omega arith)
+    go false i = cc
+reading_small n early e h l i = let g : ce.EndsEarly n ≡ e = cc in subst (λ (x : CallError). error_value x ≤ 65536) g h
+reading_small n (illegal o) e h l i = let g : ce.Illegal o ≡ e = cc in subst (λ (x : CallError). error_value x ≤ 65536) g (omega arith)
+reading_small n (deep o) e h l i = let g : ce.TooDeep o ≡ e = cc in subst (λ (x : CallError). error_value x ≤ 65536) g (omega arith)
 
-pub value-small : (s : List ℕ) (v : Verdict) → v ≡ verdict_of (read s) → value_for v (length s) ≤ 65536
-unfolding read verdict_of value_for
-value-small s v e = subst (λ (x : Verdict). value_for x (length s) ≤ 65536) (sym e) (go (ltb 65536 (length s)) refl)
+pub value-small : (s : List ℕ) (e : CallError) → Err e ≡ verdict_of (length s) (read s) → error_value e ≤ 65536
+unfolding read verdict_of
+value-small s e h = go (ltb 65536 (length s)) refl h
   where
-    go : (t : Bool) → ltb 65536 (length s) ≡ t → value_for (verdict_of (cond t too_long (reading_of (length s) (pack_at s 0)))) (length s) ≤ 65536
-    go true g = omega arith
-    go false g = reading_small (length s) (pack_at s 0) (ltb-false 65536 (length s) g) (within-pack s 0 (omega arith))
+    go : (t : Bool) → ltb 65536 (length s) ≡ t → Err e ≡ verdict_of (length s) (cond t too_long (reading_of (length s) (pack_at s 0))) → error_value e ≤ 65536
+    go true g i = let z : ce.TooLong ≡ e = cc in subst (λ (x : CallError). error_value x ≤ 65536) z (omega arith)
+    go false g i = reading_small (length s) (pack_at s 0) e (ltb-false 65536 (length s) g) (within-pack s 0 (omega arith)) i
 
--- the arms of a match on a verdict but for `Whole`
-pub not-whole : (v : Verdict) → OneOf (1 ∷ 2 ∷ 3 ∷ 4 ∷ 5 ∷ []) (tag_of Verdict-enum.the_type v) → v ≡ vd.Whole → ⊥
-not-whole v h e = go (subst (λ (y : Verdict). OneOf (1 ∷ 2 ∷ 3 ∷ 4 ∷ 5 ∷ []) (tag_of Verdict-enum.the_type y)) e h)
-  where
-    go : OneOf (1 ∷ 2 ∷ 3 ∷ 4 ∷ 5 ∷ []) 0 → ⊥
-    go h = ⊎_elim (λ e. omega arith) (⊎_elim (λ e. omega arith) (⊎_elim (λ e. omega arith) (⊎_elim (λ e. omega arith) (λ e. omega arith)))) h
+pub whole-small : (s : List ℕ) → Ok tt ≡ verdict_of (length s) (read s) → length s ≤ 65536
+whole-small s h = let w = whole-reading s h in (read-value s w.0 w.1).0
 
-pub table_is : (v u : Verdict) (n : ℕ) → v ≡ u → (number_for u ≡ number_for v) × (value_for u n ≡ value_for v n)
-table_is v u n e = (ap number_for (sym e), ap (λ (x : Verdict). value_for x n) (sym e))
+pub number_small : (e : CallError) → error_number e ≤ 9
+number_small ce.TooLong = omega arith
+number_small (ce.EndsEarly n) = omega arith
+number_small (ce.Illegal o) = omega arith
+number_small (ce.TooDeep o) = omega arith
+number_small (ce.BytesAfter o) = omega arith
+number_small (ce.Refused n) = omega arith
+number_small (ce.ReportRoom n) = omega arith
+number_small ce.TooLarge = omega arith
+number_small (ce.OutputRoom n) = omega arith

@@ -87,12 +87,12 @@ texts-part t m b l r = ⊎_elim
     ap (λ k. take (m - k) (drop k t)) z ∙ take-drop-swap texts_from m t)
     (lt-or-le m texts_from)
 
-pub answered-part : (room : ℕ) (old out made : List ℕ) (w : Writer) (m n b : ℕ) → w.full ≡ false → m ≡ min (0 + w.made) (length made)
-    → n ≡ min (0 + w.at) (length out) → b ≡ min (0 + texts_from) m
+pub answered-part : (room : ℕ) (old out made : List ℕ) (w : Writer) (m n b : ℕ) → w.full ≡ false → m ≡ min w.made (length made)
+    → n ≡ min w.at (length out) → b ≡ min texts_from m
     → sized room (pack_of old (take (m - b) (drop b made)) (take n out)) ≡ answered room old (state_of out made w)
 unfolding answered state_of
 answered-part room old out made w m n b e p q r =
-    rw (e, texts-part made m b (omega arith) r, take_part made w.made m p, take_part out w.at n q)
+    rw (e, texts-part made m b (omega arith) (omega arith), take_part made w.made m (omega arith), take_part out w.at n (omega arith))
 
 -- the parts of an answer, carried to another name of it
 pub carried : (x y : Outcome) (n v : ℕ) (d e : List ℕ) → x ≡ y → Gives x n v d e → Gives y n v d e

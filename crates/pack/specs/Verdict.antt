@@ -1,9 +1,9 @@
 -- Internal: nothing here has to be believed; laws tie it to what docs/TRUSTED.md lists.
 -- The code's verdict on bytes, and where a pack's sections stand.
-use Rattle.std.specs.Prelude.{◌≡◌, ℕ, cond, List, [], length, replicate, nat_lt, Ok, Err}
+use Rattle.std.specs.Prelude.{◌≡◌, ℕ, cond, List, [], length, replicate, nat_lt, Result, Ok, Err, ⊤}
 use Rattle.wire.specs.declared.answer.Stop.TheVariants as st
-use Rattle.pack.specs.declared.check.Verdict.{Verdict}
-use Rattle.pack.specs.declared.check.Verdict.TheVariants as vd
+use Rattle.pack.specs.declared.finish.CallError.{CallError}
+use Rattle.pack.specs.declared.finish.CallError.TheVariants as ce
 use Rattle.pack.specs.declared.record.Pack.{Pack}
 use Rattle.wire.specs.Answer.{Answer, counted, deep, early, illegal, u16, value}
 use Rattle.wire.specs.Code.{Skipped, onward, skip}
@@ -12,38 +12,21 @@ use Rattle.pack_rules.specs.Names.{Name}
 use Rattle.pack_rules.specs.Syntax.{Package}
 use Rattle.pack_rules.specs.Read.{Reading, activation_in, bytes_after, deep_at, ends_early, enum_in, illegal_at, machine_in, name_section, node_in, origin_in, too_long, whole}
 
--- the verdict of a reading
-unfoldable pub verdict_of : Reading → Verdict
-verdict_of too_long = vd.TooLong
-verdict_of ends_early = vd.EndsEarly
-verdict_of (illegal_at o) = vd.Illegal o
-verdict_of (deep_at o) = vd.Deep o
-verdict_of (bytes_after o) = vd.After o
-verdict_of (whole p) = vd.Whole
+-- what reading n bytes came to: a whole pack, or why not
+unfoldable pub verdict_of : ℕ → Reading → Result ⊤ CallError
+verdict_of n too_long = Err ce.TooLong
+verdict_of n ends_early = Err (ce.EndsEarly n)
+verdict_of n (illegal_at o) = Err (ce.Illegal o)
+verdict_of n (deep_at o) = Err (ce.TooDeep o)
+verdict_of n (bytes_after o) = Err (ce.BytesAfter o)
+verdict_of n (whole p) = Ok tt
 
 -- what reading all sections of n bytes came to
-unfoldable pub judged_of : Skipped → ℕ → Verdict
-judged_of (Ok q) n = cond (nat_lt q n) (vd.After q) vd.Whole
-judged_of (Err st.Early) n = vd.EndsEarly
-judged_of (Err (st.Illegal o)) n = vd.Illegal o
-judged_of (Err (st.Deep o)) n = vd.Deep o
-
--- the table's number for a verdict, and its value where there are n bytes
-unfoldable pub number_for : Verdict → ℕ
-number_for vd.Whole = 0
-number_for vd.TooLong = 1
-number_for vd.EndsEarly = 2
-number_for (vd.Illegal o) = 3
-number_for (vd.Deep o) = 4
-number_for (vd.After o) = 5
-
-unfoldable pub value_for : Verdict → ℕ → ℕ
-value_for vd.Whole n = n
-value_for vd.TooLong n = max_bytes
-value_for vd.EndsEarly n = n
-value_for (vd.Illegal o) n = o
-value_for (vd.Deep o) n = o
-value_for (vd.After o) n = o
+unfoldable pub judged_of : Skipped → ℕ → Result ⊤ CallError
+judged_of (Ok q) n = cond (nat_lt q n) (Err (ce.BytesAfter q)) (Ok tt)
+judged_of (Err st.Early) n = Err (ce.EndsEarly n)
+judged_of (Err (st.Illegal o)) n = Err (ce.Illegal o)
+judged_of (Err (st.Deep o)) n = Err (ce.TooDeep o)
 
 -- where reading stands, or 0
 unfoldable pub offset_of : Skipped → ℕ

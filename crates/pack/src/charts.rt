@@ -1,5 +1,6 @@
 // Charts: reading goes from a state to its regions and back to states, with one level less at each region.
 #![tactic(auto, unfolding(wire::specs::Answer::bind, wire::specs::Answer::map_a, wire::specs::Code::read_of, wire::specs::Code::skip, pack_rules::specs::Read::state_with, pack_rules::specs::Read::region_at))]
+
 ghost use Rattle.std.specs.Prelude.{◌≡◌, ◌≤◌, List, length};
 ghost use Rattle.wire.specs.Code.{skip};
 ghost use Rattle.pack_rules.specs.Names.{Name};

@@ -3,31 +3,21 @@ ghost use Rattle.std.specs.Prelude.{◌≡◌, ◌<◌, ◌≤◌, length};
 ghost use Rattle.wire.specs.Code.{skip};
 ghost use Rattle.pack_rules.specs.Read.{pack_at, read};
 ghost use Rattle.pack_rules.specs.Outcome.{check, number_of, returned, value_of};
-ghost use Rattle.pack.specs.Verdict.{verdict_of, judged_of, name_count, number_for, offset_of, record_of, sections_of, value_for};
+ghost use Rattle.pack.specs.Finish.{number_for, value_for};
+ghost use Rattle.pack.specs.Verdict.{judged_of, name_count, offset_of, record_of, sections_of, verdict_of};
 ghost use Rattle.pack_rules.specs.Limits.{max_bytes};
 
 use crate::cursor::opening;
-use crate::finish::{Outcome, returned_word};
+use crate::finish::{CallError, Outcome, returned_word};
 use crate::record::Pack;
 use crate::sections::{skip_activations, skip_enums, skip_machines, skip_nodes, skip_origins};
 use wire::answer::{Skipped, Stop};
 use wire::number::read_u16;
 
-// What a byte slice is as a pack: the table's answers 1 to 5 with their offsets, or a whole pack.
-#[derive(Clone, Copy)]
-pub enum Verdict {
-    Whole,
-    TooLong,
-    EndsEarly,
-    Illegal(usize),
-    Deep(usize),
-    After(usize),
-}
-
-// The verdict, and the record of where the sections stand.
-#[derive(Clone, Copy)]
+// What a byte slice is as a pack, the table's answers 1 to 5 or a whole pack; and the record of where the sections stand.
+#[derive(Clone, Copy, Debug, PartialEq, Eq)]
 pub struct Opened {
-    pub verdict: Verdict,
+    pub verdict: Result<(), CallError>,
     pub pack: Pack,
 }
 
@@ -49,22 +39,17 @@ pub fn reached(r: Skipped) -> usize
     r.unwrap_or(0)
 }
 
-// What reading all sections came to.
+// What reading all sections of len bytes came to.
 #[tactic(auto, unfolding(crate::specs::Verdict::judged_of))]
-fn judged(r: Skipped, len: usize) -> Verdict
-    ensures { result ≡ judged_of r len }
+fn judged(end: Skipped, len: usize) -> Result<(), CallError>
+    ensures { result ≡ judged_of end len }
 {
-    match r {
-        Ok(at) => {
-            if at < len {
-                Verdict::After(at)
-            } else {
-                Verdict::Whole
-            }
-        }
-        Err(Stop::Early) => Verdict::EndsEarly,
-        Err(Stop::Illegal(o)) => Verdict::Illegal(o),
-        Err(Stop::Deep(o)) => Verdict::Deep(o),
+    match end {
+        Ok(at) if at < len => Err(CallError::BytesAfter(at)),
+        Ok(_) => Ok(()),
+        Err(Stop::Early) => Err(CallError::EndsEarly(len)),
+        Err(Stop::Illegal(o)) => Err(CallError::Illegal(o)),
+        Err(Stop::Deep(o)) => Err(CallError::TooDeep(o)),
     }
 }
 
@@ -109,58 +94,25 @@ fn read_sections(s: &[u8]) -> Opened
 
 // Reads a pack: the verdict on every byte slice, and the record of where its sections stand, as far as it can be read.
 pub fn read_pack(s: &[u8]) -> Opened
-    ensures verdict_value { result.verdict ≡ verdict_of (read s.now) }
+    ensures verdict_value { result.verdict ≡ verdict_of (length s.now) (read s.now) }
     ensures pack_value { result.pack ≡ record_of s.now }
 {
     if Pack::BYTES < s.len() {
         return Opened {
-            verdict: Verdict::TooLong,
+            verdict: Err(CallError::TooLong),
             pack: Pack::empty(),
         };
     }
     read_sections(s)
 }
 
-// The table's number and value for a verdict on len bytes.
-pub fn answer(v: Verdict, len: usize) -> Outcome
-    ensures { (result.number ≡ number_for v) × (result.value ≡ value_for v len) }
-{
-    match v {
-        Verdict::Whole => Outcome {
-            number: Outcome::DONE,
-            value: len as u64,
-        },
-        Verdict::TooLong => Outcome {
-            number: Outcome::TOO_LONG,
-            value: Pack::BYTES as u64,
-        },
-        Verdict::EndsEarly => Outcome {
-            number: Outcome::ENDS_EARLY,
-            value: len as u64,
-        },
-        Verdict::Illegal(o) => Outcome {
-            number: Outcome::ILLEGAL,
-            value: o as u64,
-        },
-        Verdict::Deep(o) => Outcome {
-            number: Outcome::TOO_DEEP,
-            value: o as u64,
-        },
-        Verdict::After(o) => Outcome {
-            number: Outcome::BYTES_AFTER,
-            value: o as u64,
-        },
-    }
-}
-
-// Checks a pack: numbers 0 to 5.
+// Checks a pack: its length, or the table's answers 1 to 5.
 pub fn check_pack(pack: &[u8]) -> Outcome
-    ensures answers { (result.number ≡ number_of (check pack.now)) × (result.value ≡ value_of (check pack.now)) }
-    ensures fits { (result.number ≤ 9) × (result.value < 4294967296) }
+    ensures answers { (number_for result ≡ number_of (check pack.now)) × (value_for result ≡ value_of (check pack.now)) }
+    ensures fits { (number_for result ≤ 9) × (value_for result < 4294967296) }
 {
-    let opened = read_pack(pack);
-    let v = opened.verdict;
-    answer(v, pack.len())
+    read_pack(pack).verdict?;
+    Ok(pack.len())
 }
 
 // The same with number and value in one word.

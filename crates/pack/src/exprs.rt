@@ -1,5 +1,6 @@
 // Expressions: a loop over nodes in preorder, since an expression may nest as deep as the pack is long.
 #![tactic(auto, unfolding(wire::specs::Answer::bind, wire::specs::Answer::map_a, wire::specs::Code::read_of, wire::specs::Code::skip, pack_rules::specs::Forms::literal, pack_rules::specs::Forms::literal_of, pack_rules::specs::Forms::call_fields, pack_rules::specs::Forms::struct_fields, pack_rules::specs::Forms::when_fields, pack_rules::specs::Forms::iterate_fields, pack_rules::specs::Forms::expr_arity, crate::specs::Nodes::named_of, crate::specs::Nodes::by_tag, crate::specs::Heads::expr_more, pack_rules::specs::Forms::expr_head))]
+
 ghost use Rattle.std.specs.Prelude.{◌≡◌, ◌≤◌, List, length};
 ghost use Rattle.wire.specs.Answer.{map_a, index, many};
 ghost use Rattle.wire.specs.Code.{read_of, skip};

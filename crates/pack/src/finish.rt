@@ -3,50 +3,76 @@ ghost use Rattle.std.specs.Prelude.{◌≡◌, ◌+◌, ◌*◌, ◌<◌, ◌≤
 ghost use Rattle.wire.specs.Bytes.{two};
 ghost use Rattle.wire.specs.Writer.{state_of};
 ghost use Rattle.pack_rules.specs.Outcome.{Gives, begins, sized};
-ghost use Rattle.pack.specs.Finish.{pack_of, answered};
+ghost use Rattle.pack.specs.Finish.{answered, error_number, error_value, number_for, pack_of, value_for};
 ghost use Rattle.pack_rules.specs.Limits.{max_bytes};
 
 use crate::intern::count_names;
 use crate::record::Pack;
 use crate::table::TEXTS;
-use wire::writer::{Writer, append, capped};
+use wire::writer::{Writer, append};
 
-// A number and a value of the table of answers.
-#[derive(Clone, Copy)]
-pub struct Outcome {
-    pub number: u64,
-    pub value: u64,
+// Why a call gives no pack: the table of answers but for 0, each with what is told beside it.
+#[derive(Clone, Copy, Debug, PartialEq, Eq)]
+pub enum CallError {
+    TooLong,
+    EndsEarly(usize),
+    Illegal(usize),
+    TooDeep(usize),
+    BytesAfter(usize),
+    Refused(usize),
+    ReportRoom(usize),
+    TooLarge,
+    OutputRoom(usize),
 }
 
-// The numbers of the table of answers.
-impl Outcome {
-    pub const DONE: u64 = 0;
+// A pack's length, or why there is none.
+pub type Outcome = Result<usize, CallError>;
 
-    pub const TOO_LONG: u64 = 1;
+impl CallError {
+    // Its number in the table of answers.
+    pub fn number(self) -> u64
+        ensures { result ≡ error_number self }
+    {
+        match self {
+            CallError::TooLong => 1,
+            CallError::EndsEarly(_) => 2,
+            CallError::Illegal(_) => 3,
+            CallError::TooDeep(_) => 4,
+            CallError::BytesAfter(_) => 5,
+            CallError::Refused(_) => 6,
+            CallError::ReportRoom(_) => 7,
+            CallError::TooLarge => 8,
+            CallError::OutputRoom(_) => 9,
+        }
+    }
 
-    pub const ENDS_EARLY: u64 = 2;
-
-    pub const ILLEGAL: u64 = 3;
-
-    pub const TOO_DEEP: u64 = 4;
-
-    pub const BYTES_AFTER: u64 = 5;
-
-    pub const REFUSED: u64 = 6;
-
-    pub const REPORT_ROOM: u64 = 7;
-
-    pub const TOO_LARGE: u64 = 8;
-
-    pub const OUTPUT_ROOM: u64 = 9;
+    // The value beside the number.
+    pub fn value(self) -> u64
+        ensures { result ≡ error_value self }
+    {
+        match self {
+            CallError::TooLong => Pack::BYTES as u64,
+            CallError::EndsEarly(n) => n as u64,
+            CallError::Illegal(o) => o as u64,
+            CallError::TooDeep(o) => o as u64,
+            CallError::BytesAfter(o) => o as u64,
+            CallError::Refused(n) => n as u64,
+            CallError::ReportRoom(n) => n as u64,
+            CallError::TooLarge => 0,
+            CallError::OutputRoom(n) => n as u64,
+        }
+    }
 }
 
 // Number and value in one word, as the C interface returns them: the number times 2^32 plus the value.
 pub fn returned_word(answer: Outcome) -> u64
-    requires { (answer.number ≤ 9) × (answer.value < 4294967296) }
-    ensures { result ≡ answer.number * 4294967296 + answer.value }
+    requires { value_for answer < 4294967296 }
+    ensures { result ≡ number_for answer * 4294967296 + value_for answer }
 {
-    answer.number * 0x1_0000_0000 + answer.value
+    match answer {
+        Ok(n) => n as u64,
+        Err(e) => e.number() * 0x1_0000_0000 + e.value(),
+    }
 }
 
 // A pack's parts, one after the other from dst's start: the count of names, the old names, the new ones, the rest.
@@ -65,67 +91,51 @@ fn concat(count: usize, old: &[u8], made: &[u8], body: &[u8], dst: &mut [u8])
 fn size(old: &[u8], made: &[u8], body: &[u8]) -> usize
     ensures { result ≡ min (2 + length old.now + length made.now + length body.now) (max_bytes + 1) }
 {
-    let a = capped(Pack::BYTES + 1, 2, old.len());
-    let b = capped(Pack::BYTES + 1, a, made.len());
-    capped(Pack::BYTES + 1, b, body.len())
+    let most = Pack::BYTES + 1;
+    2usize
+        .saturating_add(old.len())
+        .saturating_add(made.len())
+        .saturating_add(body.len())
+        .min(most)
 }
 
 // A pack's parts, copied out where they fit.
 fn copy_out(old: &[u8], made: &[u8], body: &[u8], out: &mut [u8]) -> Outcome
-    ensures { Gives (sized (length out.old) (pack_of old.now made.now body.now)) result.number result.value out.old out.new }
+    ensures { Gives (sized (length out.old) (pack_of old.now made.now body.now)) (number_for result) (value_for result) out.old out.new }
 {
     let n = size(old, made, body);
     if Pack::BYTES < n {
-        return Outcome {
-            number: Outcome::TOO_LARGE,
-            value: 0,
-        };
+        return Err(CallError::TooLarge);
     }
     if out.len() < n {
-        return Outcome {
-            number: Outcome::OUTPUT_ROOM,
-            value: n as u64,
-        };
+        return Err(CallError::OutputRoom(n));
     }
     let count = count_names(old) + count_names(made);
     concat(count, old, made, body, out);
-    Outcome {
-        number: Outcome::DONE,
-        value: n as u64,
-    }
+    Ok(n)
 }
 
 // What the writer w reached after the old names: the table of new names in `made`, the rest in `body`.
 pub fn finish(old: &[u8], made: &[u8], body: &[u8], writer: Writer, out: &mut [u8]) -> Outcome
-    ensures { Gives (answered (length out.old) old.now (state_of body.now made.now writer)) result.number result.value out.old out.new }
+    ensures { Gives (answered (length out.old) old.now (state_of body.now made.now writer)) (number_for result) (value_for result) out.old out.new }
 {
-    let full = writer.full;
-    if full {
-        return Outcome {
-            number: Outcome::TOO_LARGE,
-            value: 0,
-        };
+    if writer.full {
+        return Err(CallError::TooLarge);
     }
-    let m = capped(made.len(), 0, writer.made);
-    let n = capped(body.len(), 0, writer.at);
-    let b = capped(m, 0, TEXTS);
+    let m = writer.made.min(made.len());
+    let n = writer.at.min(body.len());
+    let b = TEXTS.min(m);
     copy_out(old, &made[b..m], &body[..n], out)
 }
 
 // A pack that stays as it is, copied out where it fits.
 pub fn copy_pack(pack: &[u8], out: &mut [u8]) -> Outcome
     requires { length pack.now ≤ max_bytes }
-    ensures { Gives (sized (length out.old) pack.now) result.number result.value out.old out.new }
+    ensures { Gives (sized (length out.old) pack.now) (number_for result) (value_for result) out.old out.new }
 {
     if out.len() < pack.len() {
-        return Outcome {
-            number: Outcome::OUTPUT_ROOM,
-            value: pack.len() as u64,
-        };
+        return Err(CallError::OutputRoom(pack.len()));
     }
     append(pack, out, 0);
-    Outcome {
-        number: Outcome::DONE,
-        value: pack.len() as u64,
-    }
+    Ok(pack.len())
 }

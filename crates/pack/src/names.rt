@@ -1,5 +1,6 @@
 // The name section.
 #![tactic(auto, unfolding(wire::specs::Answer::bind, wire::specs::Answer::guard, wire::specs::Code::read_of, wire::specs::Code::skip, pack_rules::specs::Read::char, pack_rules::specs::Read::size, pack_rules::specs::Read::name, pack_rules::specs::Read::name_section))]
+
 ghost use Rattle.std.specs.Prelude.{◌≡◌, ◌+◌, ◌*◌, ◌≤◌, ◌&&◌, [], length, take, drop, nat_le, nat_lt, slice_index};
 ghost use Rattle.wire.specs.Answer.{many};
 ghost use Rattle.wire.specs.Code.{read_of, skip};

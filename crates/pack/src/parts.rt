@@ -1,5 +1,6 @@
 // What definitions are made of: names, ports, equations, transitions. Types and expressions have modules of their own.
 #![tactic(auto, unfolding(wire::specs::Answer::bind, wire::specs::Answer::map_a, wire::specs::Code::read_of, wire::specs::Code::skip, wire::specs::Answer::guard, pack_rules::specs::Read::name_in, pack_rules::specs::Read::optional_in, pack_rules::specs::Read::port_in, pack_rules::specs::Read::equation_in, pack_rules::specs::Read::transition_in))]
+
 ghost use Rattle.std.specs.Prelude.{◌≡◌, ◌≤◌, ◌||◌, List, length, ◌==◌, nat_lt};
 ghost use Rattle.wire.specs.Code.{read_of, skip};
 ghost use Rattle.wire.specs.Answer.{guard, u16, counted};

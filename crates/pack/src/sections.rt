@@ -1,5 +1,6 @@
 // The sections after the names: enums, nodes, machines, activations, origins.
 #![tactic(auto, unfolding(wire::specs::Answer::bind, wire::specs::Answer::map_a, wire::specs::Code::read_of, wire::specs::Code::skip, pack_rules::specs::Read::enum_in, pack_rules::specs::Read::node_in, pack_rules::specs::Read::machine_in, pack_rules::specs::Read::branch_in, pack_rules::specs::Read::activation_in, pack_rules::specs::Read::origin_in))]
+
 ghost use Rattle.std.specs.Prelude.{◌≡◌, ◌≤◌, List, length};
 ghost use Rattle.wire.specs.Code.{skip};
 ghost use Rattle.pack_rules.specs.Names.{Name};

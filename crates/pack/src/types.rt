@@ -1,5 +1,6 @@
 // Types: a loop over heads in preorder, since a type may nest as deep as the pack is long.
 #![tactic(auto, unfolding(wire::specs::Answer::bind, wire::specs::Answer::map_a, wire::specs::Code::read_of, wire::specs::Code::skip, pack_rules::specs::Forms::type_fields, pack_rules::specs::Forms::type_arity, pack_rules::specs::Forms::type_head, crate::specs::Heads::type_more))]
+
 ghost use Rattle.std.specs.Prelude.{◌≡◌, ◌≤◌, List, length};
 ghost use Rattle.wire.specs.Answer.{map_a};
 ghost use Rattle.wire.specs.Code.{read_of, skip};
