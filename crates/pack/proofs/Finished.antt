@@ -76,7 +76,7 @@ take-drop-swap (suc n) (suc m) [] = take-nil (suc m - suc n)
 take-drop-swap (suc n) (suc m) (x ∷ t) = let z : suc m - suc n ≡ m - n = omega arith in ap (λ k. take k (drop n t)) z ∙ take-drop-swap n m t
 
 -- the names of a table that ends at m
-texts-part : (t : List ℕ) (m b : ℕ) → m ≤ length t → b ≡ min (0 + texts_from) m → take (m - b) (drop b t) ≡ drop texts_from (take m t)
+texts-part : (t : List ℕ) (m b : ℕ) → m ≤ length t → b ≡ min texts_from m → take (m - b) (drop b t) ≡ drop texts_from (take m t)
 texts-part t m b l r = ⊎_elim
     (λ (g : m < texts_from).
     let z : b ≡ m = omega arith in

@@ -121,7 +121,7 @@ unfolding put_entry puts
 entry-steps n s x e = ap (λ (y : State). swapped (puts n (put (length n) (swapped y)))) e
 
 -- the index of new names with one more
-pub noted-is : (o m k n : List ℕ) (w : Writer) (e : ℕ) → e ≡ min (0 + w.made) (length m) → k ≡ noted n (take e m) ++ drop e m
+pub noted-is : (o m k n : List ℕ) (w : Writer) (e : ℕ) → e ≡ min w.made (length m) → k ≡ noted n (take e m) ++ drop e m
     → state_of o k w ≡ noted_in n (state_of o m w)
 unfolding state_of noted_in
 noted-is o m k n w e p q = go w.full
@@ -135,7 +135,7 @@ noted-is o m k n w e p q = go w.full
     front : take w.made k ≡ noted n (take w.made m)
     front =
         let l : length (noted n (take e m)) ≡ e = noted-length (take e m) n ∙ length-take-le e m (omega arith) in
-        let z : e ≡ min (0 + w.made) (length k) = omega (arith, size) in
+        let z : e ≡ min w.made (length k) = omega (arith, size) in
         sym (take_part k w.made e z) ∙ ap (take e) q ∙ take_at (noted n (take e m)) (drop e m) e l ∙ ap (noted n) part
 
     go : (t : Bool) → cond t full (st (length o) (length k) (take w.at o) (take w.made k))
@@ -159,7 +159,7 @@ put_found-full (At k) n = puts-full (two k)
 put_found-full (Missing b) n = refl
 
 -- what was found in the part of `made` that the writer has used is what is found among the new names
-pub put_new-is : (o m n : List ℕ) (w : Writer) (b e : ℕ) (f : Found) → e ≡ min (0 + w.made) (length m) → f ≡ seek (take e m) n
+pub put_new-is : (o m n : List ℕ) (w : Writer) (b e : ℕ) (f : Found) → e ≡ min w.made (length m) → f ≡ seek (take e m) n
     → put_added f b n (state_of o m w) ≡ put_new b n (state_of o m w)
 unfolding state_of put_new
 put_new-is o m n w b e f p q = go w.full
@@ -211,7 +211,7 @@ pub built-full : (old buf : List ℕ) (v : Writer) (s : State) → v.full ≡ tr
 unfolding put_built state_of
 built-full old buf v s e = rw e
 
-pub built-part : (old buf : List ℕ) (v : Writer) (s : State) (e : ℕ) → v.full ≡ false → e ≡ min (0 + v.at) (length buf)
+pub built-part : (old buf : List ℕ) (v : Writer) (s : State) (e : ℕ) → v.full ≡ false → e ≡ min v.at (length buf)
     → put_name old (take e buf) s ≡ put_built old (state_of buf [] v) s
 unfolding put_built state_of
 built-part old buf v s e h p = rw (h, take_part buf v.at e p)
@@ -304,7 +304,7 @@ laid-state names m h b =
 
 -- the table of names in a buffer that was blank
 pub laid-is : (names m k : List ℕ) (w : Writer) (e : ℕ) → length names ≤ 65536 → m ≡ replicate table_room 0
-    → state_of [] k w ≡ put_entries (table names) (started [] m) → e ≡ min (0 + w.made) (length k) → take e k ≡ tabled (table names)
+    → state_of [] k w ≡ put_entries (table names) (started [] m) → e ≡ min w.made (length k) → take e k ≡ tabled (table names)
 unfolding state_of
 laid-is names m k w e h b r p = take_part k w.made e p ∙ go w.full (r ∙ laid-state names m h b)
   where

@@ -22,12 +22,13 @@ unfolding mixed
 mixed-is h r x y e = λ i. record { a = bit_xor (e i).a (x + 4294967296 * y); b = (e i).b; c = (e i).c; d = (e i).d }
 
 -- eight bytes more of a hash
-pub hash-turn : (n : Name) (h g : Lanes) (i x y : ℕ) → i + 8 < length n → x ≡ quad_at n i → y ≡ quad_at n (i + 4) → g ≡ mixed h x y
-    → hash_from ((length n - 1 - (i + 8)) / 8) g n (i + 8) ≡ hash_from ((length n - 1 - i) / 8) h n i
+pub hash-turn : (n : Name) (h g : Lanes) (i j x y : ℕ) → j ≡ i + 8 → i + 8 < length n → x ≡ quad_at n i → y ≡ quad_at n (i + 4) → g ≡ mixed h x y
+    → hash_from ((length n - 1 - j) / 8) g n j ≡ hash_from ((length n - 1 - i) / 8) h n i
 unfolding hash_from
-hash-turn n h g i x y l e f m =
+hash-turn n h g i j x y d l e f m =
     let z : suc ((length n - 1 - (i + 8)) / 8) ≡ (length n - 1 - i) / 8 = omega arith in
-    ap (λ w. hash_from ((length n - 1 - (i + 8)) / 8) w n (i + 8)) (m ∙ (λ j. mixed h (e j) (f j))) ∙ ap (λ k. hash_from k h n i) z
+    ap (λ k. hash_from ((length n - 1 - k) / 8) g n k) d
+    ∙ ap (λ w. hash_from ((length n - 1 - (i + 8)) / 8) w n (i + 8)) (m ∙ (λ j. mixed h (e j) (f j))) ∙ ap (λ k. hash_from k h n i) z
 
 -- what is computed of two names, as the harness has it to make names that share a head
 strongroom-hash : hash (83 ∷ 116 ∷ 114 ∷ 111 ∷ 110 ∷ 103 ∷ 114 ∷ 111 ∷ 111 ∷ 109 ∷ []) ≡ 13997899697041881454

@@ -23,19 +23,19 @@ unfolding further
 further-own n f h j x l e g = rw (lt-ltb h 4 l) (ap (λ y. 256 + y) (g ∙ ap (λ y. get_or n (y / 8) 0) e))
 
 -- from the end on there is nothing
-pub drop-part : (t : List ℕ) (p b : ℕ) → b ≡ min (0 + p) (length t) → drop b t ≡ drop p t
+pub drop-part : (t : List ℕ) (p b : ℕ) → b ≡ min p (length t) → drop b t ≡ drop p t
 drop-part t p b e = ⊎_elim
     (λ (g : length t < p). let z : b ≡ length t = omega arith in rw (z, drop-length, drop_of_length-le t {i = p} (omega arith)))
     (λ (g : p ≤ length t). let z : b ≡ p = omega arith in rw z)
     (lt-or-le (length t) p)
 
 -- the name at p, as a part that is cut at the end
-pub text-part : (t : List ℕ) (p l b e : ℕ) → l ≡ get_or t p 0 → b ≡ min (0 + (p + 1)) (length t) → e ≡ min (b + l) (length t) → take (e - b) (drop b t) ≡ raw_name t p
+pub text-part : (t : List ℕ) (p l b e : ℕ) → l ≡ get_or t p 0 → b ≡ min (length t) (p + 1) → e ≡ min (b + l) (length t) → take (e - b) (drop b t) ≡ raw_name t p
 unfolding raw_name
 text-part t p l b e h i j =
     ap (λ y. take (y - b) (drop b t)) j
     ∙ take-capped t b l (omega arith)
-    ∙ ap (take l) (drop-part t (p + 1) b i)
+    ∙ ap (take l) (drop-part t (p + 1) b (omega arith))
     ∙ ap (λ y. take y (drop (p + 1) t)) h
 
 -- a tree, by what the cell i holds
@@ -87,7 +87,7 @@ module _ (t : List ℕ) (n : Name) where
         ap (place_from f t n h i) (sym d) ∙ on f h i v p q e x ∙ sym (ap (λ z. place_from (f - 1) t n z (below (v - 1) h) (word t (cell_at (below (v - 1) h)))) y)
 
 -- a search, by how many names there are
-pub seek-plain : (t : List ℕ) (n : Name) (b : ℕ) → 17408 < word t 0 → b ≡ min (0 + texts_from) (length t)
+pub seek-plain : (t : List ℕ) (n : Name) (b : ℕ) → 17408 < word t 0 → b ≡ min texts_from (length t)
     → lookup (table (take (length t - b) (drop b t))) n 0 ≡ seek t n
 unfolding seek rows_most
 seek-plain t n b h e = rw (lt-ltb 17408 (word t 0) h, take_all (length t - b) (drop b t) (omega (arith, length-drop b t)), drop-part t texts_from b e)

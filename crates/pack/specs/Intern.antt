@@ -1,6 +1,6 @@
 -- Internal: nothing here has to be believed; laws tie it to what docs/TRUSTED.md lists.
 -- What writing a name does to the writer's state: an old name keeps its number, a new one is added once, in order of first use.
-use Rattle.std.specs.Prelude.{ℕ, ◌+◌, cond, List, [], ◌∷◌, length, take, nat_lt}
+use Rattle.std.specs.Prelude.{ℕ, ◌+◌, cond, List, [], ◌∷◌, length, take, nat_lt, Result, Ok, Err}
 use Rattle.wire.specs.Bytes.{two}
 use Rattle.wire.specs.Writer.{State, full, st, puts, swapped}
 use Rattle.pack_rules.specs.Limits.{max_bytes, max_name}
@@ -8,13 +8,11 @@ use Rattle.pack_rules.specs.Names.{Name}
 use Rattle.pack_rules.specs.Write.{Item, raw, nm, Found, At, Missing}
 use Rattle.pack.specs.Table.{seek, noted, texts_from, blank}
 unfoldable pub use Rattle.pack.specs.Table.{table_f, table}
-use Rattle.pack.specs.declared.intern.Found as code
-use Rattle.pack.specs.declared.intern.Found.TheVariants as codes
 
 -- the code's answer to a search
-unfoldable pub found_of : code.Found → Found
-found_of (codes.At k) = At k
-found_of (codes.Missing k) = Missing k
+unfoldable pub found_of : Result ℕ ℕ → Found
+found_of (Ok k) = At k
+found_of (Err k) = Missing k
 
 -- a name more in the index of the second buffer
 unfoldable pub noted_in : Name → State → State

@@ -124,10 +124,9 @@ fn free_from(
     requires { start < 32768 }
     ensures { result ≡ free_from 256 pack.now t.now n.now key g left start (slice_index t.now start) }
 {
-    let mut f: usize = 256;
     let mut h = left;
     let mut i = start;
-    while 0 < f {
+    for _ in 0..256usize {
         let w = cell(t, i);
         if w == 0 {
             return i;
@@ -137,7 +136,6 @@ fn free_from(
         }
         i = after(key, h, i);
         h = h / 2;
-        f = f - 1;
     }
     CELLS
 }

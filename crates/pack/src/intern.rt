@@ -14,11 +14,7 @@ use crate::table::{TEXTS, note, seek_name};
 use wire::writer::{Writer, capped, put_byte, put_bytes, put_u16, stopped, turned};
 
 // A name's number in a table; where it is missing, how many names there are.
-#[derive(Clone, Copy)]
-pub enum Found {
-    At(usize),
-    Missing(usize),
-}
+pub type Found = Result<usize, usize>;
 
 // Whether a and b hold the same bytes.
 pub fn same(a: &[u8], b: &[u8]) -> bool
@@ -32,9 +28,8 @@ pub fn is_at(pack: &[u8], p: usize, n: &[u8]) -> bool
     requires { p + 1 < 18446744073709551616 }
     ensures { result ≡ eq_name (raw_name pack.now p) n.now }
 {
-    let l = byte_at(pack, p);
-    let b = capped(pack.len(), 0, p + 1);
-    let e = capped(pack.len(), b, l);
+    let b = pack.len().min(p + 1);
+    let e = capped(pack.len(), b, byte_at(pack, p));
     same(&pack[b..e], n)
 }
 
@@ -43,8 +38,7 @@ fn name_end(t: &[u8], at: usize) -> usize
     requires { at < length t.now }
     ensures { result ≡ min (at + 1 + slice_index t.now at) (length t.now) }
 {
-    let l = t[at] as usize;
-    capped(t.len(), at + 1, l)
+    capped(t.len(), at + 1, usize::from(t[at]))
 }
 
 // The place of the name n in a table.
@@ -57,12 +51,12 @@ pub fn find_name(t: &[u8], n: &[u8]) -> Found
         let b = at + 1;
         let e = name_end(t, at);
         if same(&t[b..e], n) {
-            return Found::At(k);
+            return Ok(k);
         }
         at = e;
         k += 1;
     }
-    Found::Missing(k)
+    Err(k)
 }
 
 // How many names a table has.
@@ -94,7 +88,7 @@ pub fn put_entry(n: &[u8], made: &mut [u8], writer: Writer) -> Writer
     requires { length n.now ≤ max_name }
     ensures { (o : List ℕ) → state_of o made.new result ≡ put_entry n.now (state_of o made.old writer) }
 {
-    let end = capped(made.len(), 0, writer.made);
+    let end = writer.made.min(made.len());
     note(&mut made[..end], n);
     let a = put_byte(made, turned(writer), n.len() as u8);
     turned(put_bytes(n, made, a))
@@ -121,7 +115,7 @@ pub fn build_name_table(names: &[u8], t: &mut [u8]) -> usize
     ensures { (result ≤ length t.new) × (take result t.new ≡ tabled (table names.now)) }
 {
     let w = put_entries(names, t, start());
-    capped(t.len(), 0, w.made)
+    w.made.min(t.len())
 }
 
 // The number of a name that is not among the `old` old ones: found among the new ones, or added there.
@@ -129,11 +123,10 @@ fn put_new(old: usize, n: &[u8], out: &mut [u8], made: &mut [u8], writer: Writer
     requires { (length n.now ≤ max_name) × (old < 2 ^ 63) }
     ensures { state_of out.new made.new result ≡ put_new old n.now (state_of out.old made.old writer) }
 {
-    let end = capped(made.len(), 0, writer.made);
-    let f = seek_name(&made[..end], n);
-    match f {
-        Found::At(k) => put_u16(out, writer, old + k),
-        Found::Missing(k) => {
+    let end = writer.made.min(made.len());
+    match seek_name(&made[..end], n) {
+        Ok(k) => put_u16(out, writer, old + k),
+        Err(k) => {
             let v = put_entry(n, made, writer);
             put_u16(out, v, old + k)
         }
@@ -147,14 +140,12 @@ pub fn put_name(old: &[u8], n: &[u8], out: &mut [u8], made: &mut [u8], writer: W
     if Pack::NAME < n.len() {
         return stopped(writer);
     }
-    let full = writer.full;
-    if full {
+    if writer.full {
         return writer;
     }
-    let f = seek_name(old, n);
-    match f {
-        Found::At(k) => put_u16(out, writer, k),
-        Found::Missing(k) => put_new(k, n, out, made, writer),
+    match seek_name(old, n) {
+        Ok(k) => put_u16(out, writer, k),
+        Err(k) => put_new(k, n, out, made, writer),
     }
 }
 
@@ -169,10 +160,9 @@ pub fn put_built(
 ) -> Writer
     ensures { state_of out.new made.new result ≡ put_built old.now (state_of buf.now [] v) (state_of out.old made.old writer) }
 {
-    let full = v.full;
-    if full {
+    if v.full {
         return stopped(writer);
     }
-    let end = capped(buf.len(), 0, v.at);
+    let end = v.at.min(buf.len());
     put_name(old, &buf[..end], out, made, writer)
 }

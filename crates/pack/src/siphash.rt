@@ -8,7 +8,7 @@ use std::num::wrapping_add_u64;
 use wire::number::WORD_RANGE;
 
 // What was taken of a name so far.
-#[derive(Clone, Copy)]
+#[derive(Clone, Copy, Debug, PartialEq, Eq)]
 pub struct Lanes {
     pub a: u64,
     pub b: u64,
@@ -52,30 +52,15 @@ fn mix(h: Lanes, x: usize, y: usize) -> Lanes
     ensures { result ≡ mixed h x y }
 {
     let m = (x + 4294967296 * y) as u64;
-    let r = round(Lanes {
-        a: h.a,
-        b: h.b,
-        c: h.c,
-        d: h.d ^ m,
-    });
-    Lanes {
-        a: r.a ^ m,
-        b: r.b,
-        c: r.c,
-        d: r.d,
-    }
+    let r = round(Lanes { d: h.d ^ m, ..h });
+    Lanes { a: r.a ^ m, ..r }
 }
 
 // The number from lanes that took all of a name.
 fn join(h: Lanes) -> usize
     ensures { result ≡ joined h }
 {
-    let r = round(round(Lanes {
-        a: h.a,
-        b: h.b,
-        c: h.c ^ 255,
-        d: h.d,
-    }));
+    let r = round(round(Lanes { c: h.c ^ 255, ..h }));
     (r.a ^ r.b ^ r.c ^ r.d) as usize
 }
 
@@ -97,10 +82,7 @@ pub fn read_u32_padded(n: &[u8], i: usize) -> usize
 pub fn last(l: usize, k: usize) -> usize
     ensures { result ≡ l - k }
 {
-    if k < l {
-        return l - k;
-    }
-    0
+    l.saturating_sub(k)
 }
 
 // The lanes before a name of l bytes.
@@ -121,10 +103,9 @@ pub fn hash(n: &[u8]) -> usize
 {
     let l = n.len();
     let mut h = lanes_for(l);
-    let mut i = 0;
-    while i + 8 < l {
+    for k in 0..l.saturating_sub(1) / 8 {
+        let i = 8 * k;
         h = mix(h, read_u32_padded(n, i), read_u32_padded(n, i + 4));
-        i += 8;
     }
     join(mix(
         h,

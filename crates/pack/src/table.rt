@@ -9,7 +9,6 @@ use crate::cells::{byte_at, set_byte};
 use crate::intern::{Found, find_name, is_at};
 use crate::record::Pack;
 use crate::siphash::{hash, last};
-use wire::writer::capped;
 
 // How many names can have rows.
 const ROWS: usize = 17408;
@@ -68,10 +67,9 @@ fn find_slot(t: &[u8], n: &[u8], bits: usize, cell: usize) -> Place
     requires { cell < 200000 }
     ensures { (result ≡ place_from 17409 t.now n.now bits cell (word_in t.now (cell_at cell))) × Near result }
 {
-    let mut f = ROWS + 1;
     let mut h = bits;
     let mut i = cell;
-    while 0 < f {
+    for f in (0..ROWS + 1).rev() {
         let w = word(t, 2 + 2 * i);
         if w == 0 {
             return Place::Free(i);
@@ -82,7 +80,6 @@ fn find_slot(t: &[u8], n: &[u8], bits: usize, cell: usize) -> Place
             return Place::Taken(k);
         }
         i = HEADS + 2 * k + h % 2;
-        f = f - 1;
         h = further(n, f, h);
     }
     Place::Lost
@@ -102,14 +99,13 @@ pub fn seek_name(t: &[u8], n: &[u8]) -> Found
 {
     let c = word(t, 0);
     if ROWS < c {
-        let b = capped(t.len(), 0, TEXTS);
+        let b = TEXTS.min(t.len());
         return find_name(&t[b..], n);
     }
-    let p = place_of(t, n);
-    match p {
-        Place::Taken(k) => Found::At(k),
-        Place::Free(_) => Found::Missing(c),
-        Place::Lost => Found::Missing(c),
+    match place_of(t, n) {
+        Place::Taken(k) => Ok(k),
+        Place::Free(_) => Err(c),
+        Place::Lost => Err(c),
     }
 }
 
@@ -176,7 +172,6 @@ pub fn note(t: &mut [u8], n: &[u8])
     ensures { t.new ≡ noted n.now t.old }
 {
     let cell = slot_for(t, n);
-    let b = capped(t.len(), 0, TEXTS);
-    let p = t.len() - b;
+    let p = t.len().saturating_sub(TEXTS);
     link_at(t, cell, p);
 }

@@ -189,7 +189,7 @@ drop-capped t b l h = ⊎_elim less more (lt-or-le (length t - b) l)
         rw (e, drop-drop)
 
 -- what a writer has used of a buffer, as a part of it
-pub take_part : (m : List ℕ) (k e : ℕ) → e ≡ min (0 + k) (length m) → take e m ≡ take k m
+pub take_part : (m : List ℕ) (k e : ℕ) → e ≡ min k (length m) → take e m ≡ take k m
 take_part m k e p = ⊎_elim
     (λ (g : length m < k). let i : e ≡ length m = omega arith in rw (i, take-length, take_all k m (omega arith)))
     (λ (g : k ≤ length m). let i : e ≡ k = omega arith in rw i)

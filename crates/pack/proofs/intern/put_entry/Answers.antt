@@ -10,4 +10,4 @@ pub returns : goal.returns
 returns c o = c.turned-2.ensures _ o
     ∙ ap swapped (c.put_bytes.ensures o
     ∙ ap (puts _) (c.put_byte-a.ensures o ∙ ap (put _) (c.turned.ensures o _)))
-    ∙ entry-steps _ _ _ (noted-is o c.args.made.now _ c.args.n.now c.args.writer _ c.capped-end.ensures (ap (λ (l : List ℕ). l ++ drop c.capped-end.result c.args.made.now) c.note.ensures))
+    ∙ entry-steps _ _ _ (noted-is o c.args.made.now _ c.args.n.now c.args.writer _ c.min-end.ensures (ap (λ (l : List ℕ). l ++ drop c.min-end.result c.args.made.now) c.note.ensures))

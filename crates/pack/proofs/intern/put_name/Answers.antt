@@ -8,19 +8,19 @@ use Rattle.pack.proofs.intern.put_name.Goals as goal
 pub returns-then-n-gt-NAME : goal.returns-then-n-gt-NAME
 returns-then-n-gt-NAME c = c.stopped.ensures _ _ ∙ name-long _ _ _ c.if-n-gt-NAME.true
 
-pub returns-then-full : goal.returns-then-full
-returns-then-full c = name-stopped _ _ _ _ _ c.if-full.true
+pub returns-then-writer : goal.returns-then-writer
+returns-then-writer c = name-stopped _ _ _ _ _ c.if-writer.true
 
 pub put_new-requires : goal.put_new-requires
 unfolding found_of number_in
-put_new-requires c = (omega arith, omega (arith, number_of _ _ _ (ap found_of c.in-Missing.is) c.seek_name-f.ensures.1))
+put_new-requires c = (omega arith, omega (arith, number_of _ _ _ (ap found_of c.in-Err.is) c.seek_name.ensures.1))
 
-pub returns-in-At : goal.returns-in-At
+pub returns-in-Ok : goal.returns-in-Ok
 unfolding put_found found_of
-returns-in-At c = c.put_u16.ensures _
-    ∙ name-found _ _ _ (At _) c.if-n-gt-NAME.false (ap found_of (sym c.in-At.is) ∙ c.seek_name-f.ensures.0)
+returns-in-Ok c = c.put_u16.ensures _
+    ∙ name-found _ _ _ (At _) c.if-n-gt-NAME.false (ap found_of (sym c.in-Ok.is) ∙ c.seek_name.ensures.0)
 
-pub returns-in-Missing : goal.returns-in-Missing
+pub returns-in-Err : goal.returns-in-Err
 unfolding put_found found_of
-returns-in-Missing c = c.put_new.ensures
-    ∙ name-found _ _ _ (Missing _) c.if-n-gt-NAME.false (ap found_of (sym c.in-Missing.is) ∙ c.seek_name-f.ensures.0)
+returns-in-Err c = c.put_new.ensures
+    ∙ name-found _ _ _ (Missing _) c.if-n-gt-NAME.false (ap found_of (sym c.in-Err.is) ∙ c.seek_name.ensures.0)

@@ -12,18 +12,18 @@ slice_bounds-seek_name-end-2 c = simp length-take (omega arith)
 
 pub overflow_add-old : goal.overflow_add-old
 unfolding found_of number_in
-overflow_add-old c = omega (arith, simp length-take at (number_of _ _ _ (ap found_of c.in-At.is) c.seek_name-f.ensures.1))
+overflow_add-old c = omega (arith, simp length-take at (number_of _ _ _ (ap found_of c.in-Ok.is) c.seek_name.ensures.1))
 
-pub overflow_add-old-in-Missing : goal.overflow_add-old-in-Missing
+pub overflow_add-old-in-Err : goal.overflow_add-old-in-Err
 unfolding found_of number_in
-overflow_add-old-in-Missing c = omega (arith, simp length-take at (number_of _ _ _ (ap found_of c.in-Missing.is) c.seek_name-f.ensures.1))
+overflow_add-old-in-Err c = omega (arith, simp length-take at (number_of _ _ _ (ap found_of c.in-Err.is) c.seek_name.ensures.1))
 
-pub returns-in-At : goal.returns-in-At
+pub returns-in-Ok : goal.returns-in-Ok
 unfolding put_added found_of
-returns-in-At c = c.put_u16.ensures _ ∙ put_new-is _ _ _ _ _ _ (At _) c.capped-end.ensures (ap found_of (sym c.in-At.is) ∙ c.seek_name-f.ensures.0)
+returns-in-Ok c = c.put_u16.ensures _ ∙ put_new-is _ _ _ _ _ _ (At _) c.min-end.ensures (ap found_of (sym c.in-Ok.is) ∙ c.seek_name.ensures.0)
 
-pub returns-in-Missing : goal.returns-in-Missing
+pub returns-in-Err : goal.returns-in-Err
 unfolding put_added found_of
-returns-in-Missing c = c.put_u16-in-Missing.ensures _
+returns-in-Err c = c.put_u16-in-Err.ensures _
     ∙ ap (puts (two _)) (c.put_entry-v.ensures _)
-    ∙ put_new-is _ _ _ _ _ _ (Missing _) c.capped-end.ensures (ap found_of (sym c.in-Missing.is) ∙ c.seek_name-f.ensures.0)
+    ∙ put_new-is _ _ _ _ _ _ (Missing _) c.min-end.ensures (ap found_of (sym c.in-Err.is) ∙ c.seek_name.ensures.0)

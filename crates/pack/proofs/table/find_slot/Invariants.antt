@@ -4,6 +4,3 @@ use Rattle.pack.proofs.table.find_slot.Given as goal
 
 abbrev pub invariant-loop-f : goal.invariant-loop-f
 invariant-loop-f l = (l.i < 200000) × (place_from l.f l.t l.n l.h l.i (word l.t (cell_at l.i)) ≡ place_from 17409 l.t l.n l.bits l.cell (word l.t (cell_at l.cell)))
-
-abbrev pub decreases-loop-f : goal.decreases-loop-f
-decreases-loop-f l = l.f

@@ -4,4 +4,4 @@ use Rattle.pack.proofs.TableIndex.{texts-is}
 use Rattle.pack.proofs.table.note.Goals as goal
 
 pub returns : goal.returns
-returns c = c.link_at.ensures ∙ noted-at _ _ _ _ c.slot_for-cell.ensures.0 (omega (arith, c.capped-b.ensures, texts-is))
+returns c = c.link_at.ensures ∙ noted-at _ _ _ _ c.slot_for-cell.ensures.0 (omega (arith, c.saturating_sub-p.ensures, texts-is))
