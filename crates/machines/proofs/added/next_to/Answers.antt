@@ -1,4 +1,3 @@
-use Prim.Native.Nat.{◌-◌}
 use native.Mathlib.Omega.{arith}
 use Rattle.machines.proofs.AddedLaws.{elsewhere-more}
 use Rattle.machines.proofs.added.next_to.Goals as goal

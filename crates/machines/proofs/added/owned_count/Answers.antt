@@ -1,4 +1,3 @@
-use Prim.Native.Nat.{◌-◌}
 use native.Mathlib.Omega.{arith}
 use Rattle.machines.specs.AddedAt.{owned_t}
 use Rattle.machines.proofs.AddedLaws.{total-done, total-more, total-start}

@@ -1,4 +1,3 @@
-use Prim.Native.Nat.{◌-◌}
 use Rattle.machines.specs.ReceivingNodes.{goes_t}
 use Rattle.machines.proofs.ReceiverLaws.{busy-done, busy-more, busy-start, goes-is}
 use Rattle.machines.proofs.added.receives.Goals as goal

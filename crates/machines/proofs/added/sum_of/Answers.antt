@@ -1,4 +1,3 @@
-use Prim.Native.Nat.{◌-◌}
 use native.Mathlib.Omega.{arith}
 use Rattle.machines.specs.AddedAt.{regions_t}
 use Rattle.machines.proofs.AddedLaws.{regions-is, total-done, total-more, total-start}

@@ -1,4 +1,3 @@
-use Prim.Native.Nat.{◌-◌}
 use native.Mathlib.Omega.{arith}
 use mathlib.Core.Path.{refl, ◌∙◌}
 use Rattle.machines.proofs.CoverLaws.{all_done, all-given, all-went, first_done, first_found, first-went, state-alone, state-own, state-regions, uncovered-none, uncovered-some}

@@ -1,5 +1,4 @@
 use native.Mathlib.Omega.{arith}
-use mathlib.Core.Bool.{false}
 use mathlib.Core.Path.{refl}
 use Rattle.machines.specs.CoverAt.{gives_t}
 use Rattle.machines.proofs.CoverLaws.{own_is, tells-done, tells-found, tells-went}

@@ -2,7 +2,7 @@ use Rattle.machines.proofs.QualifyLaws.{copied_more, copied_none, kept-letter, l
 use Rattle.machines.specs.LayoutAt.{values}
 use lib.ListN.{length-set}
 use mathlib.Core.Path.{refl, ◌∙◌}
-use Prim.Native.Nat.{◌-◌, ◌+◌}
+use Prim.Native.Nat.{◌+◌}
 use native.Mathlib.Omega.{arith}
 use Rattle.machines.proofs.layout.put_prefix.Goals as goal
 

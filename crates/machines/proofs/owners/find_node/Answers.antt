@@ -1,4 +1,3 @@
-use Prim.Native.Nat.{◌-◌}
 use Rattle.machines.proofs.OwnerLaws.{find-done, find-hit, find-miss, find-start}
 use Rattle.machines.proofs.owners.find_node.Goals as goal
 

@@ -1,4 +1,3 @@
-use Prim.Native.Nat.{◌-◌}
 use native.Mathlib.Omega.{arith}
 use Rattle.machines.proofs.AddedLaws.{total-done, total-more, total-start}
 use Rattle.machines.proofs.owners.refused_count.Goals as goal

@@ -1,5 +1,4 @@
 use borrow.Enum.Refused.{opened as unsealed}
-use Prim.Native.Nat.{◌-◌}
 use mathlib.Core.Path.{refl, ◌∙◌}
 use native.Mathlib.Omega.{arith}
 use Rattle.machines.specs.CheckedReads.{number_in}

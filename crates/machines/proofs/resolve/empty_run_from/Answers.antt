@@ -1,4 +1,3 @@
-use Prim.Native.Nat.{◌-◌}
 use native.Mathlib.Omega.{arith}
 use Rattle.machines.proofs.EmptyLaws.{seen_all, seen_more, seen_none}
 use Rattle.machines.proofs.resolve.empty_run_from.Goals as goal

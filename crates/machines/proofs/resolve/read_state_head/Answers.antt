@@ -1,4 +1,3 @@
-use Prim.Native.Nat.{◌-◌}
 use mathlib.Core.Path.{refl}
 use Rattle.machines.specs.ResolveAt.{target_t, max_of}
 use Rattle.machines.proofs.CheckedReadLaws.{turns-went, turns-done}

@@ -1,5 +1,4 @@
 use native.Mathlib.Omega.{arith}
-use Prim.Native.Nat.{◌-◌}
 use mathlib.Core.Path.{refl, ◌∙◌}
 use Rattle.machines.proofs.TableLaws.{put-length}
 use Rattle.machines.proofs.EmitMachineLaws.{long_kept}
