@@ -16,3 +16,7 @@ one_less n i = omega arith
 -- all before the first
 pub all_left : (n : ℕ) → n - 0 ≡ n
 all_left n = omega arith
+
+-- where the loop ends, i is n
+pub ended : {n i : ℕ} → n ≤ i → i ≤ n → n ≡ i
+ended h k = omega arith

@@ -395,7 +395,7 @@ fn layout_state(
             m, h, e,
         );
         k = count_region(k, e.words, d.words);
-        n = n - j;
+        n -= j;
         e = d;
     }
     let f = number(pack, e.next);
@@ -446,8 +446,7 @@ fn layout_region(
         return at_offset(c, h.next);
     }
     let mut e = open_region(layout, rows, st, up, a, m, h, c);
-    let mut n = h.states;
-    while 0 < n {
+    for _ in 0..h.states {
         e = layout_state(
             pack,
             names,
@@ -463,7 +462,6 @@ fn layout_region(
             m,
             e,
         );
-        n = n - 1;
     }
     put_word(layout, c.words, 4, e.words);
     e
