@@ -72,7 +72,7 @@ pub fn machine_head(pack: &[u8], history: usize, at: usize) -> RegionHead
 fn letter(pack: &[u8], at: usize) -> u8
     ensures { result ≡ get_or pack.now at 0 }
 {
-    if at < pack.len() { pack[at] } else { 0 }
+    pack.get(at).copied().unwrap_or(0)
 }
 
 // How many letters a prefix has: those of a name of m letters, and `_`.
@@ -110,12 +110,8 @@ fn put_prefix(qualified: &mut [u8], a: usize, m: usize, at: usize)
     if m == 0 {
         return;
     }
-    let mut k = 0;
-    while k < m {
-        qualified[at + k] = qualified[a + k];
-        k += 1;
-    }
-    qualified[at + m] = 95;
+    qualified.copy_within(a..a + m, at);
+    qualified[at + m] = b'_';
 }
 
 // The letters of the name i of the pack.
@@ -128,10 +124,8 @@ fn put_name(pack: &[u8], offsets: &[u16], i: usize, qualified: &mut [u8], at: us
         return;
     }
     let n = byte_at(pack, p);
-    let mut k = 0;
-    while k < n {
+    for k in 0..n {
         set_byte(qualified, at + k, letter(pack, p + 1 + k));
-        k += 1;
     }
 }
 

@@ -16,7 +16,7 @@ use wire::answer::Skipped;
 pub fn entry(layout: &[usize], i: usize) -> usize
     ensures { result ≡ get_or layout.now i 0 }
 {
-    if i < layout.len() { layout[i] } else { 0 }
+    layout.get(i).copied().unwrap_or(0)
 }
 
 // Sets the entry i to v; past the end nothing is written.
