@@ -6,7 +6,7 @@ use mathlib.Core.List.{List, [], ◌∷◌, ◌++◌, append_assoc}
 use mathlib.Core.Bool.{Bool, true, cond, ◌&&◌}
 use mathlib.Core.Path.{◌≡◌, refl, sym, ap, ◌∙◌}
 use lib.ListN.{length, get_or, take, drop, length-append}
-use lib.Seq.{drop-append-add, drop-cons, length-take-le, sets, sets-eq, take_at, take-length, take-nil, take-take}
+use lib.Seq.{drop-append-add, length-take-le, sets, sets-eq, take_at, take-length, take-nil, take-take}
 use lib.Dec.{leb, ltb}
 use borrow.Author.Tests.{le-leb, lt-ltb}
 use Rattle.pack_rules.specs.Names.{Name}

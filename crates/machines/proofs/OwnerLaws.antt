@@ -18,7 +18,6 @@ use Rattle.machines.specs.Tables.{initial_in, states_end}
 use Rattle.machines.specs.AddedAt.{node_equations_in}
 use Rattle.machines.specs.VerdictAt.{judge_at}
 use Rattle.machines.specs.EmitMachineAt.{Long}
-use Rattle.machines.proofs.Remaining.{ended}
 use Rattle.machines.specs.OwnersAt.{HasRegions, Nodes, fill_t, find_t, found_in, goes_to, joined, machine_end, node_end, node_name_t, nodes_of, nth, refused_t, settle_t, settled_t}
 use Rattle.machines.proofs.CheckedReadLaws.{on}
 
@@ -98,9 +97,9 @@ module _ (t : List ℕ) (x : ℕ) where
           ap (λ y. find_t t x y (i + 1)) k ∙ ap (find_t t x m) (add-one i)
           ∙ sym (ap (λ y. cond y i (find_t t x m (suc i))) (ne_eqb e x b)) ∙ sym (find-step m i e (sym a)) ∙ ap (λ y. find_t t x y i) (sym c) ∙ h
 
-  pub find-done : (n i z : ℕ) → n ≤ i → i ≤ n → find_t t x (n - i) i ≡ z → n ≡ z
+  pub find-done : (n i z : ℕ) → n ≤ i → find_t t x (n - i) i ≡ z → i ≡ z
   unfolding find_t
-  find-done n i z l m h = let k : n - i ≡ 0 = omega arith in ended l m ∙ ap (λ y. find_t t x y i) (sym k) ∙ h
+  find-done n i z l h = let k : n - i ≡ 0 = omega arith in ap (λ y. find_t t x y i) (sym k) ∙ h
 
   pub find-start : (n : ℕ) → find_t t x (n - 0) 0 ≡ find_t t x n 0
   find-start n = let k : n - 0 ≡ n = omega arith in ap (λ y. find_t t x y 0) k

@@ -1,5 +1,5 @@
 -- How many are left of a loop over 0..n, at i.
-use Prim.Native.Nat.{ℕ, ◌+◌, ◌-◌, ◌<◌, ◌≤◌}
+use Prim.Native.Nat.{ℕ, suc, ◌+◌, ◌-◌, ◌<◌, ◌≤◌}
 use native.Mathlib.Omega.{arith}
 use mathlib.Core.Path.{◌≡◌}
 
@@ -8,6 +8,10 @@ some_left h = omega arith
 
 pub none_left : {n i : ℕ} → n ≤ i → n - i ≤ 0
 none_left h = omega arith
+
+-- before it one more than after it
+pub one_more : {n i : ℕ} → i < n → n - i ≡ suc (n - (i + 1))
+one_more h = omega arith
 
 -- one less after each
 pub one_less : (n i : ℕ) → n - (i + 1) ≡ n - i - 1

@@ -17,7 +17,7 @@ ghost use Rattle.pack.specs.Intern.{render};
 
 use crate::checked_read::number;
 use crate::emit_region::{put_inner_locals, put_region_locals};
-use crate::layout::{between, pack_name, remaining};
+use crate::layout::{between, pack_name};
 use crate::table::{entry, to_outputs};
 use pack::check::reached;
 use pack::parts::then_ports;
@@ -351,14 +351,13 @@ pub fn put_all_locals(
     ensures { (ns : List Name) → length ns ≡ names → state_of out.new made.new result ≡ render old.now (each_t (added_locals_t ns pack.now defs.now receivers.now regcounts.now offsets.now k) n 0) (state_of out.old made.old writer) }
 {
     let mut v = writer;
-    let mut c = n;
-    let mut i = next_to(receivers, c, k, 0);
-    while i < c {
+    for i in 0..n {
+        if v.full {
+            return v;
+        }
         v = put_added_locals(
             old, pack, names, offsets, defs, receivers, regcounts, k, i, out, made, v,
         );
-        c = remaining(v, c);
-        i = next_to(receivers, c, k, i + 1);
     }
     v
 }

@@ -1,6 +1,6 @@
 use Rattle.machines.proofs.Remaining.{all_left, none_left, one_less, some_left}
 use native.Mathlib.Omega.{arith}
-use mathlib.Core.Path.{refl, ◌∙◌}
+use mathlib.Core.Path.{◌∙◌}
 use Rattle.machines.proofs.CoverLaws.{all_done, all-given, all-went, first_done, first_found, first-went, state-alone, state-own, state-regions, uncovered-none, uncovered-some}
 use Rattle.machines.proofs.cover.+require_cover_region_require_cover_state.Goals as goal
 

@@ -1,8 +1,7 @@
-use native.Mathlib.Omega.{arith}
 use mathlib.Core.Path.{refl}
 use Rattle.machines.specs.CoverAt.{gives_t}
 use Rattle.machines.proofs.CoverLaws.{own_is, tells-done, tells-found, tells-went}
-use Rattle.machines.proofs.AssignsMemoLaws.{rest_all, rest-less, rest-none}
+use Rattle.machines.proofs.AssignsMemoLaws.{rest_all, rest-less}
 use Rattle.machines.proofs.cover.assigns.Goals as goal
 
 pub loop-left-init : goal.loop-left-init

@@ -1,4 +1,3 @@
-use Prim.Native.Nat.{◌-◌}
 use mathlib.Core.List.{List}
 use mathlib.Core.Bool.{false, ◌||◌}
 use mathlib.Core.Path.{◌≡◌}

@@ -1,4 +1,4 @@
-use mathlib.Core.Path.{sym, ◌∙◌}
+use mathlib.Core.Path.{◌∙◌}
 use Rattle.machines.proofs.AssignsMemoLaws.{rest_more, told-before, told_more}
 use Rattle.machines.proofs.cover.assigns_by_mark.Goals as goal
 

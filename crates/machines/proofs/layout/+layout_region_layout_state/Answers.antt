@@ -1,7 +1,7 @@
-use Rattle.machines.proofs.Remaining.{all_left, none_left, one_less, some_left}
+use Rattle.machines.proofs.Remaining.{none_left, one_less, some_left}
 use Rattle.machines.proofs.EmptyLaws.{once-near, opened-on}
 use Rattle.machines.proofs.LayoutLaws.{close-region, inner-done, refine-into, refine-plain, region-left, region-none, region-some, state-on, times-done, times-went}
-use mathlib.Core.Path.{refl, ◌∙◌}
+use mathlib.Core.Path.{◌∙◌}
 use native.Mathlib.Omega.{arith}
 use Rattle.machines.proofs.layout.+layout_region_layout_state.Goals as goal
 

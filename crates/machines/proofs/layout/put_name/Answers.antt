@@ -1,6 +1,5 @@
 use Rattle.machines.proofs.TableLaws.{len_is}
 use Rattle.machines.proofs.QualifyLaws.{copied_more, copied_none, name-none, name-some}
-use mathlib.Core.Path.{refl, ◌∙◌}
 use Prim.Native.Nat.{suc}
 use native.Mathlib.Omega.{arith}
 use Rattle.machines.proofs.layout.put_name.Goals as goal

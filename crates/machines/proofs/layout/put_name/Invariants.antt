@@ -1,8 +1,7 @@
 use Rattle.machines.specs.LayoutAt.{values}
 use lib.Seq.{sets}
-use lib.ListN.{length}
 use mathlib.Core.Path.{◌≡◌}
-use Prim.Native.Nat.{◌≤◌, ◌-◌, suc}
+use Prim.Native.Nat.{suc}
 use Rattle.machines.proofs.layout.put_name.Given as goal
 
 abbrev pub invariant-loop-k : goal.invariant-loop-k

@@ -1,5 +1,4 @@
 use native.Mathlib.Omega.{arith}
-use mathlib.Core.Path.{refl, ◌∙◌}
 use Rattle.machines.proofs.OwnerLaws.{settle-done, settle-more, settle-start}
 use Rattle.machines.proofs.owners.assign_nodes.Goals as goal
 

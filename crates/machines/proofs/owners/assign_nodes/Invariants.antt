@@ -1,6 +1,5 @@
 use Prim.Native.Nat.{◌+◌, ◌-◌, ◌≤◌}
 use mathlib.Core.Path.{◌≡◌}
-use lib.ListN.{length}
 use Rattle.machines.specs.OwnersAt.{nodes_of, settle_t}
 use Rattle.machines.proofs.owners.assign_nodes.Given as goal
 

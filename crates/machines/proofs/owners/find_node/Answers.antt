@@ -1,3 +1,5 @@
+use mathlib.Core.Path.{◌∙◌}
+use Rattle.machines.proofs.Remaining.{ended}
 use Rattle.machines.proofs.OwnerLaws.{find-done, find-hit, find-miss, find-start}
 use Rattle.machines.proofs.owners.find_node.Goals as goal
 
@@ -11,4 +13,4 @@ pub loop-i-preserved : goal.loop-i-preserved
 loop-i-preserved c = find-miss _ _ _ _ _ _ c.loop-i-test.true c.cell.ensures c.if-cell-x.false c.loop-i.invariant
 
 pub returns : goal.returns
-returns c = find-done _ _ _ _ _ c.loop-i-test.false c.loop-i.auto.i-end c.loop-i.invariant
+returns c = ended c.loop-i-test.false c.loop-i.auto.i-end ∙ find-done _ _ _ _ _ c.loop-i-test.false c.loop-i.invariant

@@ -1,7 +1,5 @@
 use native.Mathlib.Omega.{arith}
-use mathlib.Core.Path.{refl}
 use Rattle.machines.proofs.CheckedReadLaws.{number_put}
-use Rattle.machines.proofs.TableLaws.{put-length}
 use Rattle.machines.proofs.OwnerLaws.{fill_done, fill_more, fill_start, node-name, nth-more, nth-start}
 use Rattle.machines.proofs.owners.place_nodes.Goals as goal
 

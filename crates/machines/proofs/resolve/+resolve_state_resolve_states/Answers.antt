@@ -1,4 +1,4 @@
-use Rattle.machines.proofs.Remaining.{all_left, none_left, one_less, some_left}
+use Rattle.machines.proofs.Remaining.{none_left, one_less, some_left}
 use borrow.Enum.Refused.{opened as unsealed}
 use mathlib.Core.Path.{refl, ◌∙◌}
 use native.Mathlib.Omega.{arith}

@@ -1,4 +1,3 @@
-use Prim.Native.Nat.{◌-◌, ◌≤◌}
 use Rattle.machines.proofs.EmptyLaws.{SeenBefore}
 use Rattle.machines.proofs.resolve.empty_run_from.Given as goal
 

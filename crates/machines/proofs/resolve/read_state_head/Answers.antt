@@ -1,5 +1,4 @@
-use Rattle.machines.proofs.Remaining.{all_left, none_left, one_less, some_left}
-use mathlib.Core.Path.{refl}
+use Rattle.machines.proofs.Remaining.{none_left, one_less, some_left}
 use Rattle.machines.specs.ResolveAt.{target_t, max_of}
 use Rattle.machines.proofs.CheckedReadLaws.{turns-went, turns-done}
 use Rattle.machines.proofs.ResolveLaws.{head-is}

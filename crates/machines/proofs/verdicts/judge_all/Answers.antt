@@ -1,6 +1,3 @@
-use native.Mathlib.Omega.{arith}
-use mathlib.Core.Path.{refl, ◌∙◌}
-use Rattle.machines.proofs.TableLaws.{put-length}
 use Rattle.machines.proofs.EmitMachineLaws.{long_kept}
 use Rattle.machines.proofs.OwnerLaws.{fill_done, fill_more, fill_start, nth-more, nth-start, regions-here}
 use Rattle.machines.proofs.verdicts.judge_all.Goals as goal

@@ -1,5 +1,4 @@
 use Rattle.machines.proofs.Remaining.{all_left, none_left, one_less, some_left}
-use mathlib.Core.Path.{refl, ◌∙◌}
 use Rattle.machines.proofs.JudgeLaws.{outputs-done, outputs-stop, outputs-went}
 use Rattle.machines.proofs.AssignsMemoLaws.{blank-given, blank-told}
 use Rattle.machines.proofs.CallScratch.{zeros}

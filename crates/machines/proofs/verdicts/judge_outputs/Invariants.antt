@@ -1,5 +1,4 @@
 use Prim.Native.Nat.{◌-◌}
-use Prim.Native.Nat.{ℕ}
 use mathlib.Core.List.{List}
 use mathlib.Core.Path.{◌≡◌}
 use lib.ListN.{length}
