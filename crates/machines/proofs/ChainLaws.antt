@@ -2,11 +2,9 @@
 use Prim.Native.Nat.{ℕ, zero, suc, ◌+◌, ◌-◌, ◌<◌, ◌≤◌}
 use native.Mathlib.Omega.{arith}
 use mathlib.Core.List.{List}
-use mathlib.Core.Bool.{cond}
 use mathlib.Core.Path.{◌≡◌, refl, sym, ap, ◌∙◌}
 use lib.ListN.{get_or}
-use Rattle.wire.specs.declared.writer.Writer.{Writer}
-use Rattle.wire.specs.Writer.{State, put, puts, state_of}
+use Rattle.wire.specs.Writer.{State, put, puts}
 use Rattle.pack_rules.specs.Names.{Name}
 use Rattle.pack_rules.specs.Syntax.{e_var}
 use Rattle.pack_rules.specs.Read.{expr_in}
@@ -23,7 +21,6 @@ use Rattle.machines.specs.Layout.{slice_of}
 use Rattle.machine_rules.specs.Lower.{is_name}
 use Rattle.machines.specs.EmitAt.{chain_t, in_region, last_or, letters_at, move_t, moves_t, test_t, transitions_t}
 use Rattle.machines.proofs.CheckedReadLaws.{on}
-use Rattle.machines.proofs.RowLaws.{left-same}
 
 -- the lines of a transition
 pub move-term : (old sb offsets t qualified g : List ℕ) (q at e x : ℕ) (s : State) → g ≡ slice_of sb at (e - at) → put_name old (in_region sb offsets t qualified q x) (put 1 (puts g (put 4 s))) ≡ render old (move_t sb offsets t qualified q at e x) s
@@ -40,14 +37,11 @@ module _ (old sb offsets t qualified : List ℕ) (ns : List Name) where
   moves-step q n at s = render-append old (move_t sb offsets t qualified q at (end_of (expr_in ns sb at)) _) (moves_t sb offsets t qualified ns q n _) s
 
   -- the loop over transitions: one more, and the end
-  pub moves_more : (q n at k e : ℕ) (x : NumberAt) (o m : List ℕ) (w : Writer) (s z : State) → 0 < n → e ≡ end_of (expr_in ns sb at) → x ≡ number_in sb e → state_of o m w ≡ render old (move_t sb offsets t qualified q at e x.value) s → k ≡ cond w.full 0 (n - 1) → render old (moves_t sb offsets t qualified ns q n at) s ≡ z → render old (moves_t sb offsets t qualified ns q k x.next) (state_of o m w) ≡ z
-  moves_more q zero at k e x o m w s z l a b c g h = absurd (omega arith)
-  moves_more q (suc n) at k e x o m w s z l a b c g h =
-      let j : suc n - 1 ≡ n = omega arith in
-      left-same old (λ i. moves_t sb offsets t qualified ns q i x.next) o m w n k (g ∙ ap (cond w.full 0) j)
-      ∙ ap (render old (moves_t sb offsets t qualified ns q n x.next)) (c ∙ ap (λ (y : ℕ). render old (move_t sb offsets t qualified q at y x.value) s) a)
-      ∙ on x (number_in sb (end_of (expr_in ns sb at))) (λ y o. render old (moves_t sb offsets t qualified ns q n o) (render old (move_t sb offsets t qualified q at (end_of (expr_in ns sb at)) y) s)) _ (b ∙ ap (number_in sb) a) refl
-      ∙ sym (moves-step q n at s) ∙ h
+  pub moves_more : (q n k at e : ℕ) (x : NumberAt) (y s z : State) → n ≡ suc k → e ≡ end_of (expr_in ns sb at) → x ≡ number_in sb e → y ≡ render old (move_t sb offsets t qualified q at e x.value) s → render old (moves_t sb offsets t qualified ns q n at) s ≡ z → render old (moves_t sb offsets t qualified ns q k x.next) y ≡ z
+  moves_more q n k at e x y s z l a b c h =
+      ap (render old (moves_t sb offsets t qualified ns q k x.next)) (c ∙ ap (λ (y : ℕ). render old (move_t sb offsets t qualified q at y x.value) s) a)
+      ∙ on x (number_in sb (end_of (expr_in ns sb at))) (λ y o. render old (moves_t sb offsets t qualified ns q k o) (render old (move_t sb offsets t qualified q at (end_of (expr_in ns sb at)) y) s)) _ (b ∙ ap (number_in sb) a) refl
+      ∙ sym (moves-step q k at s) ∙ ap (λ (y : ℕ). render old (moves_t sb offsets t qualified ns q y at) s) (sym l) ∙ h
 
   pub moves-none : (q n at id : ℕ) (s z : State) → n ≤ 0 → id ≡ get_or t (q + 5) 0 → render old (moves_t sb offsets t qualified ns q n at) s ≡ z → render old (expr_items (e_var (var_name vr.State id))) s ≡ z
   unfolding moves_t var_name
@@ -66,14 +60,11 @@ module _ (old sb offsets t qualified : List ℕ) (ns : List Name) where
       ∙ render-append old (transitions_t sb offsets t qualified ns q p) (chain_t sb offsets t qualified ns q (suc n) (get_or t (p + 4) 0)) _
 
   -- the loop over states: one more, none, and the last
-  pub chain_more : (q n p k r : ℕ) (o m : List ℕ) (w : Writer) (a s z : State) → 1 < n → a ≡ render old (test_t t qualified q p) s → state_of o m w ≡ render old (transitions_t sb offsets t qualified ns q p) a → r ≡ get_or t (p + 4) 0 → k ≡ cond w.full 0 (n - 1) → render old (chain_t sb offsets t qualified ns q n p) s ≡ z → render old (chain_t sb offsets t qualified ns q k r) (state_of o m w) ≡ z
-  chain_more q zero p k r o m w a s z l e f c g h = absurd (omega arith)
-  chain_more q (suc zero) p k r o m w a s z l e f c g h = absurd (omega arith)
-  chain_more q (suc (suc n)) p k r o m w a s z l e f c g h =
-      let j : suc (suc n) - 1 ≡ suc n = omega arith in
-      left-same old (λ i. chain_t sb offsets t qualified ns q i r) o m w (suc n) k (g ∙ ap (cond w.full 0) j)
-      ∙ (λ i. render old (chain_t sb offsets t qualified ns q (suc n) (c i)) ((f ∙ ap (render old (transitions_t sb offsets t qualified ns q p)) e) i))
-      ∙ sym (chain-step q n p s) ∙ h
+  pub chain_more : (q n k p r : ℕ) (y a s z : State) → n ≡ suc k → 0 < k → a ≡ render old (test_t t qualified q p) s → y ≡ render old (transitions_t sb offsets t qualified ns q p) a → r ≡ get_or t (p + 4) 0 → render old (chain_t sb offsets t qualified ns q n p) s ≡ z → render old (chain_t sb offsets t qualified ns q k r) y ≡ z
+  chain_more q n zero p r y a s z l g e f c h = absurd (omega arith)
+  chain_more q n (suc k) p r y a s z l g e f c h =
+      (λ i. render old (chain_t sb offsets t qualified ns q (suc k) (c i)) ((f ∙ ap (render old (transitions_t sb offsets t qualified ns q p)) e) i))
+      ∙ sym (chain-step q k p s) ∙ ap (λ (y : ℕ). render old (chain_t sb offsets t qualified ns q y p) s) (sym l) ∙ h
 
   pub chain-none : (q n p id : ℕ) (s z : State) → n ≡ 0 → id ≡ get_or t (q + 5) 0 → render old (chain_t sb offsets t qualified ns q n p) s ≡ z → render old (expr_items (e_var (var_name vr.State id))) s ≡ z
   unfolding chain_t var_name
@@ -94,7 +85,3 @@ module _ (old sb offsets t qualified : List ℕ) (ns : List Name) where
   -- where the states start matters only where there is one
   pub chain-from : (q k n p r : ℕ) (s : State) → k ≡ n → (0 < n → p ≡ r) → render old (chain_t sb offsets t qualified ns q k p) s ≡ render old (chain_t sb offsets t qualified ns q n r) s
   chain-from q k n p r s e h = ap (λ (y : ℕ). render old (chain_t sb offsets t qualified ns q y p) s) e ∙ chain-start q n p r s h
-
--- more than one is left
-pub below : (k n : ℕ) → suc k < n → 0 < n
-below k n h = omega arith

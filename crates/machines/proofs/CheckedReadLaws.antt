@@ -3,7 +3,7 @@ use Prim.Native.Nat.{ℕ, zero, suc, ◌+◌, ◌*◌, ◌/◌, ◌%◌, ◌-◌
 use native.Mathlib.Nat.{div-eq_of_lt, mod-eq_of_lt, mul-add-div_right, mul-add-mod_self_right}
 use native.Mathlib.Omega.{arith}
 use mathlib.Core.List.{List, [], ◌∷◌}
-use mathlib.Core.Bool.{Bool, true, false, cond, ◌&&◌, ◌||◌, and-eq-true_iff, false≢true, true≢false}
+use mathlib.Core.Bool.{Bool, true, false, cond, ◌||◌, true≢false}
 use mathlib.Core.Logic.{⊎_elim}
 use mathlib.Core.Path.{◌≡◌, refl, sym, ap, subst, ◌∙◌}
 use lib.ListN.{get_or, set}
@@ -19,11 +19,12 @@ use Rattle.wire.specs.declared.answer.Skipped.TheVariants as sk
 use Rattle.wire.specs.Answer.{Answer, below, byte, deep, early, illegal, u16, value}
 use Rattle.wire.proofs.Answers.{guard-value}
 use Rattle.wire.proofs.Steps.{u16-small}
+use Rattle.std.specs.Prelude.{Option, Some, None, IfSome}
+use Rattle.std.specs.Option.{option_eq}
 use Rattle.pack_rules.specs.Names.{Name}
 use Rattle.wire.specs.Code.{next, onward, read_of, skip, skips}
 use Rattle.pack.specs.Verdict.{offset_of}
 use Rattle.machines.specs.declared.checked_read.NumberAt.{NumberAt}
-use Rattle.machines.specs.Known.{Known}
 use Rattle.machines.specs.ResolvedIn.{MachineAt, RegionAt, end_of}
 use Rattle.machines.proofs.Reading.{name-number}
 use Rattle.machines.specs.CheckedReads.{byte_in, first_some, machine_from, num, number_in, region_in, sure_of, turns, with}
@@ -163,15 +164,7 @@ number_small s at c by e = subst (λ (x : NumberAt). x.value < 65536) (sym e) (g
 pub number_put : (s : List ℕ) (at : ℕ) (c : NumberAt) (t u : List ℕ) (i : ℕ) → ((j : ℕ) → get_or s j 0 < 256) → c ≡ number_in s at → u ≡ set t i (c.value % 65536) → u ≡ set t i c.value
 number_put s at c t u i by e h = h ∙ ap (set t i) (mod-eq_of_lt (number_small s at c by e))
 
--- what is known of the one before: nothing yet, of one that was looked at, of the same one again
-pub known-none : (P : ℕ → Type 0) (x : ℕ) → Known false P x
-unfolding Known
-known-none P x e = absurd (false≢true e)
-
-pub known-now : (P : ℕ → Type 0) (x : ℕ) → P x → Known true P x
-unfolding Known
-known-now P x h e = h
-
-pub known-again : (P : ℕ → Type 0) (x last : ℕ) (known b : Bool) → b ≡ (known && eqb x last) → b ≡ true → Known known P last → P x
-unfolding Known
-known-again P x last known b e g h = let w = (and-eq-true_iff known (eqb x last)).0 (sym e ∙ g) in subst P (sym (eqb-true x last w.1)) (h w.0)
+-- what holds of the one that was looked at last holds of the same one again
+pub same_again : (P : ℕ → Type 0) (last : Option ℕ) (x : ℕ) → true ≡ option_eq eqb last (Some x) → IfSome last P → P x
+same_again P None x e h = absurd cc
+same_again P (Some l) x e h = subst P (eqb-true l x (sym e)) h

@@ -1,21 +1,18 @@
 -- Laws of the enums of regions as the code writes them.
-use Prim.Native.Nat.{ℕ, zero, suc, ◌+◌, ◌-◌, ◌<◌, ◌≤◌}
+use Prim.Native.Nat.{ℕ, zero, suc, ◌+◌, ◌<◌, ◌≤◌}
 use native.Mathlib.Omega.{arith}
 use native.Mathlib.Numerals.{add-one}
 use mathlib.Core.List.{List}
-use mathlib.Core.Bool.{cond}
 use mathlib.Core.Path.{◌≡◌, refl, sym, ap, ◌∙◌}
 use lib.ListN.{get_or}
 use Rattle.wire.specs.Bytes.{two}
-use Rattle.wire.specs.declared.writer.Writer.{Writer}
-use Rattle.wire.specs.Writer.{State, puts, state_of}
+use Rattle.wire.specs.Writer.{State, puts}
 use Rattle.pack_rules.specs.Names.{Name}
 use Rattle.pack_rules.specs.Write.{Item}
 use Rattle.pack.specs.Intern.{put_item, put_name, render}
 use Rattle.pack.proofs.Interns.{render-append}
 use Rattle.machine_rules.specs.MadeNames.{enum_name}
 use Rattle.machines.specs.EmitAt.{enum_t, enums_t, letters_at, variants_t}
-use Rattle.machines.proofs.RowLaws.{left-same}
 
 module _ (old t qualified : List ℕ) where
   variants-step : (n p : ℕ) (s : State) → render old (variants_t t qualified (suc n) p) s ≡ render old (variants_t t qualified n (get_or t (p + 4) 0)) (put_name old (letters_at t qualified p) s)
@@ -23,13 +20,10 @@ module _ (old t qualified : List ℕ) where
   variants-step n p s = refl
 
   -- the loop over states: one more, and the end
-  pub variants-more : (n p k r : ℕ) (o m : List ℕ) (w : Writer) (s z : State) → 0 < n → state_of o m w ≡ put_name old (letters_at t qualified p) s → r ≡ get_or t (p + 4) 0 → k ≡ cond w.full 0 (n - 1) → render old (variants_t t qualified n p) s ≡ z → render old (variants_t t qualified k r) (state_of o m w) ≡ z
-  variants-more zero p k r o m w s z l e f g h = absurd (omega arith)
-  variants-more (suc n) p k r o m w s z l e f g h =
-      let j : suc n - 1 ≡ n = omega arith in
-      left-same old (λ i. variants_t t qualified i r) o m w n k (g ∙ ap (cond w.full 0) j)
-      ∙ (λ i. render old (variants_t t qualified n (f i)) (e i))
-      ∙ sym (variants-step n p s) ∙ h
+  pub variants-more : (n k p r : ℕ) (x s z : State) → n ≡ suc k → x ≡ put_name old (letters_at t qualified p) s → r ≡ get_or t (p + 4) 0 → render old (variants_t t qualified n p) s ≡ z → render old (variants_t t qualified k r) x ≡ z
+  variants-more n k p r x s z l e f h =
+      (λ i. render old (variants_t t qualified k (f i)) (e i))
+      ∙ sym (variants-step k p s) ∙ ap (λ (y : ℕ). render old (variants_t t qualified y p) s) (sym l) ∙ h
 
   pub variants-none : (n p : ℕ) (s z : State) → n ≤ 0 → render old (variants_t t qualified n p) s ≡ z → s ≡ z
   unfolding variants_t render
@@ -52,13 +46,10 @@ module _ (old t qualified : List ℕ) where
   enums-step reg m i n s = render-append old (enum_t t qualified m (get_or reg i 0)) (enums_t t qualified reg m (suc i) n) s
 
   -- the loop over regions: one more, and the end
-  pub enums-more : (reg : List ℕ) (m : Name) (i n k q : ℕ) (o d : List ℕ) (w : Writer) (s z : State) → 0 < n → q ≡ get_or reg i 0 → state_of o d w ≡ render old (enum_t t qualified m q) s → k ≡ cond w.full 0 (n - 1) → render old (enums_t t qualified reg m i n) s ≡ z → render old (enums_t t qualified reg m (i + 1) k) (state_of o d w) ≡ z
-  enums-more reg m i zero k q o d w s z l a e g h = absurd (omega arith)
-  enums-more reg m i (suc n) k q o d w s z l a e g h =
-      let j : suc n - 1 ≡ n = omega arith in
-      left-same old (λ y. enums_t t qualified reg m (i + 1) y) o d w n k (g ∙ ap (cond w.full 0) j)
-      ∙ (λ y. render old (enums_t t qualified reg m (add-one i y) n) ((e ∙ ap (λ (x : ℕ). render old (enum_t t qualified m x) s) a) y))
-      ∙ sym (enums-step reg m i n s) ∙ h
+  pub enums-more : (reg : List ℕ) (m : Name) (i n k q : ℕ) (x s z : State) → n ≡ suc k → q ≡ get_or reg i 0 → x ≡ render old (enum_t t qualified m q) s → render old (enums_t t qualified reg m i n) s ≡ z → render old (enums_t t qualified reg m (i + 1) k) x ≡ z
+  enums-more reg m i n k q x s z l a e h =
+      (λ y. render old (enums_t t qualified reg m (add-one i y) k) ((e ∙ ap (λ (x : ℕ). render old (enum_t t qualified m x) s) a) y))
+      ∙ sym (enums-step reg m i k s) ∙ ap (λ (y : ℕ). render old (enums_t t qualified reg m i y) s) (sym l) ∙ h
 
   pub enums-none : (reg : List ℕ) (m : Name) (i n : ℕ) (s z : State) → n ≤ 0 → render old (enums_t t qualified reg m i n) s ≡ z → s ≡ z
   unfolding enums_t render

@@ -6,12 +6,13 @@ use mathlib.Core.List.{List, [], ◌∷◌, ◌++◌, append_assoc}
 use mathlib.Core.Bool.{Bool, true, cond, ◌&&◌}
 use mathlib.Core.Path.{◌≡◌, refl, sym, ap, ◌∙◌}
 use lib.ListN.{length, get_or, take, drop, length-append}
-use lib.Seq.{drop-append-add, drop-cons, length-take-le, sets, sets-eq, take_at, take-length, take-nil, take-take}
+use lib.Seq.{drop-append-add, length-take-le, sets, sets-eq, take_at, take-length, take-nil, take-take}
 use lib.Dec.{leb, ltb}
 use borrow.Author.Tests.{le-leb, lt-ltb}
 use Rattle.pack_rules.specs.Names.{Name}
 use Rattle.pack.specs.RawNames.{raw_name}
 use Rattle.machines.specs.Layout.{prefix_of, slice_of}
+use Rattle.machines.proofs.QualifyLaws.{values-are}
 use Rattle.machines.specs.LayoutAt.{fits_at, qualifying, qualified_len, qualified_at, sum, under, values}
 use Rattle.machines.specs.Tables.{len_of}
 use Rattle.machines.proofs.NamesPlaced.{SpotAt}
@@ -35,12 +36,6 @@ slice-take (x ∷ l) (suc a) m (suc n) h = slice-take l a m n (omega arith)
 pub slice-shared : (l k : List ℕ) (a m n : ℕ) → a + m ≤ n → take n l ≡ take n k → slice_of l a m ≡ slice_of k a m
 unfolding slice_of
 slice-shared l k a m n h e = sym (slice-take l a m n h) ∙ ap (λ (y : List ℕ). take m (drop a y)) e ∙ slice-take k a m n h
-
-values-are : (l : List ℕ) (a n : ℕ) → a + n ≤ length l → values l a n ≡ take n (drop a l)
-unfolding values
-values-are l a zero h = refl
-values-are l a (suc n) h =
-    ap (λ (r : List ℕ). get_or l a 0 ∷ r) (values-are l (suc a) n (omega arith)) ∙ ap (take (suc n)) (sym (drop-cons l a 0 (omega arith)))
 
 -- the prefix, and a name of the pack after it
 under-is : (qualified : List ℕ) (a m : ℕ) → a + m ≤ length qualified → under qualified a m ≡ prefix_of (slice_of qualified a m)

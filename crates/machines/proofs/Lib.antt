@@ -1,6 +1,7 @@
 pub mod Reading
 pub mod ResolvedAtOffset
 pub mod CheckedReadLaws
+pub mod Remaining
 pub mod TableLaws
 pub mod MemoLaws
 pub mod MemoSoundLaws

@@ -1,5 +1,5 @@
 -- Laws of the locals: their items as the code writes them, and that they depend on the number of regions only.
-use Prim.Native.Nat.{ℕ, zero, suc, ◌+◌, ◌-◌, ◌<◌, ◌≤◌}
+use Prim.Native.Nat.{ℕ, zero, suc, ◌+◌, ◌≤◌}
 use native.Mathlib.Nat.{zero-add, suc-add}
 use native.Mathlib.Numerals.{add-one}
 use native.Mathlib.Omega.{arith}
@@ -52,14 +52,12 @@ split old m id n s =
     ∙ ap (λ (is : List Item). render old is (render old (each port_items (region_locals m id)) s)) (each-one (active_port id)))
 
 -- the loop over regions: one more, and the end
-pub inner-more : (old : List ℕ) (m : Name) (id n : ℕ) (s t u z : State) → 0 < n → t ≡ render old (each port_items (region_locals m id)) s → u ≡ render old (port_items (active_port id)) t → render old (each port_items (inner_locals m id n)) s ≡ z → render old (each port_items (inner_locals m (id + 1) (n - 1))) u ≡ z
+pub inner-more : (old : List ℕ) (m : Name) (id n k : ℕ) (s t u z : State) → n ≡ suc k → t ≡ render old (each port_items (region_locals m id)) s → u ≡ render old (port_items (active_port id)) t → render old (each port_items (inner_locals m id n)) s ≡ z → render old (each port_items (inner_locals m (id + 1) k)) u ≡ z
 unfolding inner_locals
-inner-more old m id zero s t u z l e g h = absurd (omega arith)
-inner-more old m id (suc n) s t u z l e g h =
-    let k : suc n - 1 ≡ n = omega arith in
-    rw (k, add-one id)
-    (ap (render old (each port_items (inner_locals m (suc id) n))) (g ∙ ap (render old (port_items (active_port id))) e)
-    ∙ sym (split old m id n s) ∙ h)
+inner-more old m id n k s t u z l e g h =
+    rw (add-one id)
+    (ap (render old (each port_items (inner_locals m (suc id) k))) (g ∙ ap (render old (port_items (active_port id))) e)
+    ∙ sym (split old m id k s) ∙ ap (λ (y : ℕ). render old (each port_items (inner_locals m id y)) s) (sym l) ∙ h)
 
 pub inner-none : (old : List ℕ) (m : Name) (id n : ℕ) (s z : State) → n ≤ 0 → render old (each port_items (inner_locals m id n)) s ≡ z → s ≡ z
 unfolding inner_locals each render

@@ -1,5 +1,5 @@
 -- Laws for the code that writes nodes with all that goes to them, and the sections.
-use Prim.Native.Nat.{ℕ, zero, suc, ◌+◌, ◌-◌, ◌<◌, ◌≤◌}
+use Prim.Native.Nat.{ℕ, zero, suc, ◌+◌, ◌-◌, ◌≤◌}
 use native.Mathlib.Omega.{arith}
 use native.Mathlib.Numerals.{add-one}
 use mathlib.Core.List.{List, [], ◌∷◌, ◌++◌}
@@ -8,8 +8,7 @@ use mathlib.Core.Path.{◌≡◌, refl, sym, ap, ◌∙◌}
 use lib.ListN.{get_or}
 use borrow.Author.Tests.{eq-eqb, ne_eqb}
 use Rattle.wire.specs.Bytes.{two}
-use Rattle.wire.specs.declared.writer.Writer.{Writer}
-use Rattle.wire.specs.Writer.{State, puts, state_of}
+use Rattle.wire.specs.Writer.{State, puts}
 use Rattle.pack_rules.specs.Names.{Name}
 use Rattle.pack_rules.specs.Read.{equations_in}
 use Rattle.pack_rules.specs.Write.{Item, raw}
@@ -23,7 +22,6 @@ use Rattle.machines.specs.Layout.{slice_of}
 use Rattle.machines.specs.AddedAt.{adds_equations_t, each_t, node_equations_in, own_origin_t, owned_t, regions_t, small_of, total_t}
 use Rattle.machines.specs.NodeHeads.{new_head_t, old_head_t}
 use Rattle.machines.specs.WriteNodesAt.{added_equations_t, enums_part_t, new_node_t, node_equations_t, nodes_t, old_node_t, old_nodes_t, origins_part_t, sections_t}
-use Rattle.machines.proofs.RowLaws.{left-same}
 use Rattle.machines.proofs.CheckedReadLaws.{on}
 
 module _ (ns : List Name) (s defs receivers regcounts offsets : List ℕ) (n : ℕ) where
@@ -52,15 +50,12 @@ module _ (ns : List Name) (s defs receivers regcounts offsets : List ℕ) (n : �
     olds-step c k p z = render-append old (old_node_t ns s defs receivers regcounts offsets n eqs k p) (old_nodes_t ns s defs receivers regcounts offsets n eqs c (suc k) (end_of (equations_in ns s (node_equations_in ns s p)))) z
 
     -- the loop over nodes that stand: one more, and the end
-    pub olds-more : (c k p e q d : ℕ) (o m : List ℕ) (w : Writer) (z y : State) → 0 < c → state_of o m w ≡ render old (old_node_t ns s defs receivers regcounts offsets n eqs k p) z → e ≡ node_equations_in ns s p → q ≡ end_of (equations_in ns s e) → d ≡ cond w.full 0 (c - 1)
-        → render old (old_nodes_t ns s defs receivers regcounts offsets n eqs c k p) z ≡ y → render old (old_nodes_t ns s defs receivers regcounts offsets n eqs d (k + 1) q) (state_of o m w) ≡ y
-    olds-more zero k p e q d o m w z y l hw ee eq g h = absurd (omega arith)
-    olds-more (suc c) k p e q d o m w z y l hw ee eq g h =
-        let i : suc c - 1 ≡ c = omega arith in
+    pub olds-more : (c d k p e q : ℕ) (x z y : State) → c ≡ suc d → x ≡ render old (old_node_t ns s defs receivers regcounts offsets n eqs k p) z → e ≡ node_equations_in ns s p → q ≡ end_of (equations_in ns s e)
+        → render old (old_nodes_t ns s defs receivers regcounts offsets n eqs c k p) z ≡ y → render old (old_nodes_t ns s defs receivers regcounts offsets n eqs d (k + 1) q) x ≡ y
+    olds-more c d k p e q x z y l hw ee eq h =
         let f : q ≡ end_of (equations_in ns s (node_equations_in ns s p)) = eq ∙ ap (λ x. end_of (equations_in ns s x)) ee in
-        left-same old (λ x. old_nodes_t ns s defs receivers regcounts offsets n eqs x (k + 1) q) o m w c d (g ∙ ap (cond w.full 0) i)
-        ∙ (λ j. render old (old_nodes_t ns s defs receivers regcounts offsets n eqs c (add-one k j) (f j)) (hw j))
-        ∙ sym (olds-step c k p z) ∙ h
+        (λ j. render old (old_nodes_t ns s defs receivers regcounts offsets n eqs d (add-one k j) (f j)) (hw j))
+        ∙ sym (olds-step d k p z) ∙ ap (λ (x : ℕ). render old (old_nodes_t ns s defs receivers regcounts offsets n eqs x k p) z) (sym l) ∙ h
 
     pub olds-none : (c k p : ℕ) (z y : State) → c ≤ 0 → render old (old_nodes_t ns s defs receivers regcounts offsets n eqs c k p) z ≡ y → z ≡ y
     unfolding old_nodes_t render

@@ -4,8 +4,8 @@ use native.Mathlib.Omega.{arith}
 use mathlib.Core.List.{List, [], ◌∷◌, ◌++◌}
 use mathlib.Core.Bool.{Bool, true, false, ◌&&◌}
 use mathlib.Core.Path.{◌≡◌, refl, sym, ap, ◌∙◌}
-use lib.ListN.{length, get_or, set, length-append}
-use lib.Seq.{sets, get_or-set_other}
+use lib.ListN.{length, get_or, set, take, drop, length-append}
+use lib.Seq.{sets, sets-eq, paste, drop-cons, get_or-set_other}
 use lib.Dec.{leb, ltb}
 use borrow.Author.Tests.{le-leb, lt-leb, le-ltb, lt-ltb, leb-true, ltb-false, ltb-true}
 use Rattle.machines.specs.Tables.{len_of}
@@ -50,8 +50,18 @@ copied_more l qualified u src at a k p b e q f g =
     ∙ sets-append l at (values src a k) (get_or src (a + k) 0 ∷ []) (at + k) (ap (λ (j : ℕ). at + j) (sym (length-values src a k)))
     ∙ ap (sets l at) (sym (values-snoc src a k) ∙ ap (values src a) (sym i))
 
-pub kept-letter : (l qualified : List ℕ) (at : ℕ) (vs : List ℕ) (j b : ℕ) → qualified ≡ sets l at vs → j < at → b ≡ get_or qualified j 0 → b ≡ get_or l j 0
-kept-letter l qualified at vs j b e h f = f ∙ ap (λ (r : List ℕ). get_or r j 0) e ∙ sets-before l at vs j h
+-- values that all stand there, and copied at once
+pub values-are : (l : List ℕ) (a n : ℕ) → a + n ≤ length l → values l a n ≡ take n (drop a l)
+unfolding values
+values-are l a zero h = refl
+values-are l a (suc n) h =
+    ap (λ (r : List ℕ). get_or l a 0 ∷ r) (values-are l (suc a) n (omega arith)) ∙ ap (take (suc n)) (sym (drop-cons l a 0 (omega arith)))
+
+pasted : (l : List ℕ) (at a m : ℕ) → a + m ≤ length l → at + m ≤ length l → paste l at (drop a l) (a + m - a) ≡ sets l at (values l a m)
+pasted l at a m h k =
+    let n : a + m - a ≡ m = omega arith in
+    ap (paste l at (drop a l)) n
+    ∙ sym (sets-eq (values l a m) l at (omega (arith, length-values l a m)) ∙ (λ i. take at l ++ values-are l a m h i ++ drop (at + length-values l a m i) l))
 
 -- the prefix
 pub lead-none : (m : ℕ) → m ≡ 0 → 0 ≡ prefix_len m
@@ -67,13 +77,12 @@ pub under_none : (l : List ℕ) (a m at : ℕ) → m ≡ 0 → l ≡ sets l at (
 unfolding under
 under_none l a m at e = rw e
 
-pub under_some : (l qualified u : List ℕ) (a m k at : ℕ) → (m ≡ 0 → ⊥) → k ≤ m → m ≤ k → qualified ≡ sets l at (values l a k) → u ≡ set qualified (at + m) 95 → u ≡ sets l at (under l a m)
-unfolding under
-under_some l qualified u a zero k at z x y e f = absurd (z refl)
-under_some l qualified u a (suc m) k at z x y e f =
-    let i : k ≡ suc m = omega arith in
+pub under_some : (l u v : List ℕ) (a m at : ℕ) → (m ≡ 0 → ⊥) → a + m ≤ at → at + prefix_len m ≤ length l → u ≡ paste l at (drop a l) (a + m - a) → v ≡ set u (at + m) 95 → v ≡ sets l at (under l a m)
+unfolding under prefix_len
+under_some l u v a zero at h r s e f = absurd (h refl)
+under_some l u v a (suc m) at h r s e f =
     f
-    ∙ ap (λ (r : List ℕ). set r (at + suc m) 95) (e ∙ ap (λ (j : ℕ). sets l at (values l a j)) i)
+    ∙ ap (λ (w : List ℕ). set w (at + suc m) 95) (e ∙ pasted l at a (suc m) (omega arith) (omega arith))
     ∙ sets-append l at (values l a (suc m)) (95 ∷ []) (at + suc m) (ap (λ (j : ℕ). at + j) (sym (length-values l a (suc m))))
 
 length-under : (l : List ℕ) (a m : ℕ) → length (under l a m) ≡ prefix_len m

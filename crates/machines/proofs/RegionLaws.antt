@@ -1,5 +1,5 @@
 -- Laws of a region's equations as the code writes them.
-use Prim.Native.Nat.{ℕ, zero, suc, ◌+◌, ◌-◌, ◌<◌, ◌≤◌, min, zero-le}
+use Prim.Native.Nat.{ℕ, zero, suc, ◌+◌, ◌<◌, ◌≤◌, min, zero-le}
 use native.Mathlib.Omega.{arith}
 use native.Mathlib.Nat.{zero-add}
 use native.Mathlib.Numerals.{add-one}
@@ -27,7 +27,6 @@ use Rattle.machine_rules.specs.Lower.{previous_next, state_rhs}
 use Rattle.machines.specs.Equations.{active_equation, state_equation}
 use Rattle.machines.specs.EmitAt.{active_t, chain_t, in_region, letters_at, next_rhs_t, next_t, region_t, regions_t, state_t}
 use Rattle.machines.proofs.TermLaws.{held-term, state-equation, state-history, state-restart, var-term}
-use Rattle.machines.proofs.RowLaws.{left-same}
 
 -- the top region, an inner one
 pub active-none : (old t qualified : List ℕ) (q id : ℕ) (s : State) → id ≡ get_or t (q + 5) 0 → id ≡ 0 → s ≡ render old (active_t t qualified q) s
@@ -150,13 +149,10 @@ module _ (old sb offsets t qualified : List ℕ) (ns : List Name) where
   regions-step reg i n s = render-append old (region_t sb offsets t qualified ns (get_or reg i 0)) (regions_t sb offsets t qualified ns reg (suc i) n) s
 
   -- the loop over regions: one more, and the end
-  pub regions-more : (reg : List ℕ) (i n k q : ℕ) (o d : List ℕ) (w : Writer) (s z : State) → 0 < n → q ≡ get_or reg i 0 → state_of o d w ≡ render old (region_t sb offsets t qualified ns q) s → k ≡ cond w.full 0 (n - 1) → render old (regions_t sb offsets t qualified ns reg i n) s ≡ z → render old (regions_t sb offsets t qualified ns reg (i + 1) k) (state_of o d w) ≡ z
-  regions-more reg i zero k q o d w s z l a e g h = absurd (omega arith)
-  regions-more reg i (suc n) k q o d w s z l a e g h =
-      let j : suc n - 1 ≡ n = omega arith in
-      left-same old (λ y. regions_t sb offsets t qualified ns reg (i + 1) y) o d w n k (g ∙ ap (cond w.full 0) j)
-      ∙ (λ y. render old (regions_t sb offsets t qualified ns reg (add-one i y) n) ((e ∙ ap (λ (x : ℕ). render old (region_t sb offsets t qualified ns x) s) a) y))
-      ∙ sym (regions-step reg i n s) ∙ h
+  pub regions-more : (reg : List ℕ) (i n k q : ℕ) (x s z : State) → n ≡ suc k → q ≡ get_or reg i 0 → x ≡ render old (region_t sb offsets t qualified ns q) s → render old (regions_t sb offsets t qualified ns reg i n) s ≡ z → render old (regions_t sb offsets t qualified ns reg (i + 1) k) x ≡ z
+  regions-more reg i n k q x s z l a e h =
+      (λ y. render old (regions_t sb offsets t qualified ns reg (add-one i y) k) ((e ∙ ap (λ (x : ℕ). render old (region_t sb offsets t qualified ns x) s) a) y))
+      ∙ sym (regions-step reg i k s) ∙ ap (λ (y : ℕ). render old (regions_t sb offsets t qualified ns reg i y) s) (sym l) ∙ h
 
   pub regions-none : (reg : List ℕ) (i n : ℕ) (s z : State) → n ≤ 0 → render old (regions_t sb offsets t qualified ns reg i n) s ≡ z → s ≡ z
   unfolding regions_t render

@@ -58,6 +58,10 @@ full_is o m w e = rw e
 pub name-as : (old n k : List ℕ) (x s : State) → x ≡ put_name old n s → n ≡ k → x ≡ put_name old k s
 name-as old n k x s e f = e ∙ ap (λ (y : List ℕ). put_name old y s) f
 
+-- once the writer is full, what is left changes nothing
+pub stays-full : (old : List ℕ) (is : List Item) (o m : List ℕ) (w : Writer) (z : State) → w.full ≡ true → render old is (state_of o m w) ≡ z → state_of o m w ≡ z
+stays-full old is o m w z e h = full_is o m w e ∙ sym (ap (render old is) (full_is o m w e) ∙ render-full old is) ∙ h
+
 -- a full writer takes nothing more
 pub left-same : (old : List ℕ) (F : ℕ → List Item) (o m : List ℕ) (w : Writer) (n k : ℕ) → k ≡ cond w.full 0 n → render old (F k) (state_of o m w) ≡ render old (F n) (state_of o m w)
 left-same old F o m w n k e = go w.full refl e
@@ -75,12 +79,6 @@ left_less w n k l e = go w.full e
     go false f = omega arith
 
 -- nor is it more than all
-pub left-most : (w : Writer) (n k : ℕ) → k ≡ cond w.full 0 n → k ≤ n
-left-most w n k e = go w.full e
-  where
-    go : (b : Bool) → k ≡ cond b 0 n → k ≤ n
-    go true x = omega arith
-    go false x = omega arith
 
 -- the prefix of a name, by whether there is one
 no-prefix : (n : Name) (s : State) → length n ≡ 0 → s ≡ puts (prefix_of n) s

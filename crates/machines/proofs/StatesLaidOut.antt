@@ -5,7 +5,7 @@ use mathlib.Core.List.{List, [], ◌∷◌, ◌++◌, append_assoc}
 use mathlib.Core.Bool.{Bool, true, false}
 use mathlib.Core.Path.{◌≡◌, refl, sym, ap, subst, ◌∙◌}
 use lib.ListN.{length, get_or, length-append}
-use Rattle.wire.specs.Answer.{byte, u16, value}
+use Rattle.wire.specs.Answer.{u16, value}
 use Rattle.pack_rules.specs.Limits.{absent}
 use Rattle.pack_rules.specs.Names.{Name}
 use Rattle.pack_rules.specs.Syntax.{Equation, Transition}
@@ -16,7 +16,7 @@ use Rattle.machines.specs.declared.layout.RegionHead.{RegionHead}
 use Rattle.machine_rules.specs.Checks.{collect_region_names, collect_state_names}
 use Rattle.machines.specs.Counts.{any_s, count_r, count_s, filled_r, filled_s}
 use Rattle.machines.specs.Layout.{LaidR, l_end, l_more, prefix_of, r_end}
-use Rattle.machines.specs.LayoutAt.{Board, close_state, layout_region, layout_state, moved_to, opening, sum, times}
+use Rattle.machines.specs.LayoutAt.{Board, close_state, layout_region, layout_state, moved_to, opening, times}
 use Rattle.machine_rules.specs.Resolve.{prefix_transitions, short_r}
 use Rattle.machines.specs.ResolvedIn.{MachineAt, RegionAt, StandsR, StandsS, StateAt, r_into, r_more, r_plain, s_end, s_more}
 use Rattle.machines.proofs.Reading.{name-number}

@@ -95,11 +95,11 @@ module _ (ns : List Name) (s : List ℕ) where
       ∙ ap (λ (y : ℕ). after i (unknown_from ns s n f y p)) k
       ∙ d
 
-  pub strays-done : (n f i p : ℕ) (z : UnknownTarget) → n ≤ i → after i (unknown_from ns s n f (n - i) p) ≡ z → unknown_targets i 0 ≡ z
+  pub strays-done : (n f i p : ℕ) (z : UnknownTarget) → n ≤ i → i ≤ n → after i (unknown_from ns s n f (n - i) p) ≡ z → unknown_targets n 0 ≡ z
   unfolding after unknown_from
-  strays-done n f i p z l d =
+  strays-done n f i p z l m d =
       let k : 0 ≡ n - i = omega (arith, l) in
-      let j : i ≡ i + 0 = omega arith in
+      let j : n ≡ i + 0 = omega (arith, l, m) in
       ap (λ (y : ℕ). unknown_targets y 0) j ∙ ap (λ (y : ℕ). after i (unknown_from ns s n f y p)) k ∙ d
 
   pub strays-from : (n f : ℕ) → after 0 (unknown_from ns s n f (n - 0) f) ≡ unknown_target_d ns s n f

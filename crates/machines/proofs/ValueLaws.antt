@@ -8,8 +8,7 @@ use lib.ListN.{get_or}
 use lib.Dec.{eqb}
 use borrow.Author.Tests.{eq-eqb, ne_eqb}
 use Rattle.wire.specs.Bytes.{two}
-use Rattle.wire.specs.declared.writer.Writer.{Writer}
-use Rattle.wire.specs.Writer.{State, puts, state_of}
+use Rattle.wire.specs.Writer.{State, puts}
 use Rattle.pack_rules.specs.Names.{Name}
 use Rattle.pack_rules.specs.Read.{equation_in, expr_in, port_in}
 use Rattle.pack_rules.specs.Write.{Item}
@@ -23,7 +22,6 @@ use Rattle.machines.specs.CoverAt.{uncovered_t}
 use Rattle.machines.specs.EmitAt.{last_or, test_t}
 use Rattle.machines.specs.ValueAt.{entered_t, giving_from, in_state_t, output_t, outputs_t, port_outputs_t, side_bytes, side_from, side_t, value_t, values_t}
 use Rattle.machines.proofs.CheckedReadLaws.{on}
-use Rattle.machines.proofs.RowLaws.{left-same}
 
 module _ (ns : List Name) (s : List ℕ) (out : ℕ) where
   side-step : (n p : ℕ) (k l : NumberAt) (b : Bool) → k ≡ number_in s p → l ≡ number_in s k.next → b ≡ (eqb k.value 1 && eqb l.value out) → cond b l.next (side_from ns s out n (end_of (equation_in ns s p))) ≡ side_from ns s out (suc n) p
@@ -96,14 +94,11 @@ module _ (old t qualified : List ℕ) where
       ∙ render-append old (F p) (values_t t qualified F q (suc n) (get_or t (p + 4) 0)) _
 
   -- the loop over states: one more, none, and the last
-  pub values-more : (F : ℕ → List Item) (q n p k r : ℕ) (o m : List ℕ) (w : Writer) (a s z : State) → 1 < n → a ≡ render old (test_t t qualified q p) s → state_of o m w ≡ render old (F p) a → r ≡ get_or t (p + 4) 0 → k ≡ cond w.full 0 (n - 1) → render old (values_t t qualified F q n p) s ≡ z → render old (values_t t qualified F q k r) (state_of o m w) ≡ z
-  values-more F q zero p k r o m w a s z l e f c g h = absurd (omega arith)
-  values-more F q (suc zero) p k r o m w a s z l e f c g h = absurd (omega arith)
-  values-more F q (suc (suc n)) p k r o m w a s z l e f c g h =
-      let j : suc (suc n) - 1 ≡ suc n = omega arith in
-      left-same old (λ i. values_t t qualified F q i r) o m w (suc n) k (g ∙ ap (cond w.full 0) j)
-      ∙ (λ i. render old (values_t t qualified F q (suc n) (c i)) ((f ∙ ap (render old (F p)) e) i))
-      ∙ sym (values-step F q n p s) ∙ h
+  pub values-more : (F : ℕ → List Item) (q n k p r : ℕ) (y a s z : State) → n ≡ suc k → 0 < k → a ≡ render old (test_t t qualified q p) s → y ≡ render old (F p) a → r ≡ get_or t (p + 4) 0 → render old (values_t t qualified F q n p) s ≡ z → render old (values_t t qualified F q k r) y ≡ z
+  values-more F q n zero p r y a s z l g e f c h = absurd (omega arith)
+  values-more F q n (suc k) p r y a s z l g e f c h =
+      (λ i. render old (values_t t qualified F q (suc k) (c i)) ((f ∙ ap (render old (F p)) e) i))
+      ∙ sym (values-step F q k p s) ∙ ap (λ (y : ℕ). render old (values_t t qualified F q y p) s) (sym l) ∙ h
 
   pub values-none : (F : ℕ → List Item) (q n p : ℕ) (s z : State) → n ≡ 0 → render old (values_t t qualified F q n p) s ≡ z → s ≡ z
   unfolding values_t render
@@ -154,13 +149,10 @@ module _ (old sb t qualified : List ℕ) (ns : List Name) where
   outputs-step n p s = render-append old (output_t sb t qualified ns (number_in sb p).value) (outputs_t sb t qualified ns n (end_of (port_in ns sb p))) s
 
   -- the loop over outputs: one more, and the end
-  pub outputs-more : (n p k r : ℕ) (x : NumberAt) (o m : List ℕ) (w : Writer) (s z : State) → 0 < n → x ≡ number_in sb p → state_of o m w ≡ render old (output_t sb t qualified ns x.value) s → r ≡ end_of (port_in ns sb p) → k ≡ cond w.full 0 (n - 1) → render old (outputs_t sb t qualified ns n p) s ≡ z → render old (outputs_t sb t qualified ns k r) (state_of o m w) ≡ z
-  outputs-more zero p k r x o m w s z l a b c g h = absurd (omega arith)
-  outputs-more (suc n) p k r x o m w s z l a b c g h =
-      let j : suc n - 1 ≡ n = omega arith in
-      left-same old (λ i. outputs_t sb t qualified ns i r) o m w n k (g ∙ ap (cond w.full 0) j)
-      ∙ (λ i. render old (outputs_t sb t qualified ns n (c i)) ((b ∙ ap (λ (y : NumberAt). render old (output_t sb t qualified ns y.value) s) a) i))
-      ∙ sym (outputs-step n p s) ∙ h
+  pub outputs-more : (n k p r : ℕ) (x : NumberAt) (y s z : State) → n ≡ suc k → x ≡ number_in sb p → y ≡ render old (output_t sb t qualified ns x.value) s → r ≡ end_of (port_in ns sb p) → render old (outputs_t sb t qualified ns n p) s ≡ z → render old (outputs_t sb t qualified ns k r) y ≡ z
+  outputs-more n k p r x y s z l a b c h =
+      (λ i. render old (outputs_t sb t qualified ns k (c i)) ((b ∙ ap (λ (y : NumberAt). render old (output_t sb t qualified ns y.value) s) a) i))
+      ∙ sym (outputs-step k p s) ∙ ap (λ (y : ℕ). render old (outputs_t sb t qualified ns y p) s) (sym l) ∙ h
 
   pub outputs-none : (n p : ℕ) (s z : State) → n ≤ 0 → render old (outputs_t sb t qualified ns n p) s ≡ z → s ≡ z
   unfolding outputs_t render

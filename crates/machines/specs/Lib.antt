@@ -1,5 +1,4 @@
 pub mod Vars
-pub mod Known
 pub mod ResolvedIn
 pub mod CheckedReads
 pub mod Tables

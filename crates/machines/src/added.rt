@@ -17,7 +17,7 @@ ghost use Rattle.pack.specs.Intern.{render};
 
 use crate::checked_read::number;
 use crate::emit_region::{put_inner_locals, put_region_locals};
-use crate::layout::{between, pack_name, remaining};
+use crate::layout::{between, pack_name};
 use crate::table::{entry, to_outputs};
 use pack::check::reached;
 use pack::parts::then_ports;
@@ -96,14 +96,12 @@ pub fn local_count(pack: &[u8], names: usize, at: usize, regions: usize) -> usiz
 pub fn next_to(receivers: &[usize], n: usize, k: usize, i: usize) -> usize
     ensures { (i ≤ result) × ((j : ℕ) → i ≤ j → j < result → get_or receivers.now j 0 ≡ k → ⊥) }
 {
-    let mut p = i;
-    while p < n {
+    for p in i..n {
         if entry(receivers, p) == k {
             return p;
         }
-        p += 1;
     }
-    p
+    i.max(n)
 }
 
 // How many equations the machine i brings to the node k.
@@ -119,13 +117,10 @@ pub fn adds_equations(
     requires { length pack.now ≤ max_bytes }
     ensures { (result < 1048576) × ((ns : List Name) → length ns ≡ names → result ≡ adds_equations_t ns pack.now defs.now receivers.now regcounts.now k i) }
 {
-    let a = entry(receivers, i);
-    let m = entry(defs, i);
-    let r = entry(regcounts, i);
-    if a == k {
-        return equation_count(pack, names, m, r);
+    if entry(receivers, i) != k {
+        return 0;
     }
-    0
+    equation_count(pack, names, entry(defs, i), entry(regcounts, i))
 }
 
 // How many locals it brings there.
@@ -141,13 +136,10 @@ fn adds_locals(
     requires { length pack.now ≤ max_bytes }
     ensures { (result < 1048576) × ((ns : List Name) → length ns ≡ names → result ≡ adds_locals_t ns pack.now defs.now receivers.now regcounts.now k i) }
 {
-    let a = entry(receivers, i);
-    let m = entry(defs, i);
-    let r = entry(regcounts, i);
-    if a == k {
-        return local_count(pack, names, m, r);
+    if entry(receivers, i) != k {
+        return 0;
     }
-    0
+    local_count(pack, names, entry(defs, i), entry(regcounts, i))
 }
 
 // How many equations the first n machines bring to the node k.
@@ -164,10 +156,8 @@ pub fn added_equations(
     ensures { (result ≤ 1048576 * n) × ((ns : List Name) → length ns ≡ names → result ≡ total_t (adds_equations_t ns pack.now defs.now receivers.now regcounts.now k) n 0) }
 {
     let mut c = 0;
-    let mut i = next_to(receivers, n, k, 0);
-    while i < n {
+    for i in 0..n {
         c += adds_equations(pack, names, defs, receivers, regcounts, k, i);
-        i = next_to(receivers, n, k, i + 1);
     }
     c
 }
@@ -186,10 +176,8 @@ pub fn added_locals(
     ensures { (result ≤ 1048576 * n) × ((ns : List Name) → length ns ≡ names → result ≡ total_t (adds_locals_t ns pack.now defs.now receivers.now regcounts.now k) n 0) }
 {
     let mut c = 0;
-    let mut i = next_to(receivers, n, k, 0);
-    while i < n {
+    for i in 0..n {
         c += adds_locals(pack, names, defs, receivers, regcounts, k, i);
-        i = next_to(receivers, n, k, i + 1);
     }
     c
 }
@@ -199,12 +187,9 @@ pub fn sum_of(regcounts: &[usize], n: usize) -> usize
     requires { n ≤ word_range }
     ensures { (result ≤ 1048576 * n) × (result ≡ total_t (regions_t regcounts.now) n 0) }
 {
-    let mut i = 0;
     let mut c = 0;
-    while i < n {
-        let e = entry(regcounts, i);
-        c += small(e);
-        i += 1;
+    for i in 0..n {
+        c += small(entry(regcounts, i));
     }
     c
 }
@@ -224,11 +209,9 @@ pub fn owned_count(pack: &[u8], defs: &[usize], n: usize) -> usize
     requires { n ≤ word_range }
     ensures { (result ≤ 1048576 * n) × (result ≡ total_t (owned_t pack.now defs.now) n 0) }
 {
-    let mut i = 0;
     let mut c = 0;
-    while i < n {
+    for i in 0..n {
         c += owned(pack, defs, i);
-        i += 1;
     }
     c
 }
@@ -252,12 +235,9 @@ pub fn nearer(k: usize, a: usize, b: usize) -> usize
 fn receives(receivers: &[usize], n: usize, k: usize) -> usize
     ensures { result ≡ receives_t (goes_t receivers.now) k n 0 no_node }
 {
-    let mut i = 0;
     let mut b = NO_NODE;
-    while i < n {
-        let a = entry(receivers, i);
-        b = nearer(k, a, b);
-        i += 1;
+    for i in 0..n {
+        b = nearer(k, entry(receivers, i), b);
     }
     b
 }
@@ -280,13 +260,10 @@ pub fn asked(k: usize, b: usize, n: usize) -> usize
 pub fn span(receivers: &[usize], n: usize, k: usize, f: usize) -> usize
     ensures { (result ≤ n - f) × ((j : ℕ) → f + result ≤ j → j < n → get_or receivers.now j 0 ≡ k → ⊥) }
 {
-    let mut p = n;
-    while f < p {
-        let i = p - 1;
+    for i in (f..n).rev() {
         if entry(receivers, i) == k {
-            return p - f;
+            return i + 1 - f;
         }
-        p = i;
     }
     0
 }
@@ -374,14 +351,13 @@ pub fn put_all_locals(
     ensures { (ns : List Name) → length ns ≡ names → state_of out.new made.new result ≡ render old.now (each_t (added_locals_t ns pack.now defs.now receivers.now regcounts.now offsets.now k) n 0) (state_of out.old made.old writer) }
 {
     let mut v = writer;
-    let mut c = n;
-    let mut i = next_to(receivers, c, k, 0);
-    while i < c {
+    for i in 0..n {
+        if v.full {
+            return v;
+        }
         v = put_added_locals(
             old, pack, names, offsets, defs, receivers, regcounts, k, i, out, made, v,
         );
-        c = remaining(v, c);
-        i = next_to(receivers, c, k, i + 1);
     }
     v
 }

@@ -4,7 +4,7 @@
 //   hints   256 rows of three, at 3 * (p / 10 % 256): the state at p, the equation after the one found last, how many are left there
 //   marks   from MARKS on, at p / 10, of the output x asked last: 2 * x + 2 where the state at p gives it, 2 * x + 1 where not
 // Rows of hints are shared, and say whose they are. What is not there is looked for in the equations.
-ghost use Rattle.std.specs.Prelude.{List, ◌≡◌, ◌<◌, ◌≤◌, length};
+ghost use Rattle.std.specs.Prelude.{List, ◌≡◌, ◌<◌, ◌≤◌, length, is_some, IfSome};
 ghost use Rattle.pack_rules.specs.Names.{Name};
 ghost use Rattle.pack_rules.specs.Limits.{max_bytes};
 ghost use Rattle.machines.specs.MemoSound.{RowsSound};
@@ -51,41 +51,30 @@ fn assigns_only(pack: &[u8], names: usize, memo: &[u16], out: usize, at: usize) 
     }
 }
 
-// Whether an equation was found, and what of its state comes after it: so many equations, and where they begin.
+// What of its state comes after an equation that was found: so many equations, and where they begin.
 #[derive(Clone, Copy)]
-struct Assignment {
-    yes: bool,
+struct Hint {
     left: usize,
     next: usize,
 }
 
-// Whether an equation of the state at `at` gives `out`.
-fn assigns(pack: &[u8], names: usize, memo: &[u16], out: usize, at: usize) -> Assignment
+// What comes after the first equation of the state at `at` that gives `out`.
+fn assigns(pack: &[u8], names: usize, memo: &[u16], out: usize, at: usize) -> Option<Hint>
     requires { (length pack.now ≤ max_bytes) × RowsSound pack.now names memo.now }
-    ensures yes_value { (ns : List Name) → length ns ≡ names → result.yes ≡ own_t ns pack.now out at }
-    ensures hint_of { HintOf pack.now names at result.left result.next }
+    ensures found { (ns : List Name) → length ns ≡ names → is_some result ≡ own_t ns pack.now out at }
+    ensures hint_of { IfSome result (λ h. HintOf pack.now names at h.left h.next) }
 {
     let i = number(pack, at);
     let t = number(pack, i.next);
-    let mut n = t.value;
     let mut p = t.next;
-    while 0 < n {
+    for left in (0..t.value).rev() {
         let e = assigns_only(pack, names, memo, out, p);
         if e.yes {
-            return Assignment {
-                yes: true,
-                left: n - 1,
-                next: e.next,
-            };
+            return Some(Hint { left, next: e.next });
         }
-        n = n - 1;
         p = e.next;
     }
-    Assignment {
-        yes: false,
-        left: 0,
-        next: 0,
-    }
+    None
 }
 
 // The same, with the equation after the one found last tried first: outputs mostly come in the order of the equations, and a
@@ -97,10 +86,10 @@ fn assigns_from_hint(
     hints: &[u16],
     out: usize,
     at: usize,
-) -> Assignment
+) -> Option<Hint>
     requires { (length pack.now ≤ max_bytes) × RowsSound pack.now names memo.now × AssignsSound pack.now names memo.now hints.now }
-    ensures yes_value { (ns : List Name) → length ns ≡ names → result.yes ≡ own_t ns pack.now out at }
-    ensures hint_of { HintOf pack.now names at result.left result.next }
+    ensures found { (ns : List Name) → length ns ≡ names → is_some result ≡ own_t ns pack.now out at }
+    ensures hint_of { IfSome result (λ h. HintOf pack.now names at h.left h.next) }
 {
     let b = 3 * (at / 10 % HINTS);
     if cell(hints, b) != at {
@@ -112,26 +101,20 @@ fn assigns_from_hint(
     }
     let e = assigns_only(pack, names, memo, out, cell(hints, b + 1));
     if e.yes {
-        return Assignment {
-            yes: true,
+        return Some(Hint {
             left: n - 1,
             next: e.next,
-        };
+        });
     }
     assigns(pack, names, memo, out, at)
 }
 
 // Remembers that n equations from q on are left of the state at p, where all fits a cell. A row is the last state's that took it.
+#[tactic(auto, unfolding(crate::specs::AssignsMemo::hint_put, crate::specs::AssignsMemo::hint_row))]
 fn put_hint(hints: &mut [u16], p: usize, n: usize, q: usize)
     ensures { hints.new ≡ hint_put hints.old p n q }
 {
-    if WORD_RANGE <= p {
-        return;
-    }
-    if WORD_RANGE <= n {
-        return;
-    }
-    if WORD_RANGE <= q {
+    if WORD_RANGE <= p || WORD_RANGE <= n || WORD_RANGE <= q {
         return;
     }
     let b = 3 * (p / 10 % HINTS);
@@ -171,12 +154,14 @@ fn assigns_by_mark(
         return true;
     }
     let r = assigns_from_hint(pack, names, memo, hints, out, at);
-    put_cell(hints, b, mark(out, r.yes));
-    if r.yes {
-        put_hint(hints, at, r.left, r.next);
-        return true;
+    put_cell(hints, b, mark(out, r.is_some()));
+    match r {
+        Some(h) => {
+            put_hint(hints, at, h.left, h.next);
+            true
+        }
+        None => false,
     }
-    false
 }
 
 // The same of any state. One that is not kept has no cell of its own, and the mark of a larger index fits no cell.
@@ -192,11 +177,8 @@ pub fn assigns_with_memo(
     ensures value { (ns : List Name) → length ns ≡ names → result ≡ own_t ns pack.now out at }
     ensures assigns_sound { AssignsSound pack.now names memo.now hints.new }
 {
-    if 32767 <= out {
-        return assigns(pack, names, memo, out, at).yes;
-    }
-    if memo_regions(memo, at) == 0 {
-        return assigns(pack, names, memo, out, at).yes;
+    if 32767 <= out || memo_regions(memo, at) == 0 {
+        return assigns(pack, names, memo, out, at).is_some();
     }
     assigns_by_mark(pack, names, memo, hints, out, at)
 }
@@ -221,20 +203,19 @@ fn require_cover_state(
     if assigns_with_memo(pack, names, memo, hints, out, entry(layout, p)) {
         return 0;
     }
-    let mut n = layout_word(layout, p, 5);
+    let n = layout_word(layout, p, 5);
     if n == 0 {
         return p;
     }
     let mut g = inner(layout, p);
     let mut miss = 0;
-    while 0 < n {
+    for _ in 0..n {
         let m = require_cover_region(pack, names, memo, layout, hints, out, levels, g);
         if m == 0 {
             return 0;
         }
         miss = first_some(miss, m);
         g = layout_word(layout, g, 4);
-        n = n - 1;
     }
     miss
 }
@@ -258,15 +239,13 @@ pub fn require_cover_region(
     if levels == 0 {
         return 0;
     }
-    let mut n = layout_word(layout, q, 6);
     let mut p = first(layout, q);
-    while 0 < n {
+    for _ in 0..layout_word(layout, q, 6) {
         let m = require_cover_state(pack, names, memo, layout, hints, out, levels - 1, p);
         if m != 0 {
             return m;
         }
         p = layout_word(layout, p, 4);
-        n = n - 1;
     }
     0
 }

@@ -39,10 +39,8 @@ fn contains_half(halves: &[u32], m: u32) -> bool
     ensures { result ≡ is_among m halves.now }
 {
     let mut hit = false;
-    let mut i = 0;
-    while i < halves.len() {
-        hit = hit | (halves[i] == m);
-        i += 1;
+    for &h in halves {
+        hit |= h == m;
     }
     hit
 }

@@ -10,10 +10,9 @@ ghost use Rattle.machines.specs.AddedAt.{each_t};
 ghost use Rattle.machines.specs.EmitMachineAt.{AllWrite, Long, added_at, enums_at, equations_at};
 ghost use Rattle.machines.specs.WriteNodesAt.{added_equations_t};
 
-use crate::added::next_to;
 use crate::checked_read::number;
 use crate::emit_region::{emit_regions, put_enums};
-use crate::layout::{layout_machine, pack_name, remaining};
+use crate::layout::{layout_machine, pack_name};
 use crate::table::{entry, to_initial, to_outputs};
 use crate::value_of::put_outputs;
 use wire::writer::Writer;
@@ -135,15 +134,14 @@ pub fn put_all_equations(
     ensures { (ns : List Name) → length ns ≡ names → (eqs : ℕ → List Item) → AllWrite old.now (equations_at ns pack.now offsets.now machines.now) defs.now n eqs → state_of out.new made.new result ≡ render old.now (each_t (added_equations_t receivers.now eqs k) n 0) (state_of out.old made.old writer) }
 {
     let mut v = writer;
-    let mut c = n;
-    let mut i = next_to(receivers, c, k, 0);
-    while i < c {
+    for i in 0..n {
+        if v.full {
+            return v;
+        }
         v = put_added_equations(
             old, pack, names, offsets, machines, memo, layout, rows, qualified, defs, receivers, k,
             i, out, made, v,
         );
-        c = remaining(v, c);
-        i = next_to(receivers, c, k, i + 1);
     }
     v
 }
@@ -169,15 +167,14 @@ pub fn put_all_enums(
     ensures { (ns : List Name) → length ns ≡ names → (ens : ℕ → List Item) → AllWrite old.now (enums_at ns pack.now offsets.now machines.now) defs.now n ens → state_of out.new made.new result ≡ render old.now (each_t ens n 0) (state_of out.old made.old writer) }
 {
     let mut v = writer;
-    let mut i = 0;
-    let mut c = n;
-    while 0 < c {
+    for i in 0..n {
+        if v.full {
+            return v;
+        }
         let m = entry(defs, i);
         v = put_machine_enums(
             old, pack, names, offsets, machines, memo, layout, rows, qualified, m, out, made, v,
         );
-        i += 1;
-        c = remaining(v, c - 1);
     }
     v
 }

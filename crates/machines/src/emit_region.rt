@@ -19,7 +19,7 @@ ghost use Rattle.machines.specs.Locals.{active_port, inner_locals, state_port};
 ghost use Rattle.pack_rules.specs.Names.{Name};
 ghost use Rattle.pack_rules.specs.Limits.{max_bytes};
 
-use crate::layout::{first, is, layout_word, letters, remaining};
+use crate::layout::{first, is, layout_word, letters};
 use crate::made_names::{Var, put_enum_name, put_qualified, put_var};
 use crate::next_state_chain::build_next_state_chain;
 use crate::table::entry;
@@ -218,12 +218,13 @@ fn put_variants(
     ensures { state_of out.new made.new result ≡ render old.now (variants_t layout.now qualified.now count from) (state_of out.old made.old writer) }
 {
     let mut v = writer;
-    let mut n = count;
     let mut p = from;
-    while 0 < n {
+    for _ in 0..count {
+        if v.full {
+            return v;
+        }
         v = put_state_name(old, layout, qualified, p, out, made, v);
         p = layout_word(layout, p, 4);
-        n = remaining(v, n - 1);
     }
     v
 }
@@ -264,13 +265,12 @@ pub fn put_enums(
     ensures { state_of out.new made.new result ≡ render old.now (enums_t layout.now qualified.now rows.now m.now 0 n) (state_of out.old made.old writer) }
 {
     let mut v = writer;
-    let mut i = 0;
-    let mut k = n;
-    while 0 < k {
+    for i in 0..n {
+        if v.full {
+            return v;
+        }
         let q = entry(rows, i);
         v = put_enum(old, m, layout, qualified, q, out, made, v);
-        i += 1;
-        k = remaining(v, k - 1);
     }
     v
 }
@@ -331,13 +331,9 @@ pub fn put_inner_locals(
     ensures { state_of out.new made.new result ≡ render old.now (each port_items (inner_locals m.now first count)) (state_of out.old made.old writer) }
 {
     let mut v = writer;
-    let mut id = first;
-    let mut n = count;
-    while 0 < n {
+    for id in first..first + count {
         let a = put_region_locals(old, m, id, out, made, v);
         v = put_active_port(old, id, out, made, a);
-        id += 1;
-        n -= 1;
     }
     v
 }
@@ -495,15 +491,14 @@ pub fn emit_regions(
     ensures { (ns : List Name) → length ns ≡ names → state_of out.new made.new result ≡ render old.now (regions_t pack.now offsets.now layout.now qualified.now ns rows.now 0 n) (state_of out.old made.old writer) }
 {
     let mut v = writer;
-    let mut i = 0;
-    let mut k = n;
-    while 0 < k {
+    for i in 0..n {
+        if v.full {
+            return v;
+        }
         let q = entry(rows, i);
         v = emit_region(
             old, pack, names, offsets, layout, qualified, q, out, made, v,
         );
-        i += 1;
-        k = remaining(v, k - 1);
     }
     v
 }

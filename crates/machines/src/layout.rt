@@ -72,7 +72,7 @@ pub fn machine_head(pack: &[u8], history: usize, at: usize) -> RegionHead
 fn letter(pack: &[u8], at: usize) -> u8
     ensures { result ≡ get_or pack.now at 0 }
 {
-    if at < pack.len() { pack[at] } else { 0 }
+    pack.get(at).copied().unwrap_or(0)
 }
 
 // How many letters a prefix has: those of a name of m letters, and `_`.
@@ -110,12 +110,8 @@ fn put_prefix(qualified: &mut [u8], a: usize, m: usize, at: usize)
     if m == 0 {
         return;
     }
-    let mut k = 0;
-    while k < m {
-        qualified[at + k] = qualified[a + k];
-        k += 1;
-    }
-    qualified[at + m] = 95;
+    qualified.copy_within(a..a + m, at);
+    qualified[at + m] = b'_';
 }
 
 // The letters of the name i of the pack.
@@ -128,10 +124,8 @@ fn put_name(pack: &[u8], offsets: &[u16], i: usize, qualified: &mut [u8], at: us
         return;
     }
     let n = byte_at(pack, p);
-    let mut k = 0;
-    while k < n {
+    for k in 0..n {
         set_byte(qualified, at + k, letter(pack, p + 1 + k));
-        k += 1;
     }
 }
 
@@ -395,7 +389,7 @@ fn layout_state(
             m, h, e,
         );
         k = count_region(k, e.words, d.words);
-        n = n - j;
+        n -= j;
         e = d;
     }
     let f = number(pack, e.next);
@@ -446,8 +440,7 @@ fn layout_region(
         return at_offset(c, h.next);
     }
     let mut e = open_region(layout, rows, st, up, a, m, h, c);
-    let mut n = h.states;
-    while 0 < n {
+    for _ in 0..h.states {
         e = layout_state(
             pack,
             names,
@@ -463,7 +456,6 @@ fn layout_region(
             m,
             e,
         );
-        n = n - 1;
     }
     put_word(layout, c.words, 4, e.words);
     e

@@ -6,7 +6,7 @@
 //   EMPTY             value: how many regions without states follow one another; x: the longest name of their initial states
 //   a state           p, its longest name, where its transitions begin, where it ends, where its regions' count stands
 // What is there is right (specs/MemoSound), and what is not is read: nothing depends on the table's being complete.
-ghost use Rattle.std.specs.Prelude.{◌≡◌, ◌%◌, ◌+◌, ◌-◌, ◌<◌, ◌≤◌, ℕ, List, length};
+ghost use Rattle.std.specs.Prelude.{◌≡◌, ◌%◌, ◌+◌, ◌-◌, ◌<◌, ◌≤◌, ℕ, List, length, IfSome};
 ghost use Rattle.wire.specs.Bytes.{word_range};
 ghost use Rattle.machines.specs.Memo.{beside_in, kept_in, longest_in, moves_in, past_in, regions_in, row_mark, row_put, state_put, state_row};
 ghost use Rattle.wire.specs.Answer.{Answer, counted, many};
@@ -17,7 +17,6 @@ ghost use Rattle.machines.specs.ResolvedIn.{end_of, over_in};
 ghost use Rattle.machines.specs.LayoutAt.{moves_at, regions_at};
 ghost use Rattle.machines.specs.MemoSound.{MemoSound, RowsSound};
 ghost use Rattle.machines.specs.UnknownTargets.{IsDrawn, drawn_state, target_d, unknown_target_d};
-ghost use Rattle.machines.specs.Known.{Known};
 ghost use Rattle.machines.specs.StateHeads.{head_of};
 
 use crate::checked_read::{
@@ -228,14 +227,12 @@ pub fn past_states(pack: &[u8], names: usize, memo: &[u16], at: usize) -> usize
     ensures { (ns : List Name) → length ns ≡ names → result ≡ end_of (counted (state_at ns pack.now) pack.now at) }
 {
     let c = number(pack, at);
-    let mut n = c.value;
     let mut p = c.next;
-    while 0 < n {
+    for _ in 0..c.value {
         p = past_of(pack, names, memo, p);
         if p == 0 {
             return 0;
         }
-        n = n - 1;
     }
     p
 }
@@ -269,15 +266,13 @@ fn is_drawn_state(
     requires { (length pack.now ≤ max_bytes) × RowsSound pack.now names memo.now }
     ensures { (ns : List Name) → length ns ≡ names → result ≡ drawn_state ns pack.now x count from }
 {
-    let mut n = count;
     let mut p = from;
-    while 0 < n {
+    for _ in 0..count {
         let i = number(pack, p);
         if i.value == x {
             return true;
         }
         p = past_of(pack, names, memo, p);
-        n = n - 1;
     }
     false
 }
@@ -290,14 +285,13 @@ fn is_known_target(
     memo: &[u16],
     n: usize,
     f: usize,
-    known: bool,
-    last: usize,
+    last: Option<usize>,
     x: usize,
 ) -> bool
-    requires { (length pack.now ≤ max_bytes) × RowsSound pack.now names memo.now × Known known (IsDrawn pack.now names n f) last }
+    requires { (length pack.now ≤ max_bytes) × RowsSound pack.now names memo.now × IfSome last (IsDrawn pack.now names n f) }
     ensures { (ns : List Name) → length ns ≡ names → result ≡ drawn_state ns pack.now x n f }
 {
-    if both(known, x == last) {
+    if last == Some(x) {
         return true;
     }
     is_drawn_state(pack, names, memo, x, n, f)
@@ -316,20 +310,15 @@ fn first_unknown_target(
     requires { (length pack.now ≤ max_bytes) × RowsSound pack.now names memo.now }
     ensures { (ns : List Name) → length ns ≡ names → result ≡ target_d ns pack.now n f count from }
 {
-    let mut k = count;
     let mut o = from;
-    let mut known = false;
-    let mut last = 0;
-    while 0 < k {
+    let mut last = None;
+    for _ in 0..count {
         let x = number(pack, guard_end(pack, names, memo, o));
-        if is_known_target(pack, names, memo, n, f, known, last, x.value) {
-            o = x.next;
-            k = k - 1;
-            known = true;
-            last = x.value;
-        } else {
+        if !is_known_target(pack, names, memo, n, f, last, x.value) {
             return Targets::Stray(x.value);
         }
+        o = x.next;
+        last = Some(x.value);
     }
     Targets::All
 }
@@ -339,18 +328,16 @@ pub fn unknown_targets(pack: &[u8], names: usize, memo: &[u16], n: usize, f: usi
     requires { (length pack.now ≤ max_bytes) × RowsSound pack.now names memo.now }
     ensures { (ns : List Name) → length ns ≡ names → result ≡ unknown_target_d ns pack.now n f }
 {
-    let mut fine = 0;
     let mut p = f;
-    while fine < n {
+    for fine in 0..n {
         let c = number(pack, moves_of(pack, names, memo, p));
         let a = first_unknown_target(pack, names, memo, n, f, c.value, c.next);
         if let Targets::Stray(name) = a {
             return UnknownTarget { fine, name };
         }
         p = past_of(pack, names, memo, p);
-        fine += 1;
     }
-    UnknownTarget { fine, name: 0 }
+    UnknownTarget { fine: n, name: 0 }
 }
 
 // --- What walking, laying out, checking and looking for outputs need of the drawn states, read once a call and kept. Where it does not
@@ -382,14 +369,12 @@ fn memo_ends(pack: &[u8], names: usize, memo: &mut [u16], count: usize, from: us
     ensures value { (ns : List Name) → length ns ≡ names → result ≡ end_of (many (equation_in ns pack.now) count from) }
     ensures by_index { (offsets : List ℕ) → MemoSound pack.now names offsets memo.old → MemoSound pack.now names offsets memo.new }
 {
-    let mut n = count;
     let mut p = from;
-    while 0 < n {
+    for _ in 0..count {
         p = memo_end(pack, names, memo, p);
         if p == 0 {
             return 0;
         }
-        n = n - 1;
     }
     p
 }
@@ -411,14 +396,12 @@ fn memo_guards(pack: &[u8], names: usize, memo: &mut [u16], count: usize, from: 
     ensures value { (ns : List Name) → length ns ≡ names → result ≡ end_of (many (transition_in ns pack.now) count from) }
     ensures by_index { (offsets : List ℕ) → MemoSound pack.now names offsets memo.old → MemoSound pack.now names offsets memo.new }
 {
-    let mut n = count;
     let mut p = from;
-    while 0 < n {
+    for _ in 0..count {
         p = memo_guard(pack, names, memo, p);
         if p == 0 {
             return 0;
         }
-        n = n - 1;
     }
     p
 }
@@ -565,17 +548,15 @@ fn fill_state(
 {
     let h = memo_head(pack, names, offsets, memo, at);
     let r = number(pack, h.regions);
-    let mut n = r.value;
     let mut p = r.next;
     let mut known = 0;
-    while 0 < n {
+    for i in 0..r.value {
         let c = states_in(pack, names, p);
-        known = memo_empty_regions(pack, names, offsets, memo, n, known, p);
+        known = memo_empty_regions(pack, names, offsets, memo, r.value - i, known, p);
         p = fill_states(pack, names, offsets, memo, levels, c.value, c.next);
         if p == 0 {
             return 0;
         }
-        n = n - 1;
     }
     let o = state_end(pack, names, at, h, p);
     memo_state(memo, at, h, o);
@@ -600,14 +581,12 @@ fn fill_states(
     if levels == 0 {
         return 0;
     }
-    let mut n = count;
     let mut p = from;
-    while 0 < n {
+    for _ in 0..count {
         p = fill_state(pack, names, offsets, memo, levels - 1, p);
         if p == 0 {
             return 0;
         }
-        n = n - 1;
     }
     memo_unknown_targets(pack, names, offsets, memo, from);
     p
@@ -619,12 +598,10 @@ pub fn fill_memo(pack: &[u8], names: usize, offsets: &[u16], at: usize, memo: &m
     ensures { MemoSound pack.now names offsets.now memo.new }
 {
     let c = number(pack, at);
-    let mut n = c.value;
     let mut p = c.next;
-    while 0 < n {
+    for _ in 0..c.value {
         let m = number(pack, p);
         let h = machine(pack, to_initial(pack, names, m.next));
         p = fill_states(pack, names, offsets, memo, Pack::LEVELS, h.value, h.next);
-        n = n - 1;
     }
 }

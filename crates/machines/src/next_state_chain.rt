@@ -8,7 +8,7 @@ ghost use Rattle.machines.specs.EmitAt.{move_t, moves_t, transitions_t, test_t, 
 
 use crate::checked_read::{after_expr, number};
 use crate::emit_region::{put_is, put_variable};
-use crate::layout::{between, first, layout_word, letters, remaining};
+use crate::layout::{between, first, layout_word, letters};
 use crate::made_names::{Var, put_in_region};
 use wire::writer::{Writer, put_byte, put_bytes};
 
@@ -56,16 +56,17 @@ fn put_moves(
 {
     let id = layout_word(layout, q, 5);
     let mut v = writer;
-    let mut n = count;
     let mut p = from;
-    while 0 < n {
+    for _ in 0..count {
+        if v.full {
+            return v;
+        }
         let e = after_expr(pack, names, p);
         let x = number(pack, e);
         v = put_move(
             old, pack, offsets, layout, qualified, q, p, e, x.value, out, made, v,
         );
         p = x.next;
-        n = remaining(v, n - 1);
     }
     put_variable(old, Var::State, id, out, made, v)
 }
@@ -130,15 +131,17 @@ pub fn build_next_state_chain(
     ensures { (ns : List Name) → length ns ≡ names → state_of out.new made.new result ≡ render old.now (chain_t pack.now offsets.now layout.now qualified.now ns q (get_or layout.now (q + 6) 0) (q + 9)) (state_of out.old made.old writer) }
 {
     let mut v = writer;
-    let mut n = layout_word(layout, q, 6);
+    let n = layout_word(layout, q, 6);
     let mut p = first(layout, q);
-    while 1 < n {
+    for _ in 1..n {
+        if v.full {
+            return v;
+        }
         let a = put_test(old, layout, qualified, q, p, out, made, v);
         v = put_transitions(
             old, pack, names, offsets, layout, qualified, q, p, out, made, a,
         );
         p = layout_word(layout, p, 4);
-        n = remaining(v, n - 1);
     }
     if n == 0 {
         let id = layout_word(layout, q, 5);

@@ -27,13 +27,11 @@ pub fn place_nodes(pack: &[u8], names: usize, count: usize, from: usize, nodes: 
     requires { length pack.now ≤ max_bytes }
     ensures { (ns : List Name) → length ns ≡ names → nodes.new ≡ fill_t (node_name_t ns pack.now from) count 0 nodes.old }
 {
-    let mut k = 0;
     let mut p = from;
-    while k < count {
+    for k in 0..count {
         let i = number(pack, p);
         put_cell(nodes, k, i.value);
         p = after_node(pack, names, p);
-        k += 1;
     }
 }
 
@@ -41,15 +39,12 @@ pub fn place_nodes(pack: &[u8], names: usize, count: usize, from: usize, nodes: 
 fn find_node(nodes: &[u16], n: usize, x: usize) -> usize
     ensures { result ≡ find_t nodes.now x n 0 }
 {
-    let mut i = 0;
-    while i < n {
-        let e = cell(nodes, i);
-        if e == x {
+    for i in 0..n {
+        if cell(nodes, i) == x {
             return i;
         }
-        i += 1;
     }
-    i
+    n
 }
 
 // Where a machine of so many regions and the owner o goes among n nodes; `Pack::ABSENT` where it is refused or its owner is not
@@ -106,11 +101,9 @@ pub fn assign_nodes(
     requires { (count ≤ word_range) × (old ≤ word_range) }
     ensures { nodes_of receivers.new nodes.new result ≡ settle_t pack.now defs.now regcounts.now count 0 (nodes_of receivers.old nodes.old old) }
 {
-    let mut i = 0;
     let mut n = old;
-    while i < count {
+    for i in 0..count {
         n = assign_node(pack, defs, regcounts, i, receivers, nodes, n);
-        i += 1;
     }
     n
 }
@@ -128,11 +121,9 @@ pub fn refused_count(receivers: &[usize], n: usize) -> usize
     requires { n ≤ word_range }
     ensures { result ≡ total_t (refused_t receivers.now) n 0 }
 {
-    let mut i = 0;
     let mut c = 0;
-    while i < n {
+    for i in 0..n {
         c += refused(receivers, i);
-        i += 1;
     }
     c
 }

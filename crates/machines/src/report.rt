@@ -242,14 +242,12 @@ pub fn report_len(
     requires { (length pack.now ≤ max_bytes) × Long layout.old rows.old qualified.old × (n ≤ word_range) × MemoSound pack.now names offsets.now memo.now }
     ensures { (ns : List Name) → length ns ≡ names → (es : ℕ → List ℕ) → EntersAll ns pack.now offsets.now machines.now defs.now regcounts.now receivers.now n es → result ≡ 2 + length (bytes_t (of_refused receivers.now es) n 0) }
 {
-    let mut i = 0;
     let mut c = 2;
-    while i < n {
+    for i in 0..n {
         c += refusal_len(
             pack, names, offsets, machines, memo, layout, rows, qualified, defs, receivers,
             regcounts, i,
         );
-        i += 1;
     }
     c
 }
@@ -307,13 +305,11 @@ pub fn put_report(
     ensures { (ns : List Name) → length ns ≡ names → (es : ℕ → List ℕ) → EntersAll ns pack.now offsets.now machines.now defs.now regcounts.now receivers.now n es → report.new ≡ overwritten 0 (two refused ++ bytes_t (of_refused receivers.now es) n 0) report.old }
 {
     put_count(refused, report);
-    let mut i = 0;
     let mut e = 2;
-    while i < n {
+    for i in 0..n {
         e = put_refusal(
             pack, names, offsets, machines, memo, layout, rows, qualified, defs, receivers,
             regcounts, i, report, e,
         );
-        i += 1;
     }
 }

@@ -133,13 +133,11 @@ pub fn read_state_head(
 {
     let i = number(pack, at);
     let t = number(pack, m);
-    let mut n = t.value;
     let mut p = t.next;
     let mut a = name_len(pack, offsets, i.value);
-    while 0 < n {
+    for _ in 0..t.value {
         let x = target_len(pack, names, offsets, memo, p);
         a = max(a, x.value);
-        n = n - 1;
         p = x.next;
     }
     NumberAt { value: a, next: p }
@@ -192,20 +190,17 @@ fn is_empty(at: usize, g: NumberAt) -> bool
 pub fn empty_run_from(pack: &[u8], offsets: &[u16], n: usize, from: usize) -> EmptyRegions
     ensures { EmptyRun pack.now offsets.now n from result }
 {
-    let mut count = 0;
     let mut longest = 0;
     let mut p = from;
-    while count < n {
+    for count in 0..n {
         let g = region(pack, p);
-        if is_empty(p, g) {
-            longest = max(longest, len_at(pack, offsets, p));
-            count += 1;
-            p = g.next;
-        } else {
+        if !is_empty(p, g) {
             return EmptyRegions { count, longest };
         }
+        longest = max(longest, len_at(pack, offsets, p));
+        p = g.next;
     }
-    EmptyRegions { count, longest }
+    EmptyRegions { count: n, longest }
 }
 
 // How many of n regions from `at` on are passed at once: those without states that are kept, else one.
@@ -347,7 +342,7 @@ fn resolve_state(
             return e;
         };
         a = max(a, max(g.longest, longest));
-        n = n - k;
+        n -= k;
         o = next;
         c = states;
     }
@@ -388,17 +383,15 @@ fn resolve_states(
     if levels == 0 {
         return Resolved::Large;
     }
-    let mut n = count;
     let mut o = at;
     let mut c = done;
-    let mut a: usize = 0;
-    while 0 < n {
+    let mut a = 0;
+    for _ in 0..count {
         let e = resolve_state(pack, names, offsets, machines, memo, levels - 1, p, o, c);
         let Resolved::Went(next, states, longest) = e else {
             return e;
         };
         a = max(a, longest);
-        n = n - 1;
         o = next;
         c = states;
     }

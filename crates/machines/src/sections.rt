@@ -22,7 +22,7 @@ use crate::added::{
 };
 use crate::checked_read::number;
 use crate::emit_machine::put_all_enums;
-use crate::layout::{between, remaining};
+use crate::layout::between;
 use crate::table::entry;
 use crate::write_nodes::{old_equations, put_nodes};
 use pack::intern::start;
@@ -147,14 +147,13 @@ pub fn put_origins(
     let b = old_equations(pack, names, count, from, 0);
     let mut d = Counted { node: 0, first: b };
     let mut v = writer;
-    let mut i = 0;
-    let mut c = n;
-    while 0 < c {
+    for i in 0..n {
+        if v.full {
+            return v;
+        }
         d = count_before(pack, names, defs, receivers, regcounts, count, from, i, d);
         v = put_origin(pack, names, defs, regcounts, i, d.first, out, v);
         d = count_past(pack, names, defs, receivers, regcounts, i, d);
-        i += 1;
-        c = remaining(v, c - 1);
     }
     v
 }

@@ -16,7 +16,7 @@ use wire::answer::Skipped;
 pub fn entry(layout: &[usize], i: usize) -> usize
     ensures { result ≡ get_or layout.now i 0 }
 {
-    if i < layout.len() { layout[i] } else { 0 }
+    layout.get(i).copied().unwrap_or(0)
 }
 
 // Sets the entry i to v; past the end nothing is written.
@@ -43,12 +43,10 @@ fn next_name(pack: &[u8], at: usize) -> usize
 pub fn place_names(pack: &[u8], names: usize, offsets: &mut [u16])
     ensures { offsets.new ≡ names_placed pack.now names 2 0 offsets.old }
 {
-    let mut k = 0;
     let mut p = 2;
-    while k < names {
+    for k in 0..names {
         put_cell(offsets, k, p);
         p = next_name(pack, p);
-        k += 1;
     }
 }
 
@@ -96,13 +94,11 @@ pub fn place_machines(pack: &[u8], names: usize, memo: &[u16], at: usize, machin
     ensures { (ns : List Name) → length ns ≡ names → machines.new ≡ machines_placed ns pack.now at machines.old }
 {
     let c = number(pack, at);
-    let mut n = c.value;
     let mut p = c.next;
-    while 0 < n {
+    for _ in 0..c.value {
         let i = number(pack, p);
         let w = to_initial(pack, names, i.next);
         put_cell(machines, i.value, w);
         p = after_states(pack, names, memo, w);
-        n = n - 1;
     }
 }

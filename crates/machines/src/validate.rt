@@ -2,14 +2,13 @@
 // region call each other, with the levels left as the falling number. Names within a region share their prefix, so that they are
 // compared as indexes. `memo` has of a drawn region which state is the first with an unknown target: where the rows of the layout are
 // those of that region, which is tested, its transitions are not looked at again (`TargetMemo`).
-ghost use Rattle.std.specs.Prelude.{List, ◌≡◌, ◌+◌, ◌≤◌, get_or, length};
+ghost use Rattle.std.specs.Prelude.{List, ◌≡◌, ◌+◌, ◌≤◌, get_or, length, IfSome};
 ghost use Rattle.pack_rules.specs.Names.{Name};
 ghost use Rattle.pack_rules.specs.Limits.{max_bytes};
 ghost use Rattle.machines.specs.MemoSound.{RowsSound};
 ghost use Rattle.machines.specs.ValidateAt.{AllRecalled, Has, OneRecalled, checked_region, checked_state, has_t, is_state_t, onward as onward_of, recall_t as foretold_of, row_drawn, rows_drawn, targets_t, unknown};
-ghost use Rattle.machines.specs.Known.{Known};
 
-use crate::checked_read::{both, number};
+use crate::checked_read::number;
 use crate::layout::{first, inner, is, layout_word};
 use crate::memo::{UNKNOWN_TARGET, guard_end, memo_at, memo_beside, moves_of, past_of};
 use crate::table::entry;
@@ -51,17 +50,14 @@ fn rows_drawn(
     requires { (length pack.now ≤ max_bytes) × RowsSound pack.now names memo.now }
     ensures { (ns : List Name) → length ns ≡ names → result ≡ rows_drawn ns pack.now layout.now count from f }
 {
-    let mut n = count;
     let mut p = from;
     let mut at = f;
-    while 0 < n {
-        if row_drawn(pack, names, memo, layout, p, at) {
-            p = layout_word(layout, p, 4);
-            at = past_of(pack, names, memo, at);
-            n = n - 1;
-        } else {
+    for _ in 0..count {
+        if !row_drawn(pack, names, memo, layout, p, at) {
             return false;
         }
+        p = layout_word(layout, p, 4);
+        at = past_of(pack, names, memo, at);
     }
     true
 }
@@ -140,15 +136,13 @@ pub enum Checked {
 fn is_state(pack: &[u8], layout: &[usize], count: usize, from: usize, x: usize) -> bool
     ensures { result ≡ is_state_t pack.now layout.now x count from }
 {
-    let mut n = count;
     let mut p = from;
-    while 0 < n {
+    for _ in 0..count {
         let i = number(pack, entry(layout, p));
         if i.value == x {
             return true;
         }
         p = layout_word(layout, p, 4);
-        n = n - 1;
     }
     false
 }
@@ -163,11 +157,11 @@ fn has_state(pack: &[u8], layout: &[usize], q: usize, x: usize) -> bool
 }
 
 // The same where it may be known of the name `last`: transitions to one state mostly follow one another.
-fn has_target(pack: &[u8], layout: &[usize], q: usize, known: bool, last: usize, x: usize) -> bool
-    requires { Known known (Has pack.now layout.now q) last }
+fn has_target(pack: &[u8], layout: &[usize], q: usize, last: Option<usize>, x: usize) -> bool
+    requires { IfSome last (Has pack.now layout.now q) }
     ensures { result ≡ has_t pack.now layout.now q x }
 {
-    if both(known, x == last) {
+    if last == Some(x) {
         return true;
     }
     has_state(pack, layout, q, x)
@@ -186,24 +180,19 @@ fn check_targets(
     ensures { (ns : List Name) → length ns ≡ names → result ≡ targets_t ns pack.now layout.now q p }
 {
     let c = number(pack, layout_word(layout, p, 1));
-    let mut n = c.value;
     let mut o = c.next;
-    let mut known = false;
-    let mut last = 0;
-    while 0 < n {
+    let mut last = None;
+    for _ in 0..c.value {
         let x = number(pack, guard_end(pack, names, memo, o));
-        if has_target(pack, layout, q, known, last, x.value) {
-            o = x.next;
-            n = n - 1;
-            known = true;
-            last = x.value;
-        } else {
+        if !has_target(pack, layout, q, last, x.value) {
             return Checked::Target {
                 state: p,
                 region: q,
                 name: x.value,
             };
         }
+        o = x.next;
+        last = Some(x.value);
     }
     Checked::Fine
 }
@@ -260,15 +249,13 @@ fn validate_state(
     let Checked::Fine = c else {
         return c;
     };
-    let mut n = layout_word(layout, p, 5);
     let mut g = inner(layout, p);
-    while 0 < n {
+    for _ in 0..layout_word(layout, p, 5) {
         let r = validate_region(pack, names, memo, layout, levels, g);
         let Checked::Fine = r else {
             return r;
         };
         g = layout_word(layout, g, 4);
-        n = n - 1;
     }
     Checked::Fine
 }
@@ -289,20 +276,18 @@ pub fn validate_region(
     if levels == 0 {
         return Checked::Fine;
     }
-    if has_state(pack, layout, q, entry(layout, q)) {
-        let mut v = recall_targets(pack, names, memo, layout, q);
-        let mut n = layout_word(layout, q, 6);
-        let mut p = first(layout, q);
-        while 0 < n {
-            let r = validate_state(pack, names, memo, layout, levels - 1, v, q, p);
-            let Checked::Fine = r else {
-                return r;
-            };
-            v = onward(v);
-            p = layout_word(layout, p, 4);
-            n = n - 1;
-        }
-        return Checked::Fine;
+    if !has_state(pack, layout, q, entry(layout, q)) {
+        return Checked::Initial(q);
     }
-    Checked::Initial(q)
+    let mut v = recall_targets(pack, names, memo, layout, q);
+    let mut p = first(layout, q);
+    for _ in 0..layout_word(layout, q, 6) {
+        let r = validate_state(pack, names, memo, layout, levels - 1, v, q, p);
+        let Checked::Fine = r else {
+            return r;
+        };
+        v = onward(v);
+        p = layout_word(layout, p, 4);
+    }
+    Checked::Fine
 }

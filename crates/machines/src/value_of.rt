@@ -12,7 +12,7 @@ ghost use Rattle.machines.specs.ValueAt.{side_t, side_bytes, entered_t, in_state
 
 use crate::checked_read::{after_expr, after_port, both, number};
 use crate::cover::{ASSIGNS_MEMO, require_cover_region};
-use crate::layout::{between, first, inner, layout_word, remaining};
+use crate::layout::{between, first, inner, layout_word};
 use crate::memo::end_of;
 use crate::next_state_chain::put_test;
 use crate::table::entry;
@@ -26,16 +26,14 @@ fn own_rhs(pack: &[u8], names: usize, memo: &[u16], x: usize, at: usize) -> usiz
 {
     let i = number(pack, at);
     let c = number(pack, i.next);
-    let mut n = c.value;
     let mut p = c.next;
-    while 0 < n {
+    for _ in 0..c.value {
         let k = number(pack, p);
         let l = number(pack, k.next);
         if both(k.value == 1, l.value == x) {
             return l.next;
         }
         p = end_of(pack, names, memo, p);
-        n = n - 1;
     }
     0
 }
@@ -74,15 +72,13 @@ fn entered(
     ensures value { (ns : List Name) → length ns ≡ names → result ≡ entered_t layout.now (uncovered_t ns pack.now layout.now x levels) p }
     ensures assigns_sound { AssignsSound pack.now names memo.now hints.new }
 {
-    let mut n = layout_word(layout, p, 5);
     let mut g = inner(layout, p);
-    while 0 < n {
+    for _ in 0..layout_word(layout, p, 5) {
         let m = require_cover_region(pack, names, memo, layout, hints, x, levels, g);
         if m == 0 {
             return g;
         }
         g = layout_word(layout, g, 4);
-        n = n - 1;
     }
     0
 }
@@ -143,15 +139,17 @@ fn value_of(
     }
     let rest = levels - 1;
     let mut v = writer;
-    let mut n = layout_word(layout, q, 6);
+    let n = layout_word(layout, q, 6);
     let mut p = first(layout, q);
-    while 1 < n {
+    for _ in 1..n {
+        if v.full {
+            return v;
+        }
         let a = put_test(old, layout, qualified, q, p, out, made, v);
         v = value_in_state(
             old, pack, names, memo, layout, qualified, hints, x, rest, p, out, made, a,
         );
         p = layout_word(layout, p, 4);
-        n = remaining(v, n - 1);
     }
     if n == 0 {
         return v;
@@ -216,16 +214,17 @@ pub fn put_outputs(
 {
     let mut told = [0u16; ASSIGNS_MEMO];
     let c = number(pack, at);
-    let mut n = c.value;
     let mut p = c.next;
     let mut v = writer;
-    while 0 < n {
+    for _ in 0..c.value {
+        if v.full {
+            return v;
+        }
         let x = number(pack, p);
         v = put_output(
             old, pack, names, memo, layout, qualified, &mut told, x.value, out, made, v,
         );
         p = after_port(pack, names, p);
-        n = remaining(v, n - 1);
     }
     v
 }

@@ -187,9 +187,8 @@ fn judge_outputs(
 {
     let mut told = [0u16; ASSIGNS_MEMO];
     let mut given = [0u8; 17408];
-    let mut n = count;
     let mut p = from;
-    while 0 < n {
+    for _ in 0..count {
         let x = number(pack, p);
         let m = uncovered_output(pack, names, memo, layout, &mut told, &mut given, x.value);
         if m != 0 {
@@ -200,7 +199,6 @@ fn judge_outputs(
             );
         }
         p = after_port(pack, names, p);
-        n = n - 1;
     }
     VerdictRow {
         kind: VerdictRow::ACCEPTED,
@@ -342,15 +340,13 @@ pub fn judge_all(
     ensures defs_after { (ns : List Name) → length ns ≡ names → defs.new ≡ fill_t (nth (machine_end ns pack.now) from) count 0 defs.old }
     ensures regcounts_after { (ns : List Name) → length ns ≡ names → (gs : ℕ → ℕ) → ((i : ℕ) → i < count → HasRegions ns pack.now offsets.now machines.now (nth (machine_end ns pack.now) from i) (gs i)) → regcounts.new ≡ fill_t gs count 0 regcounts.old }
 {
-    let mut i = 0;
     let mut p = from;
-    while i < count {
+    for i in 0..count {
         let j = judge(
             pack, names, offsets, machines, memo, layout, rows, qualified, p,
         );
         put(defs, i, p);
         put(regcounts, i, j.regions);
         p = after_machine(pack, names, memo, p);
-        i += 1;
     }
 }

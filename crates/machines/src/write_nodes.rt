@@ -22,7 +22,7 @@ use crate::added::{
 };
 use crate::checked_read::{after_equations, number, read_or_zero};
 use crate::emit_machine::put_all_equations;
-use crate::layout::{between, remaining};
+use crate::layout::between;
 use crate::table::entry;
 use pack::check::reached;
 use pack::parts::then_ports;
@@ -58,18 +58,14 @@ pub fn old_equations(pack: &[u8], names: usize, count: usize, from: usize, k: us
     requires { length pack.now ≤ max_bytes }
     ensures { (result < word_range) × ((ns : List Name) → length ns ≡ names → result ≡ old_t ns pack.now count from k) }
 {
-    let mut n = count;
     let mut p = from;
-    let mut j = k;
-    while 0 < n {
+    for i in 0..count {
         let e = to_node_equations(pack, names, p);
-        if j == 0 {
+        if i == k {
             let c = number(pack, e);
             return small(c.value);
         }
         p = after_equations(pack, names, e);
-        j -= 1;
-        n -= 1;
     }
     0
 }
@@ -266,11 +262,12 @@ fn put_old_nodes(
     ensures { (ns : List Name) → length ns ≡ names → (eqs : ℕ → List Item) → AllWrite old.now (equations_at ns pack.now offsets.now machines.now) defs.now n eqs → state_of out.new made.new result ≡ render old.now (old_nodes_t ns pack.now defs.now receivers.now regcounts.now offsets.now n eqs count 0 from) (state_of out.old made.old writer) }
 {
     let mut v = writer;
-    let mut k = 0;
     let mut p = from;
-    let mut c = count;
     let mut b = 0;
-    while 0 < c {
+    for k in 0..count {
+        if v.full {
+            return v;
+        }
         b = next_receiver(receivers, n, k, b);
         let m = asked(k, b, n);
         v = put_old_node(
@@ -279,8 +276,6 @@ fn put_old_nodes(
         );
         let e = to_node_equations(pack, names, p);
         p = after_equations(pack, names, e);
-        k += 1;
-        c = remaining(v, c - 1);
     }
     v
 }
@@ -381,15 +376,14 @@ fn put_new_nodes(
     ensures { (ns : List Name) → length ns ≡ names → (eqs : ℕ → List Item) → AllWrite old.now (equations_at ns pack.now offsets.now machines.now) defs.now n eqs → state_of out.new made.new result ≡ render old.now (each_t (new_node_t ns pack.now defs.now receivers.now regcounts.now offsets.now n eqs) n 0) (state_of out.old made.old writer) }
 {
     let mut v = writer;
-    let mut i = 0;
-    let mut c = n;
-    while 0 < c {
+    for i in 0..n {
+        if v.full {
+            return v;
+        }
         v = put_new_node(
             old, pack, names, offsets, machines, memo, layout, rows, qualified, defs, receivers,
             regcounts, n, i, out, made, v,
         );
-        i += 1;
-        c = remaining(v, c - 1);
     }
     v
 }

@@ -1,23 +1,16 @@
-use Prim.Native.Nat.{◌-◌}
 use native.Mathlib.Omega.{arith}
 use Rattle.machines.specs.AddedAt.{owned_t}
 use Rattle.machines.proofs.AddedLaws.{total-done, total-more, total-start}
 use Rattle.machines.proofs.added.owned_count.Goals as goal
 
 pub loop-i-init : goal.loop-i-init
-loop-i-init c = (omega arith, omega arith, total-start (owned_t _ _) _)
+loop-i-init c = (omega arith, total-start (owned_t _ _) _)
 
 pub overflow_add-c : goal.overflow_add-c
-overflow_add-c c = omega (arith, c.loop-i.invariant.1, c.owned-c.ensures.0, c.loop-i-test.true, c.requires)
-
-pub overflow_add-i : goal.overflow_add-i
-overflow_add-i c = omega (arith, c.loop-i-test.true, c.requires)
-
-pub loop-i-smaller : goal.loop-i-smaller
-loop-i-smaller c = omega (arith, c.loop-i-test.true)
+overflow_add-c c = omega (arith, c.loop-i.invariant.0, c.owned-c.ensures.0, c.loop-i-test.true, c.requires)
 
 pub loop-i-preserved : goal.loop-i-preserved
-loop-i-preserved c = (omega (arith, c.loop-i-test.true), omega (arith, c.loop-i.invariant.1, c.owned-c.ensures.0), total-more (owned_t _ _) _ _ _ _ _ c.loop-i-test.true c.owned-c.ensures.1 c.loop-i.invariant.2)
+loop-i-preserved c = (omega (arith, c.loop-i.invariant.0, c.owned-c.ensures.0), total-more (owned_t _ _) _ _ _ _ _ c.loop-i-test.true c.owned-c.ensures.1 c.loop-i.invariant.1)
 
 pub returns : goal.returns
-returns c = (omega (arith, c.loop-i.invariant.0, c.loop-i.invariant.1), total-done (owned_t _ _) _ _ _ _ c.loop-i-test.false c.loop-i.invariant.2)
+returns c = (omega (arith, c.loop-i.auto.i-end, c.loop-i.invariant.0), total-done (owned_t _ _) _ _ _ _ c.loop-i-test.false c.loop-i.invariant.1)

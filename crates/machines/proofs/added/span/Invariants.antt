@@ -3,8 +3,5 @@ use mathlib.Core.Path.{◌≡◌}
 use lib.ListN.{get_or}
 use Rattle.machines.proofs.added.span.Given as goal
 
-abbrev pub invariant-loop-p : goal.invariant-loop-p
-invariant-loop-p l = (l.p ≤ l.n) × ((j : ℕ) → l.p ≤ j → j < l.n → get_or l.receivers j 0 ≡ l.k → ⊥)
-
-abbrev pub decreases-loop-p : goal.decreases-loop-p
-decreases-loop-p l = l.p
+abbrev pub invariant-loop-i : goal.invariant-loop-i
+invariant-loop-i l = (l.i ≤ l.n) × ((j : ℕ) → l.i ≤ j → j < l.n → get_or l.receivers j 0 ≡ l.k → ⊥)

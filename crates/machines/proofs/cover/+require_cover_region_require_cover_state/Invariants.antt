@@ -1,4 +1,4 @@
-use Prim.Native.Nat.{ℕ, ◌+◌, ◌-◌}
+use Prim.Native.Nat.{◌+◌, ◌-◌}
 use mathlib.Core.List.{List}
 use mathlib.Core.Path.{◌≡◌}
 use lib.ListN.{length}
@@ -13,14 +13,8 @@ decreases-require_cover_region l = l.levels + l.levels
 abbrev pub decreases-require_cover_state : goal.decreases-require_cover_state
 decreases-require_cover_state l = l.levels + l.levels + 1
 
-abbrev pub invariant-require_cover_region-loop-n : goal.invariant-require_cover_region-loop-n
-invariant-require_cover_region-loop-n l = ((ns : List Name) → length ns ≡ l.names → first_miss l.layout (miss_t ns l.pack l.layout l.out (uncovered_t ns l.pack l.layout l.out (l.levels - 1))) l.n l.p ≡ first_miss l.layout (miss_t ns l.pack l.layout l.out (uncovered_t ns l.pack l.layout l.out (l.levels - 1))) l.initial.n l.initial.p) × AssignsSound l.pack l.names l.memo l.hints × (length {A = ℕ} l.hints ≡ length {A = ℕ} l.initial.hints)
+abbrev pub invariant-require_cover_region-loop : goal.invariant-require_cover_region-loop
+invariant-require_cover_region-loop l = ((ns : List Name) → length ns ≡ l.names → first_miss l.layout (miss_t ns l.pack l.layout l.out (uncovered_t ns l.pack l.layout l.out (l.levels - 1))) (l.end - l.counter) l.p ≡ first_miss l.layout (miss_t ns l.pack l.layout l.out (uncovered_t ns l.pack l.layout l.out (l.levels - 1))) l.end l.initial.p) × AssignsSound l.pack l.names l.memo l.hints
 
-abbrev pub decreases-require_cover_region-loop-n : goal.decreases-require_cover_region-loop-n
-decreases-require_cover_region-loop-n l = l.n
-
-abbrev pub invariant-require_cover_state-loop-n : goal.invariant-require_cover_state-loop-n
-invariant-require_cover_state-loop-n l = ((ns : List Name) → length ns ≡ l.names → all_miss l.layout (uncovered_t ns l.pack l.layout l.out l.levels) l.n l.g l.miss ≡ all_miss l.layout (uncovered_t ns l.pack l.layout l.out l.levels) l.initial.n l.initial.g 0) × AssignsSound l.pack l.names l.memo l.hints × (length {A = ℕ} l.hints ≡ length {A = ℕ} l.initial.hints)
-
-abbrev pub decreases-require_cover_state-loop-n : goal.decreases-require_cover_state-loop-n
-decreases-require_cover_state-loop-n l = l.n
+abbrev pub invariant-require_cover_state-loop : goal.invariant-require_cover_state-loop
+invariant-require_cover_state-loop l = ((ns : List Name) → length ns ≡ l.names → all_miss l.layout (uncovered_t ns l.pack l.layout l.out l.levels) (l.n - l.counter) l.g l.miss ≡ all_miss l.layout (uncovered_t ns l.pack l.layout l.out l.levels) l.n l.initial.g 0) × AssignsSound l.pack l.names l.memo l.hints

@@ -7,8 +7,5 @@ use Rattle.machines.specs.CoverAt.{gives_t, tells}
 use Rattle.machines.specs.AssignsMemo.{HintOf}
 use Rattle.machines.proofs.cover.assigns.Given as goal
 
-abbrev pub invariant-loop-n : goal.invariant-loop-n
-invariant-loop-n l = ((ns : List Name) → length ns ≡ l.names → (tells (gives_t ns l.pack l.out) ◌||◌ l.n l.p false).yes ≡ (tells (gives_t ns l.pack l.out) ◌||◌ l.initial.n l.initial.p false).yes) × HintOf l.pack l.names l.at l.n l.p
-
-abbrev pub decreases-loop-n : goal.decreases-loop-n
-decreases-loop-n l = l.n
+abbrev pub invariant-loop-left : goal.invariant-loop-left
+invariant-loop-left l = ((ns : List Name) → length ns ≡ l.names → (tells (gives_t ns l.pack l.out) ◌||◌ l.left l.p false).yes ≡ (tells (gives_t ns l.pack l.out) ◌||◌ l.initial.left l.initial.p false).yes) × HintOf l.pack l.names l.at l.left l.p

@@ -1,4 +1,4 @@
-use Prim.Native.Nat.{ℕ, ◌+◌, ◌≤◌}
+use Prim.Native.Nat.{ℕ, ◌-◌}
 use mathlib.Core.List.{List}
 use mathlib.Core.Path.{◌≡◌}
 use lib.ListN.{length}
@@ -10,8 +10,5 @@ use Rattle.machines.specs.AddedAt.{each_t}
 use Rattle.machines.specs.EmitMachineAt.{AllWrite, enums_at}
 use Rattle.machines.proofs.emit_machine.put_all_enums.Given as goal
 
-abbrev pub invariant-loop-c : goal.invariant-loop-c
-invariant-loop-c l = (length {A = ℕ} l.layout ≡ length {A = ℕ} l.initial.layout) × (length {A = ℕ} l.rows ≡ length {A = ℕ} l.initial.rows) × (length {A = ℕ} l.qualified ≡ length {A = ℕ} l.initial.qualified) × (length {A = ℕ} l.out ≡ length {A = ℕ} l.initial.out) × (length {A = ℕ} l.made ≡ length {A = ℕ} l.initial.made) × (l.i + l.c ≤ l.n) × ((ns : List Name) → length ns ≡ l.names → (ens : ℕ → List Item) → AllWrite l.old (enums_at ns l.pack l.offsets l.machines) l.defs l.n ens → render l.old (each_t ens l.c l.i) (state_of l.out l.made l.v) ≡ render l.old (each_t ens l.n 0) (state_of l.initial.out l.initial.made l.initial.v))
-
-abbrev pub decreases-loop-c : goal.decreases-loop-c
-decreases-loop-c l = l.c
+abbrev pub invariant-loop-i : goal.invariant-loop-i
+invariant-loop-i l = (ns : List Name) → length ns ≡ l.names → (ens : ℕ → List Item) → AllWrite l.old (enums_at ns l.pack l.offsets l.machines) l.defs l.n ens → render l.old (each_t ens (l.n - l.i) l.i) (state_of l.out l.made l.v) ≡ render l.old (each_t ens l.n 0) (state_of l.initial.out l.initial.made l.initial.v)

@@ -1,7 +1,7 @@
+use Rattle.machines.proofs.Remaining.{none_left, one_less, some_left}
 use Rattle.machines.proofs.EmptyLaws.{once-near, opened-on}
 use Rattle.machines.proofs.LayoutLaws.{close-region, inner-done, refine-into, refine-plain, region-left, region-none, region-some, state-on, times-done, times-went}
-use mathlib.Core.Path.{refl, ◌∙◌}
-use Prim.Native.Nat.{◌-◌}
+use mathlib.Core.Path.{◌∙◌}
 use native.Mathlib.Omega.{arith}
 use Rattle.machines.proofs.layout.+layout_region_layout_state.Goals as goal
 
@@ -11,41 +11,20 @@ layout_region-returns-then-levels-eq0 t c = λ ns e. region-none ns _ _ _ _ _ _ 
 pub layout_region-returns-then-both : goal.layout_region-returns-then-both
 layout_region-returns-then-both t c = λ ns e. region-left ns _ _ _ _ _ _ _ _ _ _ _ _ _ _ _ c.if-levels-eq0.false c.both.ensures c.if-both.true c.at_offset-then-both.ensures
 
-pub layout_region-loop-n-init : goal.layout_region-loop-n-init
-layout_region-loop-n-init t c = (refl, refl, refl, λ ns e. refl)
-
 pub layout_region-overflow_sub-levels : goal.layout_region-overflow_sub-levels
 layout_region-overflow_sub-levels t c = omega (arith, c.if-levels-eq0.false)
 
 pub layout_region-layout_state-e-requires : goal.layout_region-layout_state-e-requires
 layout_region-layout_state-e-requires t c = (omega (arith, c.if-levels-eq0.false, c.decreases), c.requires)
 
-pub layout_region-overflow_sub-n : goal.layout_region-overflow_sub-n
-layout_region-overflow_sub-n t c = omega (arith, c.loop-n-test.true)
-
-pub layout_region-loop-n-smaller : goal.layout_region-loop-n-smaller
-layout_region-loop-n-smaller t c = omega (arith, c.loop-n-test.true)
-
-pub layout_region-loop-n-preserved : goal.layout_region-loop-n-preserved
-layout_region-loop-n-preserved t c = (c.layout_state-e.auto.layout ∙ c.loop-n.invariant.0, c.layout_state-e.auto.rows ∙ c.loop-n.invariant.1, c.layout_state-e.auto.qualified ∙ c.loop-n.invariant.2, λ ns e. times-went _ _ _ _ _ c.loop-n-test.true (c.layout_state-e.ensures ns e) (c.loop-n.invariant.3 ns e))
-
-pub layout_region-shape_of-layout : goal.layout_region-shape_of-layout
-layout_region-shape_of-layout t c = c.put_word.auto.layout ∙ c.loop-n.invariant.0 ∙ c.open_region-e.auto.layout
-
-pub layout_region-shape_of-rows : goal.layout_region-shape_of-rows
-layout_region-shape_of-rows t c = c.loop-n.invariant.1 ∙ c.open_region-e.auto.rows
-
-pub layout_region-shape_of-qualified : goal.layout_region-shape_of-qualified
-layout_region-shape_of-qualified t c = c.loop-n.invariant.2
+pub layout_region-loop-preserved : goal.layout_region-loop-preserved
+layout_region-loop-preserved t c = λ ns e. rw one_less (times-went _ _ _ _ _ (some_left c.loop-test.true) (c.layout_state-e.ensures ns e) (c.loop.invariant ns e))
 
 pub layout_region-returns : goal.layout_region-returns
-layout_region-returns t c = λ ns e. region-some ns _ _ _ _ _ _ _ _ _ _ _ _ _ _ c.if-levels-eq0.false c.both.ensures c.if-both.false (c.open_region-e.ensures c.args.qualified.now) (times-done _ _ _ _ c.loop-n-test.false (c.loop-n.invariant.3 ns e)) (close-region _ _ _ _ _ _ c.put_word.ensures)
+layout_region-returns t c = λ ns e. region-some ns _ _ _ _ _ _ _ _ _ _ _ _ _ _ c.if-levels-eq0.false c.both.ensures c.if-both.false (c.open_region-e.ensures c.args.qualified.now) (times-done _ _ _ _ (none_left c.loop-test.false) (c.loop.invariant ns e)) (close-region _ _ _ _ _ _ c.put_word.ensures)
 
 pub layout_state-open_state-b-requires : goal.layout_state-open_state-b-requires
 layout_state-open_state-b-requires t c = c.requires
-
-pub layout_state-loop-n-init : goal.layout_state-loop-n-init
-layout_state-loop-n-init t c = (refl, refl, refl, λ ns e. refl)
 
 pub layout_state-skip_empty_regions-j-requires : goal.layout_state-skip_empty_regions-j-requires
 layout_state-skip_empty_regions-j-requires t c = c.loop-n-test.true
@@ -63,31 +42,13 @@ pub layout_state-loop-n-smaller : goal.layout_state-loop-n-smaller
 layout_state-loop-n-smaller t c = omega (arith, c.skip_empty_regions-j.ensures.0.some, c.skip_empty_regions-j.ensures.0.few)
 
 pub layout_state-loop-n-preserved : goal.layout_state-loop-n-preserved
-layout_state-loop-n-preserved t c = (c.layout_region-d.auto.layout ∙ c.loop-n.invariant.0, c.layout_region-d.auto.rows ∙ c.loop-n.invariant.1, c.layout_region-d.auto.qualified ∙ c.loop-n.invariant.2, λ ns e. (opened-on ns _ _ _ _ _ e c.requires.1 _ _ _ _ _ _ _ _ _ _ _ _ _ _ _ _ _ _ _ c.skip_empty_regions-j.ensures.0 c.skip_empty_regions-j.ensures.1 c.open_regions-h.ensures (c.layout_region-d.ensures ns e) c.count_region-k.ensures) ∙ (c.loop-n.invariant.3 ns e))
-
-pub layout_state-shape_of-layout-then-f-eq-ABSENT : goal.layout_state-shape_of-layout-then-f-eq-ABSENT
-layout_state-shape_of-layout-then-f-eq-ABSENT t c = c.close_state.auto.layout ∙ c.loop-n.invariant.0 ∙ c.open_state-b.auto.layout
-
-pub layout_state-shape_of-rows-then-f-eq-ABSENT : goal.layout_state-shape_of-rows-then-f-eq-ABSENT
-layout_state-shape_of-rows-then-f-eq-ABSENT t c = c.loop-n.invariant.1
-
-pub layout_state-shape_of-qualified-then-f-eq-ABSENT : goal.layout_state-shape_of-qualified-then-f-eq-ABSENT
-layout_state-shape_of-qualified-then-f-eq-ABSENT t c = c.loop-n.invariant.2 ∙ c.open_state-b.auto.qualified
+layout_state-loop-n-preserved t c = λ ns e. (opened-on ns _ _ _ _ _ e c.requires.1 _ _ _ _ _ _ _ _ _ _ _ _ _ _ _ _ _ _ _ c.skip_empty_regions-j.ensures.0 c.skip_empty_regions-j.ensures.1 c.open_regions-h.ensures (c.layout_region-d.ensures ns e) c.count_region-k.ensures) ∙ (c.loop-n.invariant ns e)
 
 pub layout_state-returns-then-f-eq-ABSENT : goal.layout_state-returns-then-f-eq-ABSENT
-layout_state-returns-then-f-eq-ABSENT t c = λ ns e. state-on ns _ _ _ _ _ _ _ _ _ _ _ (c.open_state-b.ensures ns e c.args.rows.now).0 (c.open_state-b.ensures ns e c.args.rows.now).1 (refine-plain ns _ _ _ _ _ _ _ _ _ _ _ _ c.number-f.ensures c.if-f-eq-ABSENT.true (c.close_state.ensures c.loop-n.rows c.loop-n.qualified) ∙ inner-done _ _ _ _ _ _ c.loop-n-test.false (c.loop-n.invariant.3 ns e))
+layout_state-returns-then-f-eq-ABSENT t c = λ ns e. state-on ns _ _ _ _ _ _ _ _ _ _ _ (c.open_state-b.ensures ns e c.args.rows.now).0 (c.open_state-b.ensures ns e c.args.rows.now).1 (refine-plain ns _ _ _ _ _ _ _ _ _ _ _ _ c.number-f.ensures c.if-f-eq-ABSENT.true (c.close_state.ensures c.loop-n.rows c.loop-n.qualified) ∙ inner-done _ _ _ _ _ _ c.loop-n-test.false (c.loop-n.invariant ns e))
 
 pub layout_state-layout_region-d-requires-2 : goal.layout_state-layout_region-d-requires-2
 layout_state-layout_region-d-requires-2 t c = (omega (arith, c.decreases), c.requires)
 
-pub layout_state-shape_of-layout : goal.layout_state-shape_of-layout
-layout_state-shape_of-layout t c = c.close_state-2.auto.layout ∙ c.layout_region-d-2.auto.layout ∙ c.loop-n.invariant.0 ∙ c.open_state-b.auto.layout
-
-pub layout_state-shape_of-rows : goal.layout_state-shape_of-rows
-layout_state-shape_of-rows t c = c.layout_region-d-2.auto.rows ∙ c.loop-n.invariant.1
-
-pub layout_state-shape_of-qualified : goal.layout_state-shape_of-qualified
-layout_state-shape_of-qualified t c = c.layout_region-d-2.auto.qualified ∙ c.loop-n.invariant.2 ∙ c.open_state-b.auto.qualified
-
 pub layout_state-returns : goal.layout_state-returns
-layout_state-returns t c = λ ns e. state-on ns _ _ _ _ _ _ _ _ _ _ _ (c.open_state-b.ensures ns e c.args.rows.now).0 (c.open_state-b.ensures ns e c.args.rows.now).1 (refine-into ns _ _ _ _ _ _ _ _ _ _ _ _ _ _ _ _ c.number-f.ensures c.if-f-eq-ABSENT.false c.cell.ensures c.machine_head-h.ensures (c.layout_region-d-2.ensures ns e) c.count_region.ensures (c.close_state-2.ensures _ _) ∙ inner-done _ _ _ _ _ _ c.loop-n-test.false (c.loop-n.invariant.3 ns e))
+layout_state-returns t c = λ ns e. state-on ns _ _ _ _ _ _ _ _ _ _ _ (c.open_state-b.ensures ns e c.args.rows.now).0 (c.open_state-b.ensures ns e c.args.rows.now).1 (refine-into ns _ _ _ _ _ _ _ _ _ _ _ _ _ _ _ _ c.number-f.ensures c.if-f-eq-ABSENT.false c.cell.ensures c.machine_head-h.ensures (c.layout_region-d-2.ensures ns e) c.count_region.ensures (c.close_state-2.ensures _ _) ∙ inner-done _ _ _ _ _ _ c.loop-n-test.false (c.loop-n.invariant ns e))

@@ -1,3 +1,4 @@
+use Prim.Native.Nat.{◌-◌}
 use mathlib.Core.List.{List}
 use mathlib.Core.Path.{◌≡◌}
 use lib.ListN.{length}
@@ -5,8 +6,5 @@ use Rattle.pack_rules.specs.Names.{Name}
 use Rattle.machines.specs.UnknownTargets.{drawn_state}
 use Rattle.machines.proofs.memo.is_drawn_state.Given as goal
 
-abbrev pub invariant-loop-n : goal.invariant-loop-n
-invariant-loop-n l = (ns : List Name) → length ns ≡ l.names → drawn_state ns l.pack l.x l.n l.p ≡ drawn_state ns l.pack l.x l.count l.from
-
-abbrev pub decreases-loop-n : goal.decreases-loop-n
-decreases-loop-n l = l.n
+abbrev pub invariant-loop : goal.invariant-loop
+invariant-loop l = (ns : List Name) → length ns ≡ l.names → drawn_state ns l.pack l.x (l.count - l.counter) l.p ≡ drawn_state ns l.pack l.x l.count l.from

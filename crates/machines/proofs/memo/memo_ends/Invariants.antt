@@ -1,3 +1,4 @@
+use Prim.Native.Nat.{◌-◌}
 use Prim.Native.Nat.{ℕ}
 use mathlib.Core.List.{List}
 use mathlib.Core.Path.{◌≡◌}
@@ -9,8 +10,5 @@ use Rattle.machines.specs.ResolvedIn.{end_of}
 use Rattle.machines.specs.MemoSound.{MemoSound}
 use Rattle.machines.proofs.memo.memo_ends.Given as goal
 
-abbrev pub invariant-loop-n : goal.invariant-loop-n
-invariant-loop-n l = ((ns : List Name) → length ns ≡ l.names → end_of (many (equation_in ns l.pack) l.n l.p) ≡ end_of (many (equation_in ns l.pack) l.count l.from)) × ((offsets : List ℕ) → MemoSound l.pack l.names offsets l.initial.memo → MemoSound l.pack l.names offsets l.memo) × (length {A = ℕ} l.memo ≡ length {A = ℕ} l.initial.memo)
-
-abbrev pub decreases-loop-n : goal.decreases-loop-n
-decreases-loop-n l = l.n
+abbrev pub invariant-loop : goal.invariant-loop
+invariant-loop l = ((ns : List Name) → length ns ≡ l.names → end_of (many (equation_in ns l.pack) (l.count - l.counter) l.p) ≡ end_of (many (equation_in ns l.pack) l.count l.from)) × ((offsets : List ℕ) → MemoSound l.pack l.names offsets l.initial.memo → MemoSound l.pack l.names offsets l.memo)

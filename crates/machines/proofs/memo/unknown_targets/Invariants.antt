@@ -9,6 +9,3 @@ use Rattle.machines.proofs.memo.unknown_targets.Given as goal
 
 abbrev pub invariant-loop-fine : goal.invariant-loop-fine
 invariant-loop-fine l = (ns : List Name) → length ns ≡ l.names → after l.fine (unknown_from ns l.pack l.n l.f (l.n - l.fine) l.p) ≡ unknown_target_d ns l.pack l.n l.f
-
-abbrev pub decreases-loop-fine : goal.decreases-loop-fine
-decreases-loop-fine l = l.n - l.fine

@@ -1,4 +1,4 @@
-use Prim.Native.Nat.{ℕ}
+use Prim.Native.Nat.{◌-◌}
 use mathlib.Core.Path.{◌≡◌}
 use mathlib.Core.List.{List}
 use lib.ListN.{length}
@@ -8,8 +8,5 @@ use Rattle.pack_rules.specs.Names.{Name}
 use Rattle.machines.specs.EmitAt.{chain_t}
 use Rattle.machines.proofs.next_state_chain.build_next_state_chain.Given as goal
 
-abbrev pub invariant-loop-n : goal.invariant-loop-n
-invariant-loop-n l = (length {A = ℕ} l.out ≡ length {A = ℕ} l.initial.out) × (length {A = ℕ} l.made ≡ length {A = ℕ} l.initial.made) × ((ns : List Name) → length ns ≡ l.names → render l.old (chain_t l.pack l.offsets l.layout l.qualified ns l.q l.n l.p) (state_of l.out l.made l.v) ≡ render l.old (chain_t l.pack l.offsets l.layout l.qualified ns l.q l.initial.n l.initial.p) (state_of l.initial.out l.initial.made l.initial.v))
-
-abbrev pub decreases-loop-n : goal.decreases-loop-n
-decreases-loop-n l = l.n
+abbrev pub invariant-loop : goal.invariant-loop
+invariant-loop l = (ns : List Name) → length ns ≡ l.names → render l.old (chain_t l.pack l.offsets l.layout l.qualified ns l.q (l.n - (l.counter - 1)) l.p) (state_of l.out l.made l.v) ≡ render l.old (chain_t l.pack l.offsets l.layout l.qualified ns l.q l.n l.initial.p) (state_of l.initial.out l.initial.made l.initial.v)

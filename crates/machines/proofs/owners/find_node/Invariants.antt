@@ -5,6 +5,3 @@ use Rattle.machines.proofs.owners.find_node.Given as goal
 
 abbrev pub invariant-loop-i : goal.invariant-loop-i
 invariant-loop-i l = find_t l.nodes l.x (l.n - l.i) l.i ≡ find_t l.nodes l.x l.n 0
-
-abbrev pub decreases-loop-i : goal.decreases-loop-i
-decreases-loop-i l = l.n - l.i

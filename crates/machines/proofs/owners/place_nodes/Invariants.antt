@@ -7,7 +7,4 @@ use Rattle.machines.specs.OwnersAt.{fill_t, node_end, node_name_t, nth}
 use Rattle.machines.proofs.owners.place_nodes.Given as goal
 
 abbrev pub invariant-loop-k : goal.invariant-loop-k
-invariant-loop-k l = (length l.nodes ≡ length l.initial.nodes) × ((ns : List Name) → length ns ≡ l.names → (l.p ≡ nth (node_end ns l.pack) l.from l.k) × (fill_t (node_name_t ns l.pack l.from) (l.count - l.k) l.k l.nodes ≡ fill_t (node_name_t ns l.pack l.from) l.count 0 l.initial.nodes))
-
-abbrev pub decreases-loop-k : goal.decreases-loop-k
-decreases-loop-k l = l.count - l.k
+invariant-loop-k l = (ns : List Name) → length ns ≡ l.names → (l.p ≡ nth (node_end ns l.pack) l.from l.k) × (fill_t (node_name_t ns l.pack l.from) (l.count - l.k) l.k l.nodes ≡ fill_t (node_name_t ns l.pack l.from) l.count 0 l.initial.nodes)

@@ -6,6 +6,3 @@ use Rattle.machines.proofs.owners.refused_count.Given as goal
 
 abbrev pub invariant-loop-i : goal.invariant-loop-i
 invariant-loop-i l = (l.c ≤ l.i) × (l.c + total_t (refused_t l.receivers) (l.n - l.i) l.i ≡ total_t (refused_t l.receivers) l.n 0)
-
-abbrev pub decreases-loop-i : goal.decreases-loop-i
-decreases-loop-i l = l.n - l.i

@@ -1,7 +1,7 @@
-use Prim.Native.Nat.{ℕ, ◌+◌, ◌-◌}
+use Prim.Native.Nat.{ℕ, ◌+◌}
 use native.Mathlib.Omega.{arith}
 use mathlib.Core.List.{List}
-use mathlib.Core.Path.{refl, ap, ◌∙◌}
+use mathlib.Core.Path.{ap, ◌∙◌}
 use lib.ListN.{length}
 use Rattle.machines.specs.ReportAt.{of_refused}
 use Rattle.machines.proofs.EmitMachineLaws.{long_kept}
@@ -12,31 +12,13 @@ pub put_count-requires : goal.put_count-requires
 put_count-requires c = count_fits _ _ _ _ _ _ _ _ _ c.requires.2
 
 pub loop-i-init : goal.loop-i-init
-loop-i-init c = (refl, refl, refl, refl, λ ns q es h. (ap (λ (y : List ℕ). 2 + length y) (bytes-start (of_refused _ es) _), over_first (of_refused _ es) _ _))
+loop-i-init c = λ ns q es h. (ap (λ (y : List ℕ). 2 + length y) (bytes-start (of_refused _ es) _), over_first (of_refused _ es) _ _)
 
 pub put_refusal-e-requires : goal.put_refusal-e-requires
-put_refusal-e-requires c = (c.requires.0, room-now _ _ _ _ _ _ _ _ _ c.requires.2 _ _ _ (c.loop-i.invariant.3 ∙ c.put_count.auto.report) (λ ns q es h. (c.loop-i.invariant.4 ns q es h).0) _ _ _ (long_kept _ _ _ _ _ _ c.loop-i.invariant.0 c.loop-i.invariant.1 c.loop-i.invariant.2 c.requires.1) c.loop-i-test.true, c.requires.3)
-
-pub overflow_add-i : goal.overflow_add-i
-overflow_add-i c = omega (arith, c.loop-i-test.true, c.ranges.n)
-
-pub loop-i-smaller : goal.loop-i-smaller
-loop-i-smaller c = omega (arith, c.loop-i-test.true)
+put_refusal-e-requires c = (c.requires.0, room-now _ _ _ _ _ _ _ _ _ c.requires.2 _ _ _ (c.loop-i.auto.report ∙ c.put_count.auto.report) (λ ns q es h. (c.loop-i.invariant ns q es h).0) _ _ _ (long_kept _ _ _ _ _ _ c.loop-i.auto.layout c.loop-i.auto.rows c.loop-i.auto.qualified c.requires.1) c.loop-i-test.true, c.requires.3)
 
 pub loop-i-preserved : goal.loop-i-preserved
-loop-i-preserved c = (c.put_refusal-e.auto.layout ∙ c.loop-i.invariant.0, c.put_refusal-e.auto.rows ∙ c.loop-i.invariant.1, c.put_refusal-e.auto.qualified ∙ c.loop-i.invariant.2, c.put_refusal-e.auto.report ∙ c.loop-i.invariant.3, λ ns q es h. (count-more (of_refused _ es) _ _ _ _ _ _ c.loop-i-test.true (entered ns _ _ _ _ _ _ _ _ _ _ es (h _ c.loop-i-test.true) (long_kept _ _ _ _ _ _ c.loop-i.invariant.0 c.loop-i.invariant.1 c.loop-i.invariant.2 c.requires.1)) (c.put_refusal-e.ensures ns q).0 (c.loop-i.invariant.4 ns q es h).0, over-next (of_refused _ es) _ _ _ _ _ _ _ _ c.loop-i-test.true (within-now _ _ _ _ _ _ _ _ _ c.requires.2 _ _ _ (c.loop-i.invariant.3 ∙ c.put_count.auto.report) (λ ns q es h. (c.loop-i.invariant.4 ns q es h).0)) (entered ns _ _ _ _ _ _ _ _ _ _ es (h _ c.loop-i-test.true) (long_kept _ _ _ _ _ _ c.loop-i.invariant.0 c.loop-i.invariant.1 c.loop-i.invariant.2 c.requires.1)) (c.put_refusal-e.ensures ns q).0 (c.put_refusal-e.ensures ns q).1 (c.loop-i.invariant.4 ns q es h).1))
-
-pub shape_of-layout : goal.shape_of-layout
-shape_of-layout c = c.loop-i.invariant.0
-
-pub shape_of-rows : goal.shape_of-rows
-shape_of-rows c = c.loop-i.invariant.1
-
-pub shape_of-qualified : goal.shape_of-qualified
-shape_of-qualified c = c.loop-i.invariant.2
-
-pub shape_of-report : goal.shape_of-report
-shape_of-report c = c.loop-i.invariant.3 ∙ c.put_count.auto.report
+loop-i-preserved c = λ ns q es h. (count-more (of_refused _ es) _ _ _ _ _ _ c.loop-i-test.true (entered ns _ _ _ _ _ _ _ _ _ _ es (h _ c.loop-i-test.true) (long_kept _ _ _ _ _ _ c.loop-i.auto.layout c.loop-i.auto.rows c.loop-i.auto.qualified c.requires.1)) (c.put_refusal-e.ensures ns q).0 (c.loop-i.invariant ns q es h).0, over-next (of_refused _ es) _ _ _ _ _ _ _ _ c.loop-i-test.true (within-now _ _ _ _ _ _ _ _ _ c.requires.2 _ _ _ (c.loop-i.auto.report ∙ c.put_count.auto.report) (λ ns q es h. (c.loop-i.invariant ns q es h).0)) (entered ns _ _ _ _ _ _ _ _ _ _ es (h _ c.loop-i-test.true) (long_kept _ _ _ _ _ _ c.loop-i.auto.layout c.loop-i.auto.rows c.loop-i.auto.qualified c.requires.1)) (c.put_refusal-e.ensures ns q).0 (c.put_refusal-e.ensures ns q).1 (c.loop-i.invariant ns q es h).1)
 
 pub returns : goal.returns
-returns c = λ ns q es h. report-whole _ _ _ _ _ (omega arith) c.put_count.ensures (over_last (of_refused _ es) _ _ _ _ _ c.loop-i-test.false (c.loop-i.invariant.4 ns q es h).1)
+returns c = λ ns q es h. report-whole _ _ _ _ _ (omega arith) c.put_count.ensures (over_last (of_refused _ es) _ _ _ _ _ c.loop-i-test.false (c.loop-i.invariant ns q es h).1)

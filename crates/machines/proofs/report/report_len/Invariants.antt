@@ -7,7 +7,4 @@ use Rattle.machines.specs.ReportAt.{EntersAll, bytes_t, of_refused}
 use Rattle.machines.proofs.report.report_len.Given as goal
 
 abbrev pub invariant-loop-i : goal.invariant-loop-i
-invariant-loop-i l = (length {A = ℕ} l.layout ≡ length {A = ℕ} l.initial.layout) × (length {A = ℕ} l.rows ≡ length {A = ℕ} l.initial.rows) × (length {A = ℕ} l.qualified ≡ length {A = ℕ} l.initial.qualified) × (l.c ≤ 2 + 34359738368 * l.i) × ((ns : List Name) → length ns ≡ l.names → (es : ℕ → List ℕ) → EntersAll ns l.pack l.offsets l.machines l.defs l.regcounts l.receivers l.n es → l.c + length (bytes_t (of_refused l.receivers es) (l.n - l.i) l.i) ≡ 2 + length (bytes_t (of_refused l.receivers es) l.n 0))
-
-abbrev pub decreases-loop-i : goal.decreases-loop-i
-decreases-loop-i l = l.n - l.i
+invariant-loop-i l = (l.c ≤ 2 + 34359738368 * l.i) × ((ns : List Name) → length ns ≡ l.names → (es : ℕ → List ℕ) → EntersAll ns l.pack l.offsets l.machines l.defs l.regcounts l.receivers l.n es → l.c + length (bytes_t (of_refused l.receivers es) (l.n - l.i) l.i) ≡ 2 + length (bytes_t (of_refused l.receivers es) l.n 0))

@@ -1,5 +1,5 @@
+use Rattle.machines.proofs.Remaining.{none_left, one_less, some_left}
 use borrow.Enum.Refused.{opened as unsealed}
-use Prim.Native.Nat.{◌-◌}
 use mathlib.Core.Path.{refl, ◌∙◌}
 use native.Mathlib.Omega.{arith}
 use Rattle.machines.specs.CheckedReads.{number_in}
@@ -68,9 +68,6 @@ resolve_state-returns t c = λ ns e. state-on ns _ _ _ _ _ _ _ _ _ _ c.if-count-
 pub resolve_states-returns-then-levels-eq0 : goal.resolve_states-returns-then-levels-eq0
 resolve_states-returns-then-levels-eq0 t c = λ ns e. walk_none ns _ _ _ _ _ _ _ _ c.if-levels-eq0.true
 
-pub resolve_states-loop-n-init : goal.resolve_states-loop-n-init
-resolve_states-loop-n-init t c = λ ns e. refl
-
 pub resolve_states-overflow_sub-levels : goal.resolve_states-overflow_sub-levels
 resolve_states-overflow_sub-levels t c = omega (arith, c.if-levels-eq0.false)
 
@@ -78,10 +75,10 @@ pub resolve_states-resolve_state-e-requires : goal.resolve_states-resolve_state-
 resolve_states-resolve_state-e-requires t c = (omega (arith, c.if-levels-eq0.false, c.decreases), c.requires)
 
 pub resolve_states-returns-in_default : goal.resolve_states-returns-in_default
-resolve_states-returns-in_default t c = λ ns e. rounds-stopped _ _ _ _ _ _ _ c.loop-n-test.true (unsealed c.in_default.in_default-own.keys2) (c.resolve_state-e.ensures ns e) (c.loop-n.invariant ns e) ∙ walk-some ns _ _ _ _ _ _ _ _ c.if-levels-eq0.false
+resolve_states-returns-in_default t c = λ ns e. rounds-stopped _ _ _ _ _ _ _ (some_left c.loop-test.true) (unsealed c.in_default.in_default-own.keys2) (c.resolve_state-e.ensures ns e) (c.loop.invariant ns e) ∙ walk-some ns _ _ _ _ _ _ _ _ c.if-levels-eq0.false
 
-pub resolve_states-loop-n-preserved : goal.resolve_states-loop-n-preserved
-resolve_states-loop-n-preserved t c = λ ns e. rounds-went _ _ _ _ _ _ _ _ _ _ _ c.loop-n-test.true c.in-Went.is (c.resolve_state-e.ensures ns e) c.max-a.ensures (c.loop-n.invariant ns e)
+pub resolve_states-loop-preserved : goal.resolve_states-loop-preserved
+resolve_states-loop-preserved t c = λ ns e. rw one_less (rounds-went _ _ _ _ _ _ _ _ _ _ _ (some_left c.loop-test.true) c.in-Went.is (c.resolve_state-e.ensures ns e) c.max-a.ensures (c.loop.invariant ns e))
 
 pub resolve_states-returns : goal.resolve_states-returns
-resolve_states-returns t c = λ ns e. rounds-done _ _ _ _ _ _ c.loop-n-test.false (c.loop-n.invariant ns e) ∙ walk-some ns _ _ _ _ _ _ _ _ c.if-levels-eq0.false
+resolve_states-returns t c = λ ns e. rounds-done _ _ _ _ _ _ (none_left c.loop-test.false) (c.loop.invariant ns e) ∙ walk-some ns _ _ _ _ _ _ _ _ c.if-levels-eq0.false

@@ -18,8 +18,5 @@ invariant-resolve_state-loop-n l = (ns : List Name) → length ns ≡ l.names �
 abbrev pub decreases-resolve_state-loop-n : goal.decreases-resolve_state-loop-n
 decreases-resolve_state-loop-n l = l.n
 
-abbrev pub invariant-resolve_states-loop-n : goal.invariant-resolve_states-loop-n
-invariant-resolve_states-loop-n l = (ns : List Name) → length ns ≡ l.names → rounds (state_w ns l.pack l.offsets l.machines (walk ns l.pack l.offsets l.machines (l.levels - 1)) l.p) l.n l.o l.c l.a ≡ rounds (state_w ns l.pack l.offsets l.machines (walk ns l.pack l.offsets l.machines (l.levels - 1)) l.p) l.count l.at l.done 0
-
-abbrev pub decreases-resolve_states-loop-n : goal.decreases-resolve_states-loop-n
-decreases-resolve_states-loop-n l = l.n
+abbrev pub invariant-resolve_states-loop : goal.invariant-resolve_states-loop
+invariant-resolve_states-loop l = (ns : List Name) → length ns ≡ l.names → rounds (state_w ns l.pack l.offsets l.machines (walk ns l.pack l.offsets l.machines (l.levels - 1)) l.p) (l.count - l.counter) l.o l.c l.a ≡ rounds (state_w ns l.pack l.offsets l.machines (walk ns l.pack l.offsets l.machines (l.levels - 1)) l.p) l.count l.at l.done 0

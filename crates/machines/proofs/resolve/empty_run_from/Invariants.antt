@@ -1,9 +1,5 @@
-use Prim.Native.Nat.{◌-◌, ◌≤◌}
 use Rattle.machines.proofs.EmptyLaws.{SeenBefore}
 use Rattle.machines.proofs.resolve.empty_run_from.Given as goal
 
 abbrev pub invariant-loop-count : goal.invariant-loop-count
-invariant-loop-count l = SeenBefore l.pack l.offsets l.from l.count l.longest l.p × (l.count ≤ l.n)
-
-abbrev pub decreases-loop-count : goal.decreases-loop-count
-decreases-loop-count l = l.n - l.count
+invariant-loop-count l = SeenBefore l.pack l.offsets l.from l.count l.longest l.p

@@ -1,19 +1,15 @@
-use Prim.Native.Nat.{◌-◌}
-use mathlib.Core.Path.{refl}
+use Rattle.machines.proofs.Remaining.{none_left, one_less, some_left}
 use Rattle.machines.specs.ResolveAt.{target_t, max_of}
 use Rattle.machines.proofs.CheckedReadLaws.{turns-went, turns-done}
 use Rattle.machines.proofs.ResolveLaws.{head-is}
 use Rattle.machines.proofs.MemoSoundLaws.{moves_from}
 use Rattle.machines.proofs.resolve.read_state_head.Goals as goal
 
-pub loop-n-init : goal.loop-n-init
-loop-n-init c = λ ns e. refl
-
 pub target_len-x-requires : goal.target_len-x-requires
 target_len-x-requires c = c.requires
 
-pub loop-n-preserved : goal.loop-n-preserved
-loop-n-preserved c = λ ns e. turns-went (target_t ns _ _) max_of _ _ _ _ _ _ c.loop-n-test.true (c.target_len-x.ensures ns e) c.max-a.ensures (c.loop-n.invariant ns e)
+pub loop-preserved : goal.loop-preserved
+loop-preserved c = λ ns e. rw one_less (turns-went (target_t ns _ _) max_of _ _ _ _ _ _ (some_left c.loop-test.true) (c.target_len-x.ensures ns e) c.max-a.ensures (c.loop.invariant ns e))
 
 pub returns : goal.returns
-returns c = λ ns e f. head-is ns _ _ _ _ _ _ _ _ c.number-i.ensures (moves_from ns _ _ _ _ c.number-i.ensures f) c.number-t.ensures c.name_len-a.ensures (turns-done (target_t ns _ _) max_of _ _ _ _ c.loop-n-test.false (c.loop-n.invariant ns e))
+returns c = λ ns e f. head-is ns _ _ _ _ _ _ _ _ c.number-i.ensures (moves_from ns _ _ _ _ c.number-i.ensures f) c.number-t.ensures c.name_len-a.ensures (turns-done (target_t ns _ _) max_of _ _ _ _ (none_left c.loop-test.false) (c.loop.invariant ns e))

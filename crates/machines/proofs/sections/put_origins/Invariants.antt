@@ -1,4 +1,4 @@
-use Prim.Native.Nat.{ℕ, ◌+◌, ◌*◌, ◌≤◌}
+use Prim.Native.Nat.{ℕ, ◌+◌, ◌-◌, ◌*◌, ◌≤◌}
 use mathlib.Core.List.{List}
 use mathlib.Core.Path.{◌≡◌}
 use lib.ListN.{length}
@@ -9,8 +9,5 @@ use Rattle.machines.specs.AddedAt.{each_t, own_origin_t}
 use Rattle.machines.proofs.OriginsCounted.{Right}
 use Rattle.machines.proofs.sections.put_origins.Given as goal
 
-abbrev pub invariant-loop-c : goal.invariant-loop-c
-invariant-loop-c lv = (length {A = ℕ} lv.out ≡ length {A = ℕ} lv.initial.out) × (lv.i + lv.c ≤ lv.n) × (lv.d.first ≤ 65536 + 1048576 * lv.i) × ((ns : List Name) → length ns ≡ lv.names → Right ns lv.pack lv.defs lv.receivers lv.regcounts lv.count lv.from lv.d lv.i) × ((ns : List Name) → length ns ≡ lv.names → (old l : List ℕ) → render old (each_t (own_origin_t ns lv.pack lv.defs lv.receivers lv.regcounts lv.count lv.from) lv.c lv.i) (state_of lv.out l lv.v) ≡ render old (each_t (own_origin_t ns lv.pack lv.defs lv.receivers lv.regcounts lv.count lv.from) lv.n 0) (state_of lv.initial.out l lv.initial.v))
-
-abbrev pub decreases-loop-c : goal.decreases-loop-c
-decreases-loop-c l = l.c
+abbrev pub invariant-loop-i : goal.invariant-loop-i
+invariant-loop-i lv = (lv.d.first ≤ 65536 + 1048576 * lv.i) × ((ns : List Name) → length ns ≡ lv.names → Right ns lv.pack lv.defs lv.receivers lv.regcounts lv.count lv.from lv.d lv.i) × ((ns : List Name) → length ns ≡ lv.names → (old l : List ℕ) → render old (each_t (own_origin_t ns lv.pack lv.defs lv.receivers lv.regcounts lv.count lv.from) (lv.n - lv.i) lv.i) (state_of lv.out l lv.v) ≡ render old (each_t (own_origin_t ns lv.pack lv.defs lv.receivers lv.regcounts lv.count lv.from) lv.n 0) (state_of lv.initial.out l lv.initial.v))

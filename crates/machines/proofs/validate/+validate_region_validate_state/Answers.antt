@@ -1,5 +1,5 @@
+use Rattle.machines.proofs.Remaining.{all_left, none_left, one_less, some_left}
 use borrow.Enum.Refused.{opened as unsealed}
-use Prim.Native.Nat.{◌-◌}
 use native.Mathlib.Omega.{arith}
 use mathlib.Core.Path.{sym, ◌∙◌}
 use Rattle.machines.proofs.ValidateLaws.{region-goes, region-initial, region-none, rows-done, rows-from, rows-stop, rows-went, state-goes, state-stops, stops}
@@ -12,26 +12,26 @@ validate_region-returns-then-levels-eq0 t c = λ ns e. region-none ns _ _ _ _ c.
 pub validate_region-recall_targets-v-requires : goal.validate_region-recall_targets-v-requires
 validate_region-recall_targets-v-requires t c = c.requires
 
-pub validate_region-loop-n-init : goal.validate_region-loop-n-init
-validate_region-loop-n-init t c = (λ ns e. rows-from _ _ _ _ _ _ c.layout_word-n.ensures c.first-p.ensures, λ ns e. foreseen-from ns _ _ _ _ _ _ _ _ c.layout_word-n.ensures c.first-p.ensures (c.recall_targets-v.ensures ns e))
+pub validate_region-loop-init : goal.validate_region-loop-init
+validate_region-loop-init t c = (λ ns e. rw all_left (rows-from _ _ _ _ _ _ c.layout_word-end.ensures c.first-p.ensures), λ ns e. rw all_left (foreseen-from ns _ _ _ _ _ _ _ _ c.layout_word-end.ensures c.first-p.ensures (c.recall_targets-v.ensures ns e)))
 
 pub validate_region-overflow_sub-levels : goal.validate_region-overflow_sub-levels
 validate_region-overflow_sub-levels t c = omega (arith, c.if-levels-eq0.false)
 
 pub validate_region-validate_state-r-requires : goal.validate_region-validate_state-r-requires
-validate_region-validate_state-r-requires t c = (omega (arith, c.if-levels-eq0.false, c.decreases), (c.requires.0, c.requires.1, λ ns e. foreseen-one ns _ _ _ _ _ _ c.loop-n-test.true (c.loop-n.invariant.1 ns e)))
+validate_region-validate_state-r-requires t c = (omega (arith, c.if-levels-eq0.false, c.decreases), (c.requires.0, c.requires.1, λ ns e. foreseen-one ns _ _ _ _ _ _ (some_left c.loop-test.true) (c.loop.invariant.1 ns e)))
 
 pub validate_region-returns-in_default : goal.validate_region-returns-in_default
-validate_region-returns-in_default t c = λ ns e. region-goes ns _ _ _ _ _ _ c.if-levels-eq0.false c.entry.ensures (sym c.if-has_state.true ∙ c.has_state.ensures) (rows-stop _ _ _ _ _ _ c.loop-n-test.true (c.validate_state-r.ensures ns e) (stops _ (unsealed c.in_default.in_default-own.keys2)) (c.loop-n.invariant.0 ns e))
+validate_region-returns-in_default t c = λ ns e. region-goes ns _ _ _ _ _ _ c.if-levels-eq0.false c.entry.ensures (sym c.if-not-has_state.false ∙ c.has_state.ensures) (rows-stop _ _ _ _ _ _ (some_left c.loop-test.true) (c.validate_state-r.ensures ns e) (stops _ (unsealed c.in_default.in_default-own.keys2)) (c.loop.invariant.0 ns e))
 
-pub validate_region-loop-n-preserved : goal.validate_region-loop-n-preserved
-validate_region-loop-n-preserved t c = (λ ns e. rows-went _ _ _ _ _ _ _ c.loop-n-test.true (c.validate_state-r.ensures ns e) c.in-Fine.is c.layout_word-p.ensures (c.loop-n.invariant.0 ns e), λ ns e. foreseen-went ns _ _ _ _ _ _ _ _ c.loop-n-test.true c.onward-v.ensures c.layout_word-p.ensures (c.loop-n.invariant.1 ns e))
-
-pub validate_region-returns-then-has_state : goal.validate_region-returns-then-has_state
-validate_region-returns-then-has_state t c = λ ns e. region-goes ns _ _ _ _ _ _ c.if-levels-eq0.false c.entry.ensures (sym c.if-has_state.true ∙ c.has_state.ensures) (rows-done _ _ _ _ _ c.loop-n-test.false (c.loop-n.invariant.0 ns e))
+pub validate_region-loop-preserved : goal.validate_region-loop-preserved
+validate_region-loop-preserved t c = (λ ns e. rw one_less (rows-went _ _ _ _ _ _ _ (some_left c.loop-test.true) (c.validate_state-r.ensures ns e) c.in-Fine.is c.layout_word-p.ensures (c.loop.invariant.0 ns e)), λ ns e. rw one_less (foreseen-went ns _ _ _ _ _ _ _ _ (some_left c.loop-test.true) c.onward-v.ensures c.layout_word-p.ensures (c.loop.invariant.1 ns e)))
 
 pub validate_region-returns : goal.validate_region-returns
-validate_region-returns t c = λ ns e. region-initial ns _ _ _ _ _ c.if-levels-eq0.false c.entry.ensures (sym c.if-has_state.false ∙ c.has_state.ensures)
+validate_region-returns t c = λ ns e. region-goes ns _ _ _ _ _ _ c.if-levels-eq0.false c.entry.ensures (sym c.if-not-has_state.false ∙ c.has_state.ensures) (rows-done _ _ _ _ _ (none_left c.loop-test.false) (c.loop.invariant.0 ns e))
+
+pub validate_region-returns-then-not-has_state : goal.validate_region-returns-then-not-has_state
+validate_region-returns-then-not-has_state t c = λ ns e. region-initial ns _ _ _ _ _ c.if-levels-eq0.false c.entry.ensures (sym c.if-not-has_state.true ∙ c.has_state.ensures)
 
 pub validate_state-check_transitions-c-requires : goal.validate_state-check_transitions-c-requires
 validate_state-check_transitions-c-requires t c = c.requires
@@ -39,17 +39,17 @@ validate_state-check_transitions-c-requires t c = c.requires
 pub validate_state-returns-in_default : goal.validate_state-returns-in_default
 validate_state-returns-in_default t c = λ ns e. state-stops ns _ _ _ _ _ _ (c.check_transitions-c.ensures ns e) (stops _ (unsealed c.in_default.in_default-own.keys2))
 
-pub validate_state-loop-n-init : goal.validate_state-loop-n-init
-validate_state-loop-n-init t c = λ ns e. rows-from _ _ _ _ _ _ c.layout_word-n.ensures c.inner-g.ensures
+pub validate_state-loop-init : goal.validate_state-loop-init
+validate_state-loop-init t c = λ ns e. rw all_left (rows-from _ _ _ _ _ _ c.layout_word-end.ensures c.inner-g.ensures)
 
 pub validate_state-validate_region-r-requires : goal.validate_state-validate_region-r-requires
 validate_state-validate_region-r-requires t c = (omega (arith, c.decreases), (c.requires.0, c.requires.1))
 
 pub validate_state-returns-in_default-r : goal.validate_state-returns-in_default-r
-validate_state-returns-in_default-r t c = λ ns e. state-goes ns _ _ _ _ _ _ _ (c.check_transitions-c.ensures ns e) c.in-Fine.is (rows-stop _ _ _ _ _ _ c.loop-n-test.true (c.validate_region-r.ensures ns e) (stops _ (unsealed c.in_default-r.in_default-r-own.keys2)) (c.loop-n.invariant ns e))
+validate_state-returns-in_default-r t c = λ ns e. state-goes ns _ _ _ _ _ _ _ (c.check_transitions-c.ensures ns e) c.in-Fine.is (rows-stop _ _ _ _ _ _ (some_left c.loop-test.true) (c.validate_region-r.ensures ns e) (stops _ (unsealed c.in_default-r.in_default-r-own.keys2)) (c.loop.invariant ns e))
 
-pub validate_state-loop-n-preserved : goal.validate_state-loop-n-preserved
-validate_state-loop-n-preserved t c = λ ns e. rows-went _ _ _ _ _ _ _ c.loop-n-test.true (c.validate_region-r.ensures ns e) c.in-Fine-r.is c.layout_word-g.ensures (c.loop-n.invariant ns e)
+pub validate_state-loop-preserved : goal.validate_state-loop-preserved
+validate_state-loop-preserved t c = λ ns e. rw one_less (rows-went _ _ _ _ _ _ _ (some_left c.loop-test.true) (c.validate_region-r.ensures ns e) c.in-Fine-r.is c.layout_word-g.ensures (c.loop.invariant ns e))
 
 pub validate_state-returns : goal.validate_state-returns
-validate_state-returns t c = λ ns e. state-goes ns _ _ _ _ _ _ _ (c.check_transitions-c.ensures ns e) c.in-Fine.is (rows-done _ _ _ _ _ c.loop-n-test.false (c.loop-n.invariant ns e))
+validate_state-returns t c = λ ns e. state-goes ns _ _ _ _ _ _ _ (c.check_transitions-c.ensures ns e) c.in-Fine.is (rows-done _ _ _ _ _ (none_left c.loop-test.false) (c.loop.invariant ns e))

@@ -1,9 +1,7 @@
-use Rattle.machines.proofs.CheckedReadLaws.{known-again}
+use Rattle.machines.specs.ValidateAt.{Has}
 use Rattle.machines.proofs.ValidateLaws.{has-told}
+use Rattle.machines.proofs.CheckedReadLaws.{same_again}
 use Rattle.machines.proofs.validate.has_target.Goals as goal
 
-pub returns-then-both : goal.returns-then-both
-returns-then-both c = has-told _ _ _ _ (known-again _ _ _ _ _ c.both.ensures c.if-both.true c.requires)
-
-pub returns : goal.returns
-returns c = c.has_state.ensures
+pub returns-then-eq : goal.returns-then-eq
+returns-then-eq c = has-told _ _ _ _ (same_again (Has _ _ _) _ _ c.if-eq.ensures c.requires)

@@ -1,7 +1,6 @@
 use native.Mathlib.Omega.{arith}
-use mathlib.Core.Path.{refl, ◌∙◌}
-use Rattle.machines.proofs.RowLaws.{left_less}
-use Rattle.machines.proofs.ChainLaws.{below}
+use mathlib.Core.Path.{◌∙◌}
+use Rattle.machines.proofs.RowLaws.{stays-full}
 use Rattle.machines.proofs.ValueLaws.{in-entered, in-own, value_none, value-some, values-last, values-more, values-none}
 use Rattle.machines.proofs.value_of.+value_in_state_value_of.Goals as goal
 
@@ -23,23 +22,20 @@ value_in_state-returns t c = record { result_after = λ ns e. in-entered _ _ _ _
 pub value_of-returns-then-levels-eq0 : goal.value_of-returns-then-levels-eq0
 value_of-returns-then-levels-eq0 t c = record { result_after = λ ns e. value_none _ _ _ _ ns _ _ _ _ c.if-levels-eq0.true; assigns_sound = c.requires.2 }
 
-pub value_of-loop-n-init : goal.value_of-loop-n-init
-value_of-loop-n-init t c = (refl, refl, refl, λ ns e. refl, c.requires.2)
+pub value_of-returns-then-v : goal.value_of-returns-then-v
+value_of-returns-then-v t c = record { result_after = λ ns e. stays-full _ _ _ _ _ _ c.if-v.true (c.loop.invariant.0 ns e) ∙ value-some _ _ _ _ ns _ _ _ _ _ _ c.if-levels-eq0.false c.layout_word-n.ensures c.first-p.ensures; assigns_sound = c.loop.invariant.1 }
 
 pub value_of-value_in_state-v-requires : goal.value_of-value_in_state-v-requires
-value_of-value_in_state-v-requires t c = (omega (arith, c.if-levels-eq0.false, c.decreases), (c.requires.0, c.requires.1, c.loop-n.invariant.4))
+value_of-value_in_state-v-requires t c = (omega (arith, c.if-levels-eq0.false, c.decreases), (c.requires.0, c.requires.1, c.loop.invariant.1))
 
-pub value_of-loop-n-smaller : goal.value_of-loop-n-smaller
-value_of-loop-n-smaller t c = left_less c.value_in_state-v.result _ _ (below _ _ c.loop-n-test.true) c.remaining-n.ensures
-
-pub value_of-loop-n-preserved : goal.value_of-loop-n-preserved
-value_of-loop-n-preserved t c = (c.value_in_state-v.auto.hints ∙ c.loop-n.invariant.0, c.value_in_state-v.auto.out ∙ c.put_test-a.auto.out ∙ c.loop-n.invariant.1, c.value_in_state-v.auto.made ∙ c.put_test-a.auto.made ∙ c.loop-n.invariant.2, λ ns e. values-more _ _ _ _ _ _ _ _ _ _ _ _ _ _ _ c.loop-n-test.true c.put_test-a.ensures (c.value_in_state-v.ensures.result_after ns e) c.layout_word-p.ensures c.remaining-n.ensures (c.loop-n.invariant.3 ns e), c.value_in_state-v.ensures.assigns_sound)
+pub value_of-loop-preserved : goal.value_of-loop-preserved
+value_of-loop-preserved t c = (λ ns e. values-more _ _ _ _ _ _ _ _ _ _ _ _ _ (omega arith) (omega arith) c.put_test-a.ensures (c.value_in_state-v.ensures.result_after ns e) c.layout_word-p.ensures (c.loop.invariant.0 ns e), c.value_in_state-v.ensures.assigns_sound)
 
 pub value_of-returns-then-n-eq0 : goal.value_of-returns-then-n-eq0
-value_of-returns-then-n-eq0 t c = record { result_after = λ ns e. values-none _ _ _ _ _ _ _ _ _ c.if-n-eq0.true (c.loop-n.invariant.3 ns e) ∙ value-some _ _ _ _ ns _ _ _ _ _ _ c.if-levels-eq0.false c.layout_word-n.ensures c.first-p.ensures; assigns_sound = c.loop-n.invariant.4 }
+value_of-returns-then-n-eq0 t c = record { result_after = λ ns e. values-none _ _ _ _ _ _ _ _ _ (omega arith) (c.loop.invariant.0 ns e) ∙ value-some _ _ _ _ ns _ _ _ _ _ _ c.if-levels-eq0.false c.layout_word-n.ensures c.first-p.ensures; assigns_sound = c.loop.invariant.1 }
 
 pub value_of-value_in_state-requires : goal.value_of-value_in_state-requires
-value_of-value_in_state-requires t c = (omega (arith, c.if-levels-eq0.false, c.decreases), (c.requires.0, c.requires.1, c.loop-n.invariant.4))
+value_of-value_in_state-requires t c = (omega (arith, c.if-levels-eq0.false, c.decreases), (c.requires.0, c.requires.1, c.loop.invariant.1))
 
 pub value_of-returns : goal.value_of-returns
-value_of-returns t c = record { result_after = λ ns e. c.value_in_state.ensures.result_after ns e ∙ values-last _ _ _ _ _ _ _ _ _ c.loop-n-test.false c.if-n-eq0.false (c.loop-n.invariant.3 ns e) ∙ value-some _ _ _ _ ns _ _ _ _ _ _ c.if-levels-eq0.false c.layout_word-n.ensures c.first-p.ensures; assigns_sound = c.value_in_state.ensures.assigns_sound }
+value_of-returns t c = record { result_after = λ ns e. c.value_in_state.ensures.result_after ns e ∙ values-last _ _ _ _ _ _ _ _ _ (omega arith) (λ d. absurd (omega arith)) (c.loop.invariant.0 ns e) ∙ value-some _ _ _ _ ns _ _ _ _ _ _ c.if-levels-eq0.false c.layout_word-n.ensures c.first-p.ensures; assigns_sound = c.value_in_state.ensures.assigns_sound }

@@ -1,4 +1,4 @@
-use Prim.Native.Nat.{◌+◌}
+use Prim.Native.Nat.{◌+◌, ◌-◌}
 use mathlib.Core.List.{List}
 use mathlib.Core.Path.{◌≡◌}
 use lib.ListN.{length}
@@ -8,7 +8,6 @@ use Rattle.pack.specs.Intern.{render}
 use Rattle.machines.specs.CoverAt.{uncovered_t}
 use Rattle.machines.specs.AssignsMemo.{AssignsSound}
 use Rattle.machines.specs.ValueAt.{in_state_t, value_t, values_t}
-use Prim.Native.Nat.{ℕ}
 use Rattle.machines.proofs.value_of.+value_in_state_value_of.Given as goal
 
 abbrev pub decreases-value_in_state : goal.decreases-value_in_state
@@ -17,8 +16,5 @@ decreases-value_in_state l = l.levels + l.levels + 1
 abbrev pub decreases-value_of : goal.decreases-value_of
 decreases-value_of l = l.levels + l.levels
 
-abbrev pub invariant-value_of-loop-n : goal.invariant-value_of-loop-n
-invariant-value_of-loop-n l = (length {A = ℕ} l.hints ≡ length {A = ℕ} l.initial.hints) × (length {A = ℕ} l.out ≡ length {A = ℕ} l.initial.out) × (length {A = ℕ} l.made ≡ length {A = ℕ} l.initial.made) × ((ns : List Name) → length ns ≡ l.names → render l.old (values_t l.layout l.qualified (in_state_t l.pack l.layout l.qualified ns l.x (value_t l.pack l.layout l.qualified ns l.x l.rest) (uncovered_t ns l.pack l.layout l.x l.rest)) l.q l.n l.p) (state_of l.out l.made l.v) ≡ render l.old (values_t l.layout l.qualified (in_state_t l.pack l.layout l.qualified ns l.x (value_t l.pack l.layout l.qualified ns l.x l.rest) (uncovered_t ns l.pack l.layout l.x l.rest)) l.q l.initial.n l.initial.p) (state_of l.initial.out l.initial.made l.initial.v)) × AssignsSound l.pack l.names l.memo l.hints
-
-abbrev pub decreases-value_of-loop-n : goal.decreases-value_of-loop-n
-decreases-value_of-loop-n l = l.n
+abbrev pub invariant-value_of-loop : goal.invariant-value_of-loop
+invariant-value_of-loop l = ((ns : List Name) → length ns ≡ l.names → render l.old (values_t l.layout l.qualified (in_state_t l.pack l.layout l.qualified ns l.x (value_t l.pack l.layout l.qualified ns l.x l.rest) (uncovered_t ns l.pack l.layout l.x l.rest)) l.q (l.n - (l.counter - 1)) l.p) (state_of l.out l.made l.v) ≡ render l.old (values_t l.layout l.qualified (in_state_t l.pack l.layout l.qualified ns l.x (value_t l.pack l.layout l.qualified ns l.x l.rest) (uncovered_t ns l.pack l.layout l.x l.rest)) l.q l.n l.initial.p) (state_of l.initial.out l.initial.made l.initial.v)) × AssignsSound l.pack l.names l.memo l.hints

@@ -1,4 +1,4 @@
-use Prim.Native.Nat.{ℕ}
+use Prim.Native.Nat.{◌-◌}
 use mathlib.Core.List.{List}
 use mathlib.Core.Path.{◌≡◌}
 use lib.ListN.{length}
@@ -8,8 +8,5 @@ use Rattle.machines.specs.AssignsMemo.{AssignsSound}
 use Rattle.machines.specs.ValueAt.{giving_from}
 use Rattle.machines.proofs.value_of.entered.Given as goal
 
-abbrev pub invariant-loop-n : goal.invariant-loop-n
-invariant-loop-n l = ((ns : List Name) → length ns ≡ l.names → giving_from l.layout (uncovered_t ns l.pack l.layout l.x l.levels) l.n l.g ≡ giving_from l.layout (uncovered_t ns l.pack l.layout l.x l.levels) l.initial.n l.initial.g) × AssignsSound l.pack l.names l.memo l.hints × (length {A = ℕ} l.hints ≡ length {A = ℕ} l.initial.hints)
-
-abbrev pub decreases-loop-n : goal.decreases-loop-n
-decreases-loop-n l = l.n
+abbrev pub invariant-loop : goal.invariant-loop
+invariant-loop l = ((ns : List Name) → length ns ≡ l.names → giving_from l.layout (uncovered_t ns l.pack l.layout l.x l.levels) (l.end - l.counter) l.g ≡ giving_from l.layout (uncovered_t ns l.pack l.layout l.x l.levels) l.end l.initial.g) × AssignsSound l.pack l.names l.memo l.hints

@@ -7,7 +7,4 @@ use Rattle.machines.specs.OwnersAt.{HasRegions, fill_t, machine_end, nth}
 use Rattle.machines.proofs.verdicts.judge_all.Given as goal
 
 abbrev pub invariant-loop-i : goal.invariant-loop-i
-invariant-loop-i l = (length {A = ℕ} l.layout ≡ length {A = ℕ} l.initial.layout) × (length {A = ℕ} l.rows ≡ length {A = ℕ} l.initial.rows) × (length {A = ℕ} l.qualified ≡ length {A = ℕ} l.initial.qualified) × (length l.defs ≡ length l.initial.defs) × (length l.regcounts ≡ length l.initial.regcounts) × ((ns : List Name) → length ns ≡ l.names → (l.p ≡ nth (machine_end ns l.pack) l.from l.i) × (fill_t (nth (machine_end ns l.pack) l.from) (l.count - l.i) l.i l.defs ≡ fill_t (nth (machine_end ns l.pack) l.from) l.count 0 l.initial.defs) × ((gs : ℕ → ℕ) → ((k : ℕ) → k < l.count → HasRegions ns l.pack l.offsets l.machines (nth (machine_end ns l.pack) l.from k) (gs k)) → fill_t gs (l.count - l.i) l.i l.regcounts ≡ fill_t gs l.count 0 l.initial.regcounts))
-
-abbrev pub decreases-loop-i : goal.decreases-loop-i
-decreases-loop-i l = l.count - l.i
+invariant-loop-i l = (ns : List Name) → length ns ≡ l.names → (l.p ≡ nth (machine_end ns l.pack) l.from l.i) × (fill_t (nth (machine_end ns l.pack) l.from) (l.count - l.i) l.i l.defs ≡ fill_t (nth (machine_end ns l.pack) l.from) l.count 0 l.initial.defs) × ((gs : ℕ → ℕ) → ((k : ℕ) → k < l.count → HasRegions ns l.pack l.offsets l.machines (nth (machine_end ns l.pack) l.from k) (gs k)) → fill_t gs (l.count - l.i) l.i l.regcounts ≡ fill_t gs l.count 0 l.initial.regcounts)

@@ -1,4 +1,4 @@
-use Prim.Native.Nat.{ℕ, ◌+◌, ◌≤◌}
+use Prim.Native.Nat.{ℕ, ◌-◌}
 use mathlib.Core.List.{List}
 use mathlib.Core.Path.{◌≡◌}
 use lib.ListN.{length}
@@ -11,8 +11,5 @@ use Rattle.machines.specs.EmitMachineAt.{AllWrite, equations_at}
 use Rattle.machines.specs.WriteNodesAt.{new_node_t}
 use Rattle.machines.proofs.write_nodes.put_new_nodes.Given as goal
 
-abbrev pub invariant-loop-c : goal.invariant-loop-c
-invariant-loop-c l = (length {A = ℕ} l.layout ≡ length {A = ℕ} l.initial.layout) × (length {A = ℕ} l.rows ≡ length {A = ℕ} l.initial.rows) × (length {A = ℕ} l.qualified ≡ length {A = ℕ} l.initial.qualified) × (length {A = ℕ} l.out ≡ length {A = ℕ} l.initial.out) × (length {A = ℕ} l.made ≡ length {A = ℕ} l.initial.made) × (l.i + l.c ≤ l.n) × ((ns : List Name) → length ns ≡ l.names → (eqs : ℕ → List Item) → AllWrite l.old (equations_at ns l.pack l.offsets l.machines) l.defs l.n eqs → render l.old (each_t (new_node_t ns l.pack l.defs l.receivers l.regcounts l.offsets l.n eqs) l.c l.i) (state_of l.out l.made l.v) ≡ render l.old (each_t (new_node_t ns l.pack l.defs l.receivers l.regcounts l.offsets l.n eqs) l.n 0) (state_of l.initial.out l.initial.made l.initial.v))
-
-abbrev pub decreases-loop-c : goal.decreases-loop-c
-decreases-loop-c l = l.c
+abbrev pub invariant-loop-i : goal.invariant-loop-i
+invariant-loop-i l = (ns : List Name) → length ns ≡ l.names → (eqs : ℕ → List Item) → AllWrite l.old (equations_at ns l.pack l.offsets l.machines) l.defs l.n eqs → render l.old (each_t (new_node_t ns l.pack l.defs l.receivers l.regcounts l.offsets l.n eqs) (l.n - l.i) l.i) (state_of l.out l.made l.v) ≡ render l.old (each_t (new_node_t ns l.pack l.defs l.receivers l.regcounts l.offsets l.n eqs) l.n 0) (state_of l.initial.out l.initial.made l.initial.v)

@@ -1,4 +1,4 @@
-use Prim.Native.Nat.{ℕ, ◌+◌, ◌≤◌}
+use Prim.Native.Nat.{ℕ, ◌-◌}
 use mathlib.Core.List.{List}
 use mathlib.Core.Path.{◌≡◌}
 use lib.ListN.{length}
@@ -11,8 +11,5 @@ use Rattle.machines.specs.WriteNodesAt.{old_nodes_t}
 use Rattle.machines.specs.ReceivingNodes.{Idle, goes_t}
 use Rattle.machines.proofs.write_nodes.put_old_nodes.Given as goal
 
-abbrev pub invariant-loop-c : goal.invariant-loop-c
-invariant-loop-c l = (length {A = ℕ} l.layout ≡ length {A = ℕ} l.initial.layout) × (length {A = ℕ} l.rows ≡ length {A = ℕ} l.initial.rows) × (length {A = ℕ} l.qualified ≡ length {A = ℕ} l.initial.qualified) × (length {A = ℕ} l.out ≡ length {A = ℕ} l.initial.out) × (length {A = ℕ} l.made ≡ length {A = ℕ} l.initial.made) × (l.k + l.c ≤ l.count) × Idle (goes_t l.receivers) l.n l.k l.b × ((ns : List Name) → length ns ≡ l.names → (eqs : ℕ → List Item) → AllWrite l.old (equations_at ns l.pack l.offsets l.machines) l.defs l.n eqs → render l.old (old_nodes_t ns l.pack l.defs l.receivers l.regcounts l.offsets l.n eqs l.c l.k l.p) (state_of l.out l.made l.v) ≡ render l.old (old_nodes_t ns l.pack l.defs l.receivers l.regcounts l.offsets l.n eqs l.count 0 l.from) (state_of l.initial.out l.initial.made l.initial.v))
-
-abbrev pub decreases-loop-c : goal.decreases-loop-c
-decreases-loop-c l = l.c
+abbrev pub invariant-loop-k : goal.invariant-loop-k
+invariant-loop-k l = Idle (goes_t l.receivers) l.n l.k l.b × ((ns : List Name) → length ns ≡ l.names → (eqs : ℕ → List Item) → AllWrite l.old (equations_at ns l.pack l.offsets l.machines) l.defs l.n eqs → render l.old (old_nodes_t ns l.pack l.defs l.receivers l.regcounts l.offsets l.n eqs (l.count - l.k) l.k l.p) (state_of l.out l.made l.v) ≡ render l.old (old_nodes_t ns l.pack l.defs l.receivers l.regcounts l.offsets l.n eqs l.count 0 l.from) (state_of l.initial.out l.initial.made l.initial.v))
