@@ -19,7 +19,7 @@ use Rattle.pack_rules.specs.Write.{each, equation_items}
 use Rattle.pack.specs.Table.{tabled}
 use Rattle.pack.specs.Intern.{render}
 use Rattle.machines.specs.AddedAt.{each_t}
-use Rattle.machines.specs.declared.checked_read.NumberAt.{NumberAt}
+use Rattle.wire.specs.declared.answer.Number.{Number}
 use Rattle.machines.specs.EmitAt.{pack_name}
 use Rattle.machines.proofs.CheckedReadLaws.{or-none}
 use Rattle.machines.proofs.RefusalNames.{all_left, all_right}
@@ -220,7 +220,7 @@ module _ (ns : List Name) (fresh : Fresh [] ns) (legal : All LegalName ns) (few 
       ap (λ (x : Act). act_locals_t ns s (tabled ns) made A.name offsets env outs last table rows x z) (act-to ns s at A q read).3
       ∙ ap (λ (i : ℕ). scope_locals_t ns s (tabled ns) made A.name offsets env outs (length A.branches) last table rows (length A.branches) read.to-else
       (branch_locals_t ns s (tabled ns) made A.name offsets env outs (length A.branches) last table rows 0 (length A.branches) i
-      (clock_locals_t ns s (tabled ns) made A.name 1 (length A.branches - 1) (flag_locals_t ns s (tabled ns) made A.name 0 (length A.branches) (holder_locals_t ns s (tabled ns) made A.name offsets table env 0 rows z))))) (ap (λ (x : NumberAt). x.next) (first-branch-to ns s at A q read))
+      (clock_locals_t ns s (tabled ns) made A.name 1 (length A.branches - 1) (flag_locals_t ns s (tabled ns) made A.name 0 (length A.branches) (holder_locals_t ns s (tabled ns) made A.name offsets table env 0 rows z))))) (ap (λ (x : Number). x.next) (first-branch-to ns s at A q read))
 
   -- THE LINK: all locals
   pub locals-known : (z : Left) → Leaves ns s (act_locals (sample_type ports A.outputs) (value_type ports A.outputs) A ps vars) z (act_locals_t ns s (tabled ns) made A.name offsets env outs last table rows (act_at ns s at) z)

@@ -18,7 +18,7 @@ use Rattle.pack_rules.specs.Forms.{name_at}
 use Rattle.pack_rules.specs.Read.{activation_in, name_in, node_in}
 use Rattle.pack.specs.Verdict.{SectionsAt}
 use Rattle.pack.proofs.Tables.{format_names}
-use Rattle.machines.specs.declared.checked_read.NumberAt.{NumberAt}
+use Rattle.wire.specs.declared.answer.Number.{Number}
 use Rattle.machines.specs.Sections.{node_names}
 use Rattle.machines.specs.OwnersAt.{fill_t, node_end, node_name_t, nth}
 use Rattle.machines.specs.CheckedReads.{number_in, with}
@@ -152,7 +152,7 @@ module _ (ns : List Name) (s : List ℕ) (short : length s ≤ 65536) (few : len
       let x = name-number ns s p A.name r.to-owner r.name in
       let o = name-number ns s r.to-owner A.owner r.to-outputs r.owner in
       let v : (number_in s (number_in s p).next).value ≡ o.i =
-      ap (λ (y : NumberAt). (number_in s y.next).value) (number-num s p x.i r.to-owner x.is) ∙ ap (λ (y : NumberAt). y.value) (number-num s r.to-owner o.i r.to-outputs o.is) in
+      ap (λ (y : Number). (number_in s y.next).value) (number-num s p x.i r.to-owner x.is) ∙ ap (λ (y : Number). y.value) (number-num s r.to-owner o.i r.to-outputs o.is) in
       let small-o : (number_in s (number_in s p).next).value < length ns = subst (λ y. y < length ns) (sym v) o.small in
       let named-o : name_at ns (number_in s (number_in s p).next).value ≡ A.owner = ap (name_at ns) v ∙ o.named in
       let f : named_t s nodes n (number_in s (number_in s p).next).value ≡ place N A.owner = found-place ns fresh (owners_t s nodes n) n N owners _ A.owner small-o named-o in
@@ -247,8 +247,8 @@ module _ (s : List ℕ) (k : Pack) (p : Package) (h : SectionsAt s k p) (bytes :
     -- THE LAW: of a pack that was read, the tables say where its nodes and activations stand; all are refused for their owner
     pub placed : (m n : ℕ) (acts₀ acts : List ℕ) → 39936 ≤ length acts₀ → m ≡ (number_in s k.nodes).value → n ≡ (number_in s k.activations).value → acts ≡ place_acts_t p.names s nodes m k.activations acts₀ → Placed s p m n nodes acts
     placed m n acts₀ acts long a b e =
-        let c : m ≡ length p.nodes = a ∙ ap (λ (y : NumberAt). y.value) (number-num s k.nodes (length p.nodes) (k.nodes + 2) nodes-read.0) in
-        let d : n ≡ length p.activations = b ∙ ap (λ (y : NumberAt). y.value) (number-num s k.activations (length p.activations) (k.activations + 2) acts-read.0) in
+        let c : m ≡ length p.nodes = a ∙ ap (λ (y : Number). y.value) (number-num s k.nodes (length p.nodes) (k.nodes + 2) nodes-read.0) in
+        let d : n ≡ length p.activations = b ∙ ap (λ (y : Number). y.value) (number-num s k.activations (length p.activations) (k.activations + 2) acts-read.0) in
         let small : length p.nodes < 65536 = omega (arith, nodes-few s k p h short) in
         let passed : acts ≡ pass_t (λ i. draw_t (length p.names) s nodes (length p.nodes)) (act_end p.names s) (length p.activations) 0 (k.activations + 2) acts₀ =
         e ∙ ap (λ y. place_acts_t p.names s nodes y k.activations acts₀) c ∙ acts-passed-are p.names s nodes (length p.nodes) k.activations (length p.activations) acts₀ acts-read.0 in

@@ -3,13 +3,13 @@
 use Prim.Native.Nat.{ℕ, ◌+◌}
 use mathlib.Core.List.{List}
 use mathlib.Core.Path.{◌≡◌, refl, sym, ap, ◌∙◌}
-use Rattle.machines.specs.declared.checked_read.NumberAt.{NumberAt}
+use Rattle.wire.specs.declared.answer.Number.{Number}
 use Rattle.machines.specs.CheckedReads.{number_in}
 use Rattle.machines.proofs.CheckedReadLaws.{no, on, yes}
 use Rattle.activations.specs.ActTable.{goal_t, made_t, spot_t}
 use Rattle.activations.specs.CountsAt.{adds_equations_t, adds_locals_t, equation_count_t}
 
-pub count-is : (s acts : List ℕ) (i at l : ℕ) (a o c : NumberAt) → at ≡ spot_t acts i → a ≡ number_in s at → o ≡ number_in s a.next → c ≡ number_in s o.next → l ≡ made_t acts i → l + c.value ≡ equation_count_t s acts i
+pub count-is : (s acts : List ℕ) (i at l : ℕ) (a o c : Number) → at ≡ spot_t acts i → a ≡ number_in s at → o ≡ number_in s a.next → c ≡ number_in s o.next → l ≡ made_t acts i → l + c.value ≡ equation_count_t s acts i
 unfolding equation_count_t
 count-is s acts i at l a o c e f g h d =
     on a _ _ _ (f ∙ ap (number_in s) e) (on o _ _ _ g (on c _ _ _ h (ap (λ y. y + c.value) d)))

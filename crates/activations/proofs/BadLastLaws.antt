@@ -5,7 +5,7 @@ use mathlib.Core.List.{List}
 use mathlib.Core.Bool.{Bool, true, false, ◌||◌}
 use mathlib.Core.Path.{◌≡◌, sym, ap, ◌∙◌}
 use Rattle.pack_rules.specs.Names.{Name}
-use Rattle.machines.specs.declared.checked_read.NumberAt.{NumberAt}
+use Rattle.wire.specs.declared.answer.Number.{Number}
 use Rattle.machines.specs.CheckedReads.{number_in}
 use Rattle.machines.proofs.CheckedReadLaws.{on}
 use Rattle.activations.specs.declared.parts.Act.{Act}
@@ -24,7 +24,7 @@ module _ (ns : List Name) (s : List ℕ) (last : ℕ) where
   unfolding has_bad_last_t
   bad-is at r e = e
 
-  pub condition-is : (at : ℕ) (i : NumberAt) (r : Bool) → i ≡ number_in s at → r ≡ has_bad_last_t ns s last i.next → r ≡ condition_has_bad_last_t ns s last at
+  pub condition-is : (at : ℕ) (i : Number) (r : Bool) → i ≡ number_in s at → r ≡ has_bad_last_t ns s last i.next → r ≡ condition_has_bad_last_t ns s last at
   unfolding condition_has_bad_last_t
   condition-is at i r e f = on i _ _ r e f
 
@@ -32,7 +32,7 @@ module _ (ns : List Name) (s : List ℕ) (last : ℕ) where
   unfolding equation_has_bad_last_t
   equation-is at e r f g = g ∙ ap (has_bad_last_t ns s last) f
 
-  pub scope-is : (at : ℕ) (c : NumberAt) (r : Bool) → c ≡ number_in s at → r ≡ any_t (equation_has_bad_last_t ns s last) (equation_end ns s) c.value c.next → r ≡ scope_has_bad_last_t ns s last at
+  pub scope-is : (at : ℕ) (c : Number) (r : Bool) → c ≡ number_in s at → r ≡ any_t (equation_has_bad_last_t ns s last) (equation_end ns s) c.value c.next → r ≡ scope_has_bad_last_t ns s last at
   unfolding scope_has_bad_last_t
   scope-is at c r e f = on c _ _ r e f
 
@@ -52,7 +52,7 @@ module _ (ns : List Name) (s : List ℕ) (last : ℕ) where
   unfolding any_bad_last_t
   all-third a x y r e f g h k = (λ i. (sym f ∙ e) i || ((sym h ∙ g) i || k i))
 
-pub branches-is : (ns : List Name) (s : List ℕ) (f : ℕ → Bool) (at : ℕ) (c : NumberAt) (r : Bool) → c ≡ number_in s at → r ≡ any_t f (branch_end ns s) c.value c.next → r ≡ any_branch_t ns s f at
+pub branches-is : (ns : List Name) (s : List ℕ) (f : ℕ → Bool) (at : ℕ) (c : Number) (r : Bool) → c ≡ number_in s at → r ≡ any_t f (branch_end ns s) c.value c.next → r ≡ any_branch_t ns s f at
 unfolding any_branch_t
 branches-is ns s f at c r e g = on c _ _ r e g
 

@@ -19,7 +19,7 @@ use Rattle.pack_rules.specs.Report.{Refusal, as_refusal, first_of}
 use Rattle.pack_rules.specs.Read.{activation_in, branch_in, equation_in, equations_in, name_in, names_in, port_in, ports_in, type_in}
 use Rattle.machine_rules.specs.Checks.{repeated}
 use Rattle.machine_rules.specs.Lower.{is_only, is_some, own_value}
-use Rattle.machines.specs.declared.checked_read.NumberAt.{NumberAt}
+use Rattle.wire.specs.declared.answer.Number.{Number}
 use Rattle.machines.specs.CheckedReads.{number_in, with}
 use Rattle.machines.proofs.Covered.{lhs-link}
 use Rattle.machines.proofs.NamesPlaced.{alone}
@@ -229,7 +229,7 @@ module _ (ns : List Name) (fresh : Fresh [] ns) (s : List ℕ) where
   named-at (suc n) p (b ∷ bs) q zero e h =
       let a = many_more (branch_in ns s) n p b bs q e in
       let i = branch-number-to ns s p b a.0 (branch-value ns s p b a.0 a.1) in
-      (i.0, i.1, i.2, ap (λ (y : NumberAt). y.value) i.3)
+      (i.0, i.1, i.2, ap (λ (y : Number). y.value) i.3)
   named-at (suc n) p (b ∷ bs) q (suc j) e h =
       let a = many_more (branch_in ns s) n p b bs q e in
       let u = named-at n a.0 bs q j a.2 (omega arith) in
@@ -442,7 +442,7 @@ module _ (ns : List Name) (fresh : Fresh [] ns) (s : List ℕ) where
           many-outputs : (number_in s act.outputs).value ≡ length A.outputs
           many-outputs =
               let c = counted-value (port_in ns s) s r.to-outputs A.outputs r.to-branches r.outputs in
-              ap (λ (y : Act). (number_in s y.outputs).value) act-is.1 ∙ ap (λ (y : NumberAt). y.value) (number-num s r.to-outputs (length A.outputs) c.0 c.1)
+              ap (λ (y : Act). (number_in s y.outputs).value) act-is.1 ∙ ap (λ (y : Number). y.value) (number-num s r.to-outputs (length A.outputs) c.0 c.1)
 
           rest : refusal_by ns A.name (cond (ltb (repeated_in ns s act.branches t) (length ns)) (refused_t 12 (repeated_in ns s act.branches t) (length ns)) (or_else_t ns s (in_scopes_t ns s act u) (cond (any_bad_last_t ns s last act) (refused_t 14 (length ns) (length ns)) (refused_t 0 (length ns) (length ns)))))
               ≡ first_of (as_refusal (λ b. duplicate_branch A.name b) (repeated [] (branch_names A.branches))) (first_of (in_scopes A A.outputs) (misuse A))
@@ -458,7 +458,7 @@ module _ (ns : List Name) (fresh : Fresh [] ns) (s : List ℕ) where
     nameless-at p e q d =
         let b = equation-value ns s p e q d in
         let c = counted-value (name_in ns s) s p e.lhs b.to-rhs b.lhs in
-        ap (λ (y : NumberAt). eqb y.value 0) (number-num s p (length e.lhs) c.0 c.1) ∙ go e.lhs
+        ap (λ (y : Number). eqb y.value 0) (number-num s p (length e.lhs) c.0 c.1) ∙ go e.lhs
       where
         go : (l : List Name) → eqb (length l) 0 ≡ nameless l
         go [] = refl

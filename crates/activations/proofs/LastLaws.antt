@@ -10,7 +10,7 @@ use borrow.Author.Tests.{le-ltb, lt-ltb}
 use types.Run.{OneOf}
 use denote.Enum.Declared.{tag_of}
 use Rattle.pack_rules.specs.Names.{Name}
-use Rattle.machines.specs.declared.checked_read.NumberAt.{NumberAt}
+use Rattle.wire.specs.declared.answer.Number.{Number}
 use Rattle.machines.specs.CheckedReads.{number_in}
 use Rattle.machines.proofs.CheckedReadLaws.{no, on, yes}
 use Rattle.activations.specs.contracts.expr_node.ExprNode as Met-enum
@@ -99,7 +99,7 @@ module _ (ns : List Name) (s : List ℕ) (last : ℕ) where
   unfolding find_lasts_t
   seek-done n p at z y l e = ended ns s last find_step n p z _ l e
 
-  pub condition-sought : (at : ℕ) (i : NumberAt) (z y : Rows) → i ≡ number_in s at → z ≡ find_lasts_t ns s last i.next y → z ≡ find_in_condition_t ns s last at y
+  pub condition-sought : (at : ℕ) (i : Number) (z y : Rows) → i ≡ number_in s at → z ≡ find_lasts_t ns s last i.next y → z ≡ find_in_condition_t ns s last at y
   unfolding find_in_condition_t
   condition-sought at i z y e f = on i _ _ z e f
 
@@ -111,7 +111,7 @@ module _ (ns : List Name) (s : List ℕ) (last : ℕ) where
   unfolding find_in_body_t
   body-sought at e z y f g = g ∙ ap (λ x. find_in_scope_t ns s last x y) f
 
-  pub scope-sought : (at : ℕ) (c : NumberAt) (n p : ℕ) (z y : Rows) → c ≡ number_in s at → n ≤ 0 → each_of (find_in_equation_t ns s last) (equation_end ns s) n p z ≡ each_of (find_in_equation_t ns s last) (equation_end ns s) c.value c.next y → z ≡ find_in_scope_t ns s last at y
+  pub scope-sought : (at : ℕ) (c : Number) (n p : ℕ) (z y : Rows) → c ≡ number_in s at → n ≤ 0 → each_of (find_in_equation_t ns s last) (equation_end ns s) n p z ≡ each_of (find_in_equation_t ns s last) (equation_end ns s) c.value c.next y → z ≡ find_in_scope_t ns s last at y
   unfolding find_in_scope_t
   scope-sought at c n p z y e l h = on c _ _ z e (each-end (find_in_equation_t ns s last) (equation_end ns s) n p z _ l h)
 
@@ -119,6 +119,6 @@ module _ (ns : List Name) (s : List ℕ) (last : ℕ) where
   unfolding find_all_lasts_t
   all-sought a x y z w e f g = g ∙ ap (find_in_scope_t ns s last a.other) (f ∙ ap (each_branch_t ns s (find_in_body_t ns s last) a.branches) e)
 
-pub branches-done : {S : Type 0} (ns : List Name) (s : List ℕ) (f : ℕ → S → S) (at : ℕ) (c : NumberAt) (n p : ℕ) (z y : S) → c ≡ number_in s at → n ≤ 0 → each_of f (branch_end ns s) n p z ≡ each_of f (branch_end ns s) c.value c.next y → z ≡ each_branch_t ns s f at y
+pub branches-done : {S : Type 0} (ns : List Name) (s : List ℕ) (f : ℕ → S → S) (at : ℕ) (c : Number) (n p : ℕ) (z y : S) → c ≡ number_in s at → n ≤ 0 → each_of f (branch_end ns s) n p z ≡ each_of f (branch_end ns s) c.value c.next y → z ≡ each_branch_t ns s f at y
 unfolding each_branch_t
 branches-done ns s f at c n p z y e l h = on c _ _ z e (each-end f (branch_end ns s) n p z _ l h)

@@ -16,7 +16,7 @@ use Rattle.pack_rules.specs.Read.{port_in}
 use Rattle.pack_rules.specs.Write.{Item, expr_items, nm, raw}
 use Rattle.pack.specs.Intern.{put_item, put_name, render}
 use Rattle.pack.proofs.Interns.{render-append}
-use Rattle.machines.specs.declared.checked_read.NumberAt.{NumberAt}
+use Rattle.wire.specs.declared.answer.Number.{Number}
 use Rattle.machines.specs.ResolvedIn.{end_of}
 use Rattle.machines.specs.CheckedReads.{number_in}
 use Rattle.machines.specs.EmitAt.{pack_name}
@@ -88,12 +88,12 @@ module _ (old : List ℕ) (ns : List Name) (sb offsets : List ℕ) (a : Name) (c
   merges-step n p s = render-append old (merge_items a (number_in sb p).value (pack_name sb offsets (number_in sb p).value) cs) (merges_t ns sb offsets a cs n (end_of (port_in ns sb p))) s
 
   -- the loop over outputs: one more, and the end
-  pub merges-more : (n p k r : ℕ) (x : NumberAt) (y : Name) (o m : List ℕ) (w : Writer) (s z : State) → 0 < n → x ≡ number_in sb p → y ≡ pack_name sb offsets x.value → state_of o m w ≡ render old (merge_items a x.value y cs) s → r ≡ end_of (port_in ns sb p) → k ≡ cond w.full 0 (n - 1) → render old (merges_t ns sb offsets a cs n p) s ≡ z → render old (merges_t ns sb offsets a cs k r) (state_of o m w) ≡ z
+  pub merges-more : (n p k r : ℕ) (x : Number) (y : Name) (o m : List ℕ) (w : Writer) (s z : State) → 0 < n → x ≡ number_in sb p → y ≡ pack_name sb offsets x.value → state_of o m w ≡ render old (merge_items a x.value y cs) s → r ≡ end_of (port_in ns sb p) → k ≡ cond w.full 0 (n - 1) → render old (merges_t ns sb offsets a cs n p) s ≡ z → render old (merges_t ns sb offsets a cs k r) (state_of o m w) ≡ z
   merges-more zero p k r x y o m w s z l e f b c g h = absurd (omega arith)
   merges-more (suc n) p k r x y o m w s z l e f b c g h =
       let j : suc n - 1 ≡ n = omega arith in
       left-same old (λ i. merges_t ns sb offsets a cs i r) o m w n k (g ∙ ap (cond w.full 0) j)
-      ∙ (λ i. render old (merges_t ns sb offsets a cs n (c i)) ((b ∙ ap (λ (u : Name). render old (merge_items a x.value u cs) s) f ∙ ap (λ (u : NumberAt). render old (merge_items a u.value (pack_name sb offsets u.value) cs) s) e) i))
+      ∙ (λ i. render old (merges_t ns sb offsets a cs n (c i)) ((b ∙ ap (λ (u : Name). render old (merge_items a x.value u cs) s) f ∙ ap (λ (u : Number). render old (merge_items a u.value (pack_name sb offsets u.value) cs) s) e) i))
       ∙ sym (merges-step n p s) ∙ h
 
   pub merges-none : (n p : ℕ) (s z : State) → n ≤ 0 → render old (merges_t ns sb offsets a cs n p) s ≡ z → s ≡ z
@@ -101,6 +101,6 @@ module _ (old : List ℕ) (ns : List Name) (sb offsets : List ℕ) (a : Name) (c
   merges-none zero p s z l h = h
   merges-none (suc n) p s z l h = absurd (omega arith)
 
-  pub merges-is : (at : ℕ) (c : NumberAt) (s : State) → c ≡ number_in sb at → render old (merges_t ns sb offsets a cs c.value c.next) s ≡ render old (port_merges_t ns sb offsets a cs at) s
+  pub merges-is : (at : ℕ) (c : Number) (s : State) → c ≡ number_in sb at → render old (merges_t ns sb offsets a cs c.value c.next) s ≡ render old (port_merges_t ns sb offsets a cs at) s
   unfolding port_merges_t
   merges-is at c s e = ap (λ (is : List Item). render old is s) (on c (number_in sb at) (λ n p. merges_t ns sb offsets a cs n p) _ e refl)

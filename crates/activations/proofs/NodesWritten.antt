@@ -21,7 +21,7 @@ use Rattle.pack.specs.Intern.{render}
 use Rattle.pack.proofs.Interns.{render-append}
 use Rattle.pack.proofs.Written.{render-full}
 use Rattle.pack.proofs.Copies.{Lies, lies-both, lies-equations, lies-equations-rest, lies-head, lies-ports, lies-ports-rest}
-use Rattle.machines.specs.declared.checked_read.NumberAt.{NumberAt}
+use Rattle.wire.specs.declared.answer.Number.{Number}
 use Rattle.machines.specs.AddedAt.{node_equations_in, node_locals_in, total_t}
 use Rattle.machines.specs.ReceivingNodes.{Idle}
 use Rattle.machines.specs.Layout.{slice_of}
@@ -124,7 +124,7 @@ module _ (ns : List Name) (es : List Enum) (old s offsets : List ℕ) (b : PackI
       ∙ render-append old (front_of m) ls z
 
   -- by what the code found: where locals stand, where equations do, how many there are
-  pub head-written : (l e : ℕ) (c : NumberAt) (more : ℕ) (us vs : List ℕ) (z₀ z₁ z₂ z₃ z₄ : State) → l ≡ node_locals_in ns s at → e ≡ end_of (ports_in ns s l) → c ≡ number_in s l → more ≡ total_t (adds_locals_t acts k) n 0
+  pub head-written : (l e : ℕ) (c : Number) (more : ℕ) (us vs : List ℕ) (z₀ z₁ z₂ z₃ z₄ : State) → l ≡ node_locals_in ns s at → e ≡ end_of (ports_in ns s l) → c ≡ number_in s l → more ≡ total_t (adds_locals_t acts k) n 0
       → us ≡ slice_of s at (l - at) → z₁ ≡ puts us z₀ → z₂ ≡ puts (two (c.value + more)) z₁ → vs ≡ slice_of s c.next (e - c.next) → z₃ ≡ puts vs z₂ → z₄ ≡ render old (each port_items (brought es (node_names N) ports_of k As m)) z₃
       → z₄ ≡ render old (head_items (joined es (node_names N) k As m)) z₀
   unfolding ports_in extend
@@ -141,7 +141,7 @@ module _ (ns : List Name) (es : List Enum) (old s offsets : List ℕ) (b : PackI
       ∙ copied ns s old offsets P (r.to-locals + 2) (each port_items m.locals) r.to-equations (lies-ports-rest ns P.fresh P.few s P.bytes r.to-locals m.locals r.to-equations r.locals) z₂ in
       goes_on old port_items m.locals (brought es names ports_of k As m) (total_t (adds_locals_t acts k) n 0) (C.locals ∙ ap (λ (x : Node). two (length x.locals)) (joined_is es names k As m)) (render old (front_of m) z₀) z₂ z₃ z₄ w₂ w₃ f₄ ∙ sym (head-is z₀)
 
-  pub tail_written : (e q : ℕ) (c : NumberAt) (more : ℕ) (vs : List ℕ) (z₀ z₁ z₂ z₃ : State) → e ≡ node_equations_in ns s at → q ≡ end_of (equations_in ns s e) → c ≡ number_in s e → more ≡ total_t (adds_equations_t s acts k) n 0
+  pub tail_written : (e q : ℕ) (c : Number) (more : ℕ) (vs : List ℕ) (z₀ z₁ z₂ z₃ : State) → e ≡ node_equations_in ns s at → q ≡ end_of (equations_in ns s e) → c ≡ number_in s e → more ≡ total_t (adds_equations_t s acts k) n 0
       → z₁ ≡ puts (two (c.value + more)) z₀ → vs ≡ slice_of s c.next (q - c.next) → z₂ ≡ puts vs z₁ → z₃ ≡ render old (each equation_items (brought es (node_names N) equations_of k As m)) z₂
       → z₃ ≡ render old (tail_items (joined es (node_names N) k As m)) z₀
   unfolding tail_items extend equations_in

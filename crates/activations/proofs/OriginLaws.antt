@@ -12,7 +12,7 @@ use Rattle.pack_rules.specs.Names.{Name}
 use Rattle.pack.specs.Intern.{put_item, put_name, render}
 use Rattle.pack_rules.specs.Write.{Item, nm, raw}
 use Rattle.pack.proofs.Interns.{render-append}
-use Rattle.machines.specs.declared.checked_read.NumberAt.{NumberAt}
+use Rattle.wire.specs.declared.answer.Number.{Number}
 use Rattle.machines.specs.AddedAt.{node_equations_in, total_t}
 use Rattle.machines.specs.CheckedReads.{number_in}
 use Rattle.machines.proofs.RowLaws.{left-same}
@@ -34,13 +34,13 @@ module _ (ns : List Name) (s : List ℕ) where
   branches-step old n p z = refl
 
   -- a loop over branches: one more, and the end
-  pub branches-more : (old : List ℕ) (n k p q : ℕ) (i : NumberAt) (o m : List ℕ) (w : Writer) (y z : State) → 0 < n → i ≡ number_in s p → state_of o m w ≡ puts (two i.value) y → q ≡ branch_end ns s p → k ≡ cond w.full 0 (n - 1)
+  pub branches-more : (old : List ℕ) (n k p q : ℕ) (i : Number) (o m : List ℕ) (w : Writer) (y z : State) → 0 < n → i ≡ number_in s p → state_of o m w ≡ puts (two i.value) y → q ≡ branch_end ns s p → k ≡ cond w.full 0 (n - 1)
       → render old (branches_t ns s n p) y ≡ z → render old (branches_t ns s k q) (state_of o m w) ≡ z
   branches-more old zero k p q i o m w y z l a b c d e = absurd (omega arith)
   branches-more old (suc n) k p q i o m w y z l a b c d e =
       let j : suc n - 1 ≡ n = omega arith in
       left-same old (λ x. branches_t ns s x q) o m w n k (d ∙ ap (cond w.full 0) j)
-      ∙ (λ x. render old (branches_t ns s n (c x)) ((b ∙ ap (λ (u : NumberAt). puts (two u.value) y) a) x))
+      ∙ (λ x. render old (branches_t ns s n (c x)) ((b ∙ ap (λ (u : Number). puts (two u.value) y) a) x))
       ∙ sym (branches-step old n p y) ∙ e
 
   pub branches-done : (old : List ℕ) (n p : ℕ) (y z : State) → n ≤ 0 → render old (branches_t ns s n p) y ≡ z → y ≡ z
@@ -49,7 +49,7 @@ module _ (ns : List Name) (s : List ℕ) where
   branches-done old (suc n) p y z l e = absurd (omega arith)
 
   -- the names of all scopes
-  pub scopes-put : (old : List ℕ) (a : Act) (f : NumberAt) (y z : State) → f ≡ number_in s a.branches → y ≡ render old (branches_t ns s f.value f.next) (puts (two (f.value + 1)) z) → put_name old (101 ∷ 108 ∷ 115 ∷ 101 ∷ []) y ≡ render old (scope_names_t ns s a) z
+  pub scopes-put : (old : List ℕ) (a : Act) (f : Number) (y z : State) → f ≡ number_in s a.branches → y ≡ render old (branches_t ns s f.value f.next) (puts (two (f.value + 1)) z) → put_name old (101 ∷ 108 ∷ 115 ∷ 101 ∷ []) y ≡ render old (scope_names_t ns s a) z
   unfolding scope_names_t else_name render put_item
   scopes-put old a f y z e g =
       ap (put_name old (101 ∷ 108 ∷ 115 ∷ 101 ∷ [])) g
@@ -58,13 +58,13 @@ module _ (ns : List Name) (s : List ℕ) where
 
   -- an origin
   module _ (nodes acts : List ℕ) (i : ℕ) where
-    pub first-is : (k n q b : ℕ) (e : NumberAt) → k ≡ goal_t acts i → n ≡ get_or nodes k 0 → q ≡ node_equations_in ns s n → e ≡ number_in s q → b ≡ total_t (adds_equations_t s acts k) i 0 → e.value + b ≡ first_t ns s nodes acts i
+    pub first-is : (k n q b : ℕ) (e : Number) → k ≡ goal_t acts i → n ≡ get_or nodes k 0 → q ≡ node_equations_in ns s n → e ≡ number_in s q → b ≡ total_t (adds_equations_t s acts k) i 0 → e.value + b ≡ first_t ns s nodes acts i
     unfolding first_t
     first-is k n q b e a c d f g =
         let h : e ≡ number_in s (node_equations_in ns s (get_or nodes (goal_t acts i) 0)) = f ∙ ap (number_in s) (d ∙ ap (node_equations_in ns s) (c ∙ ap (λ x. get_or nodes x 0) a)) in
         λ j. (h j).value + (g ∙ ap (λ x. total_t (adds_equations_t s acts x) i 0) a) j
 
-    pub origin-is : (old : List ℕ) (at f m : ℕ) (a o : NumberAt) (t : Act) (x y z : State) → at ≡ spot_t acts i → a ≡ number_in s at → o ≡ number_in s a.next → f ≡ first_t ns s nodes acts i → m ≡ equation_count_t s acts i → t ≡ act_at ns s (spot_t acts i)
+    pub origin-is : (old : List ℕ) (at f m : ℕ) (a o : Number) (t : Act) (x y z : State) → at ≡ spot_t acts i → a ≡ number_in s at → o ≡ number_in s a.next → f ≡ first_t ns s nodes acts i → m ≡ equation_count_t s acts i → t ≡ act_at ns s (spot_t acts i)
         → y ≡ render old (numbers_t o.value a.value f m) z → x ≡ render old (scope_names_t ns s t) y → x ≡ render old (origin_t ns s nodes acts i) z
     unfolding origin_t
     origin-is old at f m a o t x y z e g h k l n b c =

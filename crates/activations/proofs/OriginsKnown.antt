@@ -20,7 +20,7 @@ use Rattle.pack_rules.specs.Write.{Item, each, list, name_items, nm, origin_byte
 use Rattle.pack.specs.Table.{tabled}
 use Rattle.pack.proofs.Interns.{render-append}
 use Rattle.pack.proofs.Tables.{eq_name-true}
-use Rattle.machines.specs.declared.checked_read.NumberAt.{NumberAt}
+use Rattle.wire.specs.declared.answer.Number.{Number}
 use Rattle.machines.specs.AddedAt.{each_t, node_equations_in, total_t}
 use Rattle.machine_rules.specs.Machines.{origin_of}
 use Rattle.machines.specs.Sections.{node_names}
@@ -98,7 +98,7 @@ module _ (ns : List Name) (s old offsets : List ℕ) (P : PackOf ns s old offset
       let a = many_more (branch_in ns s) n p b bs q e in
       let r = branch-value ns s p b a.0 a.1 in
       let i = branch-number-to ns s p b a.0 r in
-      let v : puts (two (number_in s p).value) z ≡ put_name (tabled ns) b.name z = ap (λ (y : NumberAt). puts (two y.value) z) i.3 ∙ by_number i.0 b.name i.1 i.2 z in
+      let v : puts (two (number_in s p).value) z ≡ put_name (tabled ns) b.name z = ap (λ (y : Number). puts (two y.value) z) i.3 ∙ by_number i.0 b.name i.1 i.2 z in
       let d : branch_end ns s p ≡ a.0 = branch-end-to ns s p b a.0 r in
       (λ j. render (tabled ns) (branches_t ns s n (d j)) (v j)) ∙ branches-known n a.0 bs q (put_name (tabled ns) b.name z) a.2
 
@@ -171,7 +171,7 @@ module _ (ns : List Name) (s old offsets : List ℕ) (P : PackOf ns s old offset
           let e : node_in ns s at ≡ value its.node h.end = ap (λ j. node_in ns s (get_or nodes j 0)) (sym z) ∙ h.read in
           let r = node-value ns s at its.node h.end e in
           ap (λ y. (number_in s y).value) (node-equations-to ns s at its.node h.end r)
-          ∙ ap (λ (y : NumberAt). y.value) (equations-number ns s old offsets P r.to-equations its.node.equations h.end r.equations).0
+          ∙ ap (λ (y : Number). y.value) (equations-number ns s old offsets P r.to-equations its.node.equations h.end r.equations).0
 
       -- how many equations its node has before it
       first-known : (q : ℕ) × (length owned.owner.equations ≡ first_t ns s nodes acts (length before) + 65536 * q)

@@ -19,7 +19,7 @@ use Rattle.pack_rules.specs.Report.{Refusal, entries, report_bytes}
 use Rattle.pack_rules.specs.Outcome.{reported}
 use Rattle.pack_rules.specs.Write.{enc}
 use Rattle.pack.proofs.Tables.{all_append}
-use Rattle.machines.specs.declared.checked_read.NumberAt.{NumberAt}
+use Rattle.wire.specs.declared.answer.Number.{Number}
 use Rattle.machines.specs.AddedAt.{total_t}
 use Rattle.machine_rules.specs.Call.{report_or_pack}
 use Rattle.machines.specs.ReportEntries.{called_of, entry_bytes, names_of}
@@ -122,7 +122,7 @@ module _ (ns : List Name) (s old offsets : List ℕ) (P : PackOf ns s old offset
         let d = drawn before A post e in
         let r = activation-value ns s (spot_t acts (length before)) A d.end d.read in
         let n = name-number ns s (spot_t acts (length before)) A.name r.to-owner r.name in
-        let v : (number_in s (spot_t acts (length before))).value ≡ n.i = ap (λ (y : NumberAt). y.value) (number-num s (spot_t acts (length before)) n.i r.to-owner n.is) in
+        let v : (number_in s (spot_t acts (length before))).value ≡ n.i = ap (λ (y : Number). y.value) (number-num s (spot_t acts (length before)) n.i r.to-owner n.is) in
         row_by A.name (refusal_t acts (length before)) (entry_bytes s offsets else_name (number_in s (spot_t acts (length before))).value (judged_as (length ns) (refusal_t acts (length before)))) (made_t acts (length before)) _
         (fates before A post e) (fate-kind es A (owner_of es N before A))
         (λ k. ap (λ y. entry_bytes s offsets else_name y (judged_as (length ns) (refusal_t acts (length before)))) v ∙ entry-by n.i A.name (refusal_t acts (length before)) n.small n.named k)

@@ -7,7 +7,7 @@ use lib.ListN.{length}
 use borrow.Author.Tests.{eq-eqb, le-ltb, lt-ltb, ne_eqb}
 use Rattle.machines.specs.declared.verdicts.NameRef.{NameRef}
 use Rattle.machines.specs.declared.verdicts.VerdictRow.{VerdictRow}
-use Rattle.machines.specs.declared.checked_read.NumberAt.{NumberAt}
+use Rattle.wire.specs.declared.answer.Number.{Number}
 use Rattle.machines.specs.ReportEntries.{entry_bytes}
 use Rattle.machines.specs.VerdictAt.{named, no_name, refused_by}
 use Rattle.machines.specs.ReportAt.{bytes_t}
@@ -55,7 +55,7 @@ module _ (acts : List ℕ) (i : ℕ) (r : Refused) (e : r ≡ refusal_t acts i) 
     unfolding entry_t
     entry-none h = rw (eq-eqb (refusal_t acts i).kind 0 (no_kind h))
 
-    pub entry-some : (at : ℕ) (a : NumberAt) (j : VerdictRow) → (r.kind ≡ 0 → ⊥) → at ≡ spot_t acts i → a ≡ number_in s at → j ≡ judged_as names r → entry_bytes s offsets (101 ∷ 108 ∷ 115 ∷ 101 ∷ []) a.value j ≡ entry_t names s offsets acts i
+    pub entry-some : (at : ℕ) (a : Number) (j : VerdictRow) → (r.kind ≡ 0 → ⊥) → at ≡ spot_t acts i → a ≡ number_in s at → j ≡ judged_as names r → entry_bytes s offsets (101 ∷ 108 ∷ 115 ∷ 101 ∷ []) a.value j ≡ entry_t names s offsets acts i
     unfolding entry_t else_name
     entry-some at a j h f g d =
         rw (ne_eqb (refusal_t acts i).kind 0 (some-kind h))

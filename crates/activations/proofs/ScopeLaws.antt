@@ -16,7 +16,7 @@ use Rattle.pack_rules.specs.Write.{Item, raw}
 use Rattle.pack.specs.Intern.{put_item, put_name, render}
 use Rattle.pack.proofs.Interns.{render-append}
 use Rattle.pack.proofs.Written.{render-full}
-use Rattle.machines.specs.declared.checked_read.NumberAt.{NumberAt}
+use Rattle.wire.specs.declared.answer.Number.{Number}
 use Rattle.machines.specs.ResolvedIn.{end_of}
 use Rattle.machines.specs.CheckedReads.{number_in, with}
 use Rattle.machines.specs.Fingerprints.{among}
@@ -143,7 +143,7 @@ module _ (old s offsets : List ℕ) (names : ℕ) (made : Bool) (ns : List Name)
     equations-end zero p sampled z t l e = e
     equations-end (suc c) p sampled z t l e = absurd (omega arith)
 
-    pub scope-is : (at : ℕ) (f : NumberAt) (r z : State) → f ≡ number_in s at → r ≡ equations_t old s offsets names made ns last lasts rows env outs a n k f.value f.next [] z → r ≡ scope_t old s offsets names made ns last lasts rows env outs a n k at z
+    pub scope-is : (at : ℕ) (f : Number) (r z : State) → f ≡ number_in s at → r ≡ equations_t old s offsets names made ns last lasts rows env outs a n k f.value f.next [] z → r ≡ scope_t old s offsets names made ns last lasts rows env outs a n k at z
     unfolding scope_t
     scope-is at f r z e g = on f _ _ r e g
 
@@ -174,6 +174,6 @@ module _ (old s offsets : List ℕ) (names : ℕ) (made : Bool) (ns : List Name)
   branches-end k zero p z t l e = e
   branches-end k (suc c) p z t l e = absurd (omega arith)
 
-  pub scopes-are : (branches other : ℕ) (f : NumberAt) (r y z : State) → f ≡ number_in s branches → y ≡ branches_t old s offsets names made ns last lasts rows env outs a n 0 n f.next z → r ≡ scope_t old s offsets names made ns last lasts rows env outs a n n other y → r ≡ scopes_t old s offsets names made ns last lasts rows env outs a n branches other z
+  pub scopes-are : (branches other : ℕ) (f : Number) (r y z : State) → f ≡ number_in s branches → y ≡ branches_t old s offsets names made ns last lasts rows env outs a n 0 n f.next z → r ≡ scope_t old s offsets names made ns last lasts rows env outs a n n other y → r ≡ scopes_t old s offsets names made ns last lasts rows env outs a n branches other z
   unfolding scopes_t
-  scopes-are branches other f r y z e g h = h ∙ ap (scope_t old s offsets names made ns last lasts rows env outs a n n other) (g ∙ ap (λ (x : NumberAt). branches_t old s offsets names made ns last lasts rows env outs a n 0 n x.next z) e)
+  scopes-are branches other f r y z e g h = h ∙ ap (scope_t old s offsets names made ns last lasts rows env outs a n n other) (g ∙ ap (λ (x : Number). branches_t old s offsets names made ns last lasts rows env outs a n 0 n x.next z) e)

@@ -9,7 +9,7 @@ use lib.Seq.{drop-cons}
 use Rattle.wire.specs.Writer.{State, puts, st}
 use Rattle.pack_rules.specs.Names.{Name}
 use Rattle.pack_rules.specs.Read.{expr_in}
-use Rattle.machines.specs.declared.checked_read.NumberAt.{NumberAt}
+use Rattle.wire.specs.declared.answer.Number.{Number}
 use Rattle.machines.specs.ResolvedIn.{end_of}
 use Rattle.machines.specs.CheckedReads.{number_in}
 use Rattle.machines.specs.Fingerprints.{among}
@@ -82,7 +82,7 @@ module _ (ns : List Name) (s old : List ℕ) (made : Bool) (a : Name) (offsets e
     equations-over k zero p sampled z t l r = r
     equations-over k (suc c) p sampled z t l r = absurd (omega arith)
 
-    pub scope-locals-are : (k at : ℕ) (f : NumberAt) (u z : Left) → f ≡ number_in s at → u ≡ equation_locals_t ns s old made a offsets env outs n last lasts rows k f.value f.next [] z → u ≡ scope_locals_t ns s old made a offsets env outs n last lasts rows k at z
+    pub scope-locals-are : (k at : ℕ) (f : Number) (u z : Left) → f ≡ number_in s at → u ≡ equation_locals_t ns s old made a offsets env outs n last lasts rows k f.value f.next [] z → u ≡ scope_locals_t ns s old made a offsets env outs n last lasts rows k at z
     unfolding scope_locals_t
     scope-locals-are k at f u z e g = on f _ _ _ e g
 
@@ -100,7 +100,7 @@ module _ (ns : List Name) (s old : List ℕ) (made : Bool) (a : Name) (offsets e
     branches-over k zero p z t l r = r
     branches-over k (suc c) p z t l r = absurd (omega arith)
 
-pub act-locals-are : (ns : List Name) (s old : List ℕ) (made : Bool) (a : Name) (offsets env outs : List ℕ) (last : ℕ) (lasts : List ℕ) (rows : ℕ) (A : Act) (f : NumberAt) (z u v w x y : Left) → f ≡ number_in s A.branches → u ≡ holder_locals_t ns s old made a offsets lasts env 0 rows z → v ≡ flag_locals_t ns s old made a 0 A.n u → w ≡ clock_locals_t ns s old made a 1 (A.n - 1) v
+pub act-locals-are : (ns : List Name) (s old : List ℕ) (made : Bool) (a : Name) (offsets env outs : List ℕ) (last : ℕ) (lasts : List ℕ) (rows : ℕ) (A : Act) (f : Number) (z u v w x y : Left) → f ≡ number_in s A.branches → u ≡ holder_locals_t ns s old made a offsets lasts env 0 rows z → v ≡ flag_locals_t ns s old made a 0 A.n u → w ≡ clock_locals_t ns s old made a 1 (A.n - 1) v
     → x ≡ branch_locals_t ns s old made a offsets env outs A.n last lasts rows 0 A.n f.next w → y ≡ scope_locals_t ns s old made a offsets env outs A.n last lasts rows A.n A.other x → y ≡ act_locals_t ns s old made a offsets env outs last lasts rows A z
 unfolding act_locals_t
 act-locals-are ns s old made a offsets env outs last lasts rows A f z u v w x y e g h i j k =

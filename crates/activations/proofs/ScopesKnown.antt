@@ -21,7 +21,7 @@ use Rattle.pack.specs.Intern.{put_item, put_name, render}
 use Rattle.pack.proofs.Interns.{render-append}
 use Rattle.pack.proofs.Tables.{all_append}
 use Rattle.machines.specs.Fingerprints.{among}
-use Rattle.machines.specs.declared.checked_read.NumberAt.{NumberAt}
+use Rattle.wire.specs.declared.answer.Number.{Number}
 use Rattle.machines.specs.EmitAt.{pack_name}
 use Rattle.machines.proofs.LocalLaws.{each_append}
 use Rattle.machines.proofs.Reading.{many-cut, many_more, many-over, name-number}
@@ -272,7 +272,7 @@ module _ (ns : List Name) (fresh : Fresh [] ns) (legal : All LegalName ns) (few 
       → scopes_t (tabled ns) s offsets (length ns) made ns last lasts rows env outs a n branches to z ≡ render (tabled ns) (each equation_items (branch_equations a n vars 0 bs ++ scope_equations a n vars else_scope [] es)) z
   unfolding scopes_t
   scopes-known branches b bs to es q z c d e f g =
-      ap (λ (x : NumberAt). scope_t (tabled ns) s offsets (length ns) made ns last lasts rows env outs a n n to (branches_t (tabled ns) s offsets (length ns) made ns last lasts rows env outs a n 0 n x.next z)) (number-num s branches n b c)
+      ap (λ (x : Number). scope_t (tabled ns) s offsets (length ns) made ns last lasts rows env outs a n n to (branches_t (tabled ns) s offsets (length ns) made ns last lasts rows env outs a n 0 n x.next z)) (number-num s branches n b c)
       ∙ ap (scope_t (tabled ns) s offsets (length ns) made ns last lasts rows env outs a n n to) (branches-known 0 n b bs to z d (omega arith) f)
       ∙ scope-known n to es q (render (tabled ns) (each equation_items (branch_equations a n vars 0 bs)) z) e g
       ∙ ap (λ (t : Scope). render (tabled ns) (each equation_items (scope_equations a n vars t [] es)) (render (tabled ns) (each equation_items (branch_equations a n vars 0 bs)) z)) (scope-else n n (omega arith))

@@ -21,7 +21,7 @@ use Rattle.pack.proofs.TypeFormats.{Fmt}
 use Rattle.pack.proofs.PartFormats.{ShapedEnum, ShapedMachine, ShapedOrigin, fmt_enum, fmt_machine, fmt_origin}
 use Rattle.pack.proofs.Bounds.{w-enum_in, w-machine_in, w-origin_in}
 use Rattle.pack.proofs.Copies.{lies-list, lies-rest}
-use Rattle.machines.specs.declared.checked_read.NumberAt.{NumberAt}
+use Rattle.wire.specs.declared.answer.Number.{Number}
 use Rattle.machines.specs.AddedAt.{each_t}
 use Rattle.machines.specs.Layout.{slice_of}
 use Rattle.machines.specs.Sections.{node_names}
@@ -85,7 +85,7 @@ module _ (s old offsets : List ℕ) (k : Pack) (p : Package) (h : SectionsAt s k
       → (us : List ℕ) (z₀ z₁ : State) → us ≡ slice_of s at (e - at) → z₁ ≡ puts us z₀ → z₁ ≡ render old (list g xs) z₀
   stays r g shape F w at xs e c us z₀ z₁ eu f = f ∙ ap (λ (l : List ℕ). puts l z₀) eu ∙ copied ns s old offsets P at (list g xs) e (lies-list ns P.fresh P.few s P.bytes r g shape F (λ t. within-counted t (r t) (w t)) at xs e c) z₀
 
-  pub sections-are : (o : NumberAt) (us vs ws : List ℕ) (z₀ z₁ z₂ z₃ z₄ z₅ z₆ z₇ z₈ : State) → o ≡ number_in s k.origins → us ≡ slice_of s k.enums (k.nodes - k.enums) → z₁ ≡ puts us z₀ → z₂ ≡ puts (two m) z₁
+  pub sections-are : (o : Number) (us vs ws : List ℕ) (z₀ z₁ z₂ z₃ z₄ z₅ z₆ z₇ z₈ : State) → o ≡ number_in s k.origins → us ≡ slice_of s k.enums (k.nodes - k.enums) → z₁ ≡ puts us z₀ → z₂ ≡ puts (two m) z₁
       → z₃ ≡ render old (each node_items (each_at (λ j. joined p.enums (node_names p.nodes) j p.activations) 0 p.nodes)) z₂ → vs ≡ slice_of s k.machines (k.activations - k.machines) → z₄ ≡ puts vs z₃ → z₅ ≡ puts (two 0) z₄
       → z₆ ≡ puts (two (o.value + n)) z₅ → ws ≡ slice_of s o.next (k.end - o.next) → z₇ ≡ puts ws z₆ → z₈ ≡ render old (each_t (origin_t p.names s nodes acts) n 0) z₇
       → z₈ ≡ render old (package_items (activations_lowered p (made_activations p))) z₀
@@ -102,10 +102,10 @@ module _ (s old offsets : List ℕ) (k : Pack) (p : Package) (h : SectionsAt s k
       let w₅ : z₅ ≡ render old (list activation_items []) z₄ = f₅ ∙ sym (none_written old z₄) in
       let count : n ≡ length more = sym S.count ∙ sym (origins-length p.enums p.nodes p.activations (accepted-each p.enums p.nodes p.activations S.accepted) [] p.activations refl) in
       let w₇ : z₇ ≡ render old (each origin_items p.origins) z₆ =
-      f₇ ∙ ap (λ (l : List ℕ). puts l z₆) (ew ∙ ap (λ (y : NumberAt). slice_of s y.next (k.end - y.next)) co)
+      f₇ ∙ ap (λ (l : List ℕ). puts l z₆) (ew ∙ ap (λ (y : Number). slice_of s y.next (k.end - y.next)) co)
       ∙ copied ns s old offsets P (k.origins + 2) (each origin_items p.origins) k.end (lies-rest ns P.fresh P.few s P.bytes (origin_in ns) origin_items ShapedOrigin (fmt_origin ns P.fresh P.few) (λ t. within-counted t (origin_in ns t) (w-origin_in ns t)) k.origins p.origins k.end h.origins) z₆ in
       let w₈ : z₈ ≡ render old (each origin_items more) z₇ = f₈ ∙ origins-written ns s old offsets P p.enums p.nodes p.activations acts S.drawn S.fates S.accepted nodes S.stand n (sym S.count) z₇ in
       let w₆ : z₈ ≡ render old (list origin_items (p.origins ++ more)) z₅ =
-      goes_on old origin_items p.origins more n (ap two (ap (λ (i : ℕ). length p.origins + i) count ∙ sym (length-append p.origins more))) z₅ z₆ z₇ z₈ (f₆ ∙ ap (λ (y : NumberAt). puts (two (y.value + n)) z₅) co) w₇ w₈ in
+      goes_on old origin_items p.origins more n (ap two (ap (λ (i : ℕ). length p.origins + i) count ∙ sym (length-append p.origins more))) z₅ z₆ z₇ z₈ (f₆ ∙ ap (λ (y : Number). puts (two (y.value + n)) z₅) co) w₇ w₈ in
       five-written old (list enum_items p.enums) (list node_items N') (list machine_items p.machines) (list activation_items []) (list origin_items (p.origins ++ more)) z₀ z₁ z₃ z₄ z₅ z₈ w₁ w₃ w₄ w₅ w₆
       ∙ (λ i. render old (list enum_items (sym (activations-enums p) i) ++ (list node_items (sym (activations-nodes p) i) ++ (list machine_items p.machines ++ (list activation_items [] ++ list origin_items (sym (activations-origins p) i))))) z₀)

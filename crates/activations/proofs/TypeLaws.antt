@@ -15,7 +15,7 @@ use Rattle.wire.specs.Writer.{State, put, puts}
 use Rattle.wire.specs.declared.answer.Read.{Read}
 use Rattle.pack_rules.specs.Names.{Name}
 use Rattle.pack_rules.specs.Read.{port_in, type_in}
-use Rattle.machines.specs.declared.checked_read.NumberAt.{NumberAt}
+use Rattle.wire.specs.declared.answer.Number.{Number}
 use Rattle.machines.specs.Layout.{slice_of}
 use Rattle.machines.specs.ResolvedIn.{end_of}
 use Rattle.machines.specs.CheckedReads.{first_some, number_in, sure_of}
@@ -29,32 +29,32 @@ use Rattle.activations.specs.TypeCodes.{out_t, typed_t, value_type_t}
 use Rattle.activations.specs.TypesAt.{default_at, default_t, default_word, enum_end, first_port_t, first_ports_t, first_variant_t, inputs_in, is_missing, plain_start, port_end, port_t, ports_end, ports_t, three_ports_t, type_bytes, variables_t, variant_at, variant_or, variant_t}
 use Rattle.activations.proofs.PlaceLaws.{along-end, each-end}
 
-pub inputs-is : (s : List ℕ) (at : ℕ) (i : NumberAt) (r : Read) (k : NumberAt) → i ≡ number_in s at → r ≡ read_of (byte s i.next) → k ≡ sure_of r → k.next ≡ inputs_in s at
+pub inputs-is : (s : List ℕ) (at : ℕ) (i : Number) (r : Read) (k : Number) → i ≡ number_in s at → r ≡ read_of (byte s i.next) → k ≡ sure_of r → k.next ≡ inputs_in s at
 unfolding inputs_in
-inputs-is s at i r k e f g = on i _ _ _ e (ap (λ (y : NumberAt). y.next) (byte-is s i.next r k f g))
+inputs-is s at i r k e f g = on i _ _ _ e (ap (λ (y : Number). y.next) (byte-is s i.next r k f g))
 
-pub port-is : (s : List ℕ) (p : ℕ) (x : NumberAt) (t u : List ℕ) → x ≡ number_in s p → u ≡ set t x.value (x.next % 65536) → u ≡ port_t s p t
+pub port-is : (s : List ℕ) (p : ℕ) (x : Number) (t u : List ℕ) → x ≡ number_in s p → u ≡ set t x.value (x.next % 65536) → u ≡ port_t s p t
 unfolding port_t put_t
 port-is s p x t u e f = on x _ _ _ e f
 
-pub first-put : (s : List ℕ) (p : ℕ) (x : NumberAt) (c : ℕ) (t u : List ℕ) → x ≡ number_in s p → c ≡ get_or t x.value 0 → c ≡ 0 → u ≡ set t x.value (x.next % 65536) → u ≡ first_port_t s p t
+pub first-put : (s : List ℕ) (p : ℕ) (x : Number) (c : ℕ) (t u : List ℕ) → x ≡ number_in s p → c ≡ get_or t x.value 0 → c ≡ 0 → u ≡ set t x.value (x.next % 65536) → u ≡ first_port_t s p t
 unfolding first_port_t put_t
 first-put s p x c t u e f g h = on x _ _ _ e (yes (get_or t x.value 0) 0 _ _ _ (sym f ∙ g) h)
 
-pub first-kept : (s : List ℕ) (p : ℕ) (x : NumberAt) (c : ℕ) (t : List ℕ) → x ≡ number_in s p → c ≡ get_or t x.value 0 → (c ≡ 0 → ⊥) → t ≡ first_port_t s p t
+pub first-kept : (s : List ℕ) (p : ℕ) (x : Number) (c : ℕ) (t : List ℕ) → x ≡ number_in s p → c ≡ get_or t x.value 0 → (c ≡ 0 → ⊥) → t ≡ first_port_t s p t
 unfolding first_port_t
 first-kept s p x c t e f g = on x _ _ _ e (no (get_or t x.value 0) 0 _ _ _ (λ d. g (f ∙ d)) refl)
 
 module _ (ns : List Name) (s : List ℕ) where
-  pub ports-done : (at : ℕ) (c : NumberAt) (n p : ℕ) (t z : List ℕ) → c ≡ number_in s at → n ≤ 0 → each_of (port_t s) (port_end ns s) n p t ≡ each_of (port_t s) (port_end ns s) c.value c.next z → t ≡ ports_t ns s at z
+  pub ports-done : (at : ℕ) (c : Number) (n p : ℕ) (t z : List ℕ) → c ≡ number_in s at → n ≤ 0 → each_of (port_t s) (port_end ns s) n p t ≡ each_of (port_t s) (port_end ns s) c.value c.next z → t ≡ ports_t ns s at z
   unfolding ports_t
   ports-done at c n p t z e l h = on c _ _ _ e (each-end (port_t s) (port_end ns s) n p t _ l h)
 
-  pub ports-over : (at : ℕ) (c : NumberAt) (n p : ℕ) → c ≡ number_in s at → n ≤ 0 → along (port_end ns s) n p ≡ along (port_end ns s) c.value c.next → p ≡ ports_end ns s at
+  pub ports-over : (at : ℕ) (c : Number) (n p : ℕ) → c ≡ number_in s at → n ≤ 0 → along (port_end ns s) n p ≡ along (port_end ns s) c.value c.next → p ≡ ports_end ns s at
   unfolding ports_end
   ports-over at c n p e l h = on c _ _ _ e (along-end (port_end ns s) n p _ l h)
 
-  pub firsts-done : (at : ℕ) (c : NumberAt) (n p : ℕ) (t z : List ℕ) → c ≡ number_in s at → n ≤ 0 → each_of (first_port_t s) (port_end ns s) n p t ≡ each_of (first_port_t s) (port_end ns s) c.value c.next z → t ≡ first_ports_t ns s at z
+  pub firsts-done : (at : ℕ) (c : Number) (n p : ℕ) (t z : List ℕ) → c ≡ number_in s at → n ≤ 0 → each_of (first_port_t s) (port_end ns s) n p t ≡ each_of (first_port_t s) (port_end ns s) c.value c.next z → t ≡ first_ports_t ns s at z
   unfolding first_ports_t
   firsts-done at c n p t z e l h = on c _ _ _ e (each-end (first_port_t s) (port_end ns s) n p t _ l h)
 
@@ -78,12 +78,12 @@ module _ (ns : List Name) (s : List ℕ) where
   unfolding type_bytes
   type-bytes c e b x z l f g h = rw (le-ltb c 2 l) (h ∙ ap (λ y. puts y z) (g ∙ ap (λ y. slice_of s c (y - c)) f))
 
-  pub enum-over : (p : ℕ) (i : NumberAt) (q : ℕ) → i ≡ number_in s p → q ≡ right_side_in ns s i.next → q ≡ enum_end ns s p
+  pub enum-over : (p : ℕ) (i : Number) (q : ℕ) → i ≡ number_in s p → q ≡ right_side_in ns s i.next → q ≡ enum_end ns s p
   unfolding enum_end right_side_in
   enum-over p i q e f = on i _ _ _ e f
 
   module _ (enums : ℕ) where
-    pub variants-done : (x : ℕ) (c : NumberAt) (n p : ℕ) (r : TypeDefault) → c ≡ number_in s enums → n ≤ 0 → each_of (variant_at s x) (enum_end ns s) n p r ≡ each_of (variant_at s x) (enum_end ns s) c.value c.next sr.Missing → r ≡ first_variant_t ns s enums x
+    pub variants-done : (x : ℕ) (c : Number) (n p : ℕ) (r : TypeDefault) → c ≡ number_in s enums → n ≤ 0 → each_of (variant_at s x) (enum_end ns s) n p r ≡ each_of (variant_at s x) (enum_end ns s) c.value c.next sr.Missing → r ≡ first_variant_t ns s enums x
     unfolding first_variant_t
     variants-done x c n p r e l h = on c _ _ _ e (each-end (variant_at s x) (enum_end ns s) n p r _ l h)
 
@@ -105,18 +105,18 @@ module _ (ns : List Name) (s : List ℕ) where
     unfolding default_t
     at_code c t l e = rw (le-ltb c 2 l) e
 
-    named-at : (c : ℕ) (r : Read) (k x : NumberAt) (t : TypeDefault) → r ≡ read_of (byte s c) → k ≡ sure_of r → k.value ≡ 13 → x ≡ number_in s k.next → t ≡ variant_t ns s enums offsets x.value → t ≡ default_at ns s enums offsets c
+    named-at : (c : ℕ) (r : Read) (k x : Number) (t : TypeDefault) → r ≡ read_of (byte s c) → k ≡ sure_of r → k.value ≡ 13 → x ≡ number_in s k.next → t ≡ variant_t ns s enums offsets x.value → t ≡ default_at ns s enums offsets c
     unfolding default_at
     named-at c r k x t e f g h i = on k _ _ _ (byte-is s c r k e f) (yes k.value 13 _ _ _ g (on x _ _ _ h i))
 
-    plain_at : (c : ℕ) (r : Read) (k : NumberAt) (t : TypeDefault) → r ≡ read_of (byte s c) → k ≡ sure_of r → (k.value ≡ 13 → ⊥) → t ≡ plain_start k.value → t ≡ default_at ns s enums offsets c
+    plain_at : (c : ℕ) (r : Read) (k : Number) (t : TypeDefault) → r ≡ read_of (byte s c) → k ≡ sure_of r → (k.value ≡ 13 → ⊥) → t ≡ plain_start k.value → t ≡ default_at ns s enums offsets c
     unfolding default_at
     plain_at c r k t e f g h = on k _ _ _ (byte-is s c r k e f) (no k.value 13 _ _ _ g h)
 
-    pub start-named : (c : ℕ) (r : Read) (k x : NumberAt) (t : TypeDefault) → 2 ≤ c → r ≡ read_of (byte s c) → k ≡ sure_of r → k.value ≡ 13 → x ≡ number_in s k.next → t ≡ variant_t ns s enums offsets x.value → t ≡ default_t ns s enums offsets c
+    pub start-named : (c : ℕ) (r : Read) (k x : Number) (t : TypeDefault) → 2 ≤ c → r ≡ read_of (byte s c) → k ≡ sure_of r → k.value ≡ 13 → x ≡ number_in s k.next → t ≡ variant_t ns s enums offsets x.value → t ≡ default_t ns s enums offsets c
     start-named c r k x t l e f g h i = at_code c t l (named-at c r k x t e f g h i)
 
-    pub start_plain : (c : ℕ) (r : Read) (k : NumberAt) (t : TypeDefault) → 2 ≤ c → r ≡ read_of (byte s c) → k ≡ sure_of r → (k.value ≡ 13 → ⊥) → t ≡ plain_start k.value → t ≡ default_t ns s enums offsets c
+    pub start_plain : (c : ℕ) (r : Read) (k : Number) (t : TypeDefault) → 2 ≤ c → r ≡ read_of (byte s c) → k ≡ sure_of r → (k.value ≡ 13 → ⊥) → t ≡ plain_start k.value → t ≡ default_t ns s enums offsets c
     start_plain c r k t l e f g h = at_code c t l (plain_at c r k t e f g h)
 
 pub out-old : (outs : List ℕ) (names x r : ℕ) → x < names → r ≡ get_or outs x 0 → r ≡ out_t outs names x
@@ -147,15 +147,15 @@ pub variant-none : (s : List ℕ) (k p : ℕ) (r : TypeDefault) → k ≡ 0 → 
 unfolding variant_or
 variant-none s k p r e = yes k 0 _ _ r e refl
 
-pub variant-some : (s : List ℕ) (k p : ℕ) (r : TypeDefault) (v : NumberAt) → (k ≡ 0 → ⊥) → v ≡ number_in s p → sr.Name v.value ≡ variant_or s k p r
+pub variant-some : (s : List ℕ) (k p : ℕ) (r : TypeDefault) (v : Number) → (k ≡ 0 → ⊥) → v ≡ number_in s p → sr.Name v.value ≡ variant_or s k p r
 unfolding variant_or
-variant-some s k p r v e f = no k 0 _ _ _ e (ap (λ (y : NumberAt). sr.Name y.value) f)
+variant-some s k p r v e f = no k 0 _ _ _ e (ap (λ (y : Number). sr.Name y.value) f)
 
-pub variant-asked : (s : List ℕ) (x p : ℕ) (r : TypeDefault) (i k : NumberAt) (t : TypeDefault) → i ≡ number_in s p → k ≡ number_in s i.next → i.value ≡ x → t ≡ variant_or s k.value k.next r → t ≡ variant_at s x p r
+pub variant-asked : (s : List ℕ) (x p : ℕ) (r : TypeDefault) (i k : Number) (t : TypeDefault) → i ≡ number_in s p → k ≡ number_in s i.next → i.value ≡ x → t ≡ variant_or s k.value k.next r → t ≡ variant_at s x p r
 unfolding variant_at
 variant-asked s x p r i k t e f g h = on i _ _ _ e (on k _ _ _ f (yes i.value x _ _ _ g h))
 
-pub variant-other : (s : List ℕ) (x p : ℕ) (r : TypeDefault) (i k : NumberAt) → i ≡ number_in s p → k ≡ number_in s i.next → (i.value ≡ x → ⊥) → r ≡ variant_at s x p r
+pub variant-other : (s : List ℕ) (x p : ℕ) (r : TypeDefault) (i k : Number) → i ≡ number_in s p → k ≡ number_in s i.next → (i.value ≡ x → ⊥) → r ≡ variant_at s x p r
 unfolding variant_at
 variant-other s x p r i k e f g = on i _ _ _ e (on k _ _ _ f (no i.value x _ _ _ g refl))
 

@@ -9,7 +9,7 @@ use Rattle.pack_rules.specs.Syntax.{Activation, Package}
 use Rattle.pack_rules.specs.Read.{activation_in}
 use Rattle.pack_rules.specs.Outcome.{Answers, Gives, sized, written}
 use Rattle.pack.specs.Verdict.{SectionsAt}
-use Rattle.machines.specs.declared.checked_read.NumberAt.{NumberAt}
+use Rattle.wire.specs.declared.answer.Number.{Number}
 use Rattle.machines.specs.CheckedReads.{number_in}
 use Rattle.machines.specs.CallTables.{OpenedAs}
 use Rattle.machine_rules.specs.Machines.{start}
@@ -27,7 +27,7 @@ no-activations p e output report =
 
 -- the call on a pack that was opened: copied out where it has no activations, else answered as its package is
 module _ (s : List ℕ) (k : Pack) (o : OpenedAs s k) (number value : ℕ) (output output' report : List ℕ) where
-  pub copied-out : Bytes s → (m : NumberAt) → m ≡ number_in s k.activations → m.value ≡ 0 → Gives (sized (length output) s) number value output output'
+  pub copied-out : Bytes s → (m : Number) → m ≡ number_in s k.activations → m.value ≡ 0 → Gives (sized (length output) s) number value output output'
       → Answers (lower_activations s (length output) (length report)) number value output output' report report
   unfolding lower_activations
   copied-out by m e z g =

@@ -5,6 +5,7 @@ ghost use Rattle.pack_rules.specs.Syntax.{Package};
 ghost use Rattle.pack.specs.Table.{tabled};
 ghost use Rattle.pack.specs.Intern.{table};
 ghost use Rattle.pack_rules.specs.Outcome.{Answers, Gives, output_of, report_of, returned, written};
+ghost use Rattle.pack.specs.Finish.{number_for, value_for};
 ghost use Rattle.pack.specs.Verdict.{SectionsAt};
 ghost use Rattle.pack_rules.specs.Limits.{max_bytes};
 ghost use Rattle.machines.specs.Layout.{slice_of};
@@ -24,7 +25,7 @@ use crate::verdicts::judge_nodes;
 use machines::checked_read::number;
 use machines::layout::between;
 use machines::table::place_names;
-use pack::check::{Verdict, answer, read_pack};
+use pack::check::read_pack;
 use pack::finish::{Outcome, copy_pack, finish, returned_word};
 use pack::intern::build_name_table;
 use pack::record::Pack;
@@ -65,8 +66,8 @@ fn write_all(
     output: &mut [u8],
 ) -> Outcome
     requires { (length pack.now ≤ max_bytes) × (info.names ≤ word_range) × (n ≤ 6656) × Scratch later.old types.old outs.old lasts.old reads.old sampled.old }
-    ensures answers { (p : Package) → SectionsAt pack.now sections p → Basis p.names p.enums old.now pack.now offsets.now info → Settled p.names pack.now p.enums p.nodes p.activations nodes.now acts.now m n → Gives (written (length output.old) (activations_lowered p (made_activations p))) result.number result.value output.old output.new }
-    ensures fits { (result.number ≤ 9) × (result.value < 4294967296) }
+    ensures answers { (p : Package) → SectionsAt pack.now sections p → Basis p.names p.enums old.now pack.now offsets.now info → Settled p.names pack.now p.enums p.nodes p.activations nodes.now acts.now m n → Gives (written (length output.old) (activations_lowered p (made_activations p))) (number_for result) (value_for result) output.old output.new }
+    ensures fits { (number_for result ≤ 9) × (value_for result < 4294967296) }
 {
     let mut out = [0u8; Pack::BYTES];
     let mut made = [0u8; ROOM];
@@ -95,8 +96,8 @@ fn lower_filled(
     report: &mut [u8],
 ) -> Outcome
     requires { (length pack.now ≤ max_bytes) × OpenedAs pack.now sections × Blank offsets.old nodes.old acts.old × Scratch later.old types.old outs.old lasts.old reads.old sampled.old × (old.now ≡ tabled (table (slice_of pack.now 2 (sections.enums - 2)))) }
-    ensures answers { (p : Package) → SectionsAt pack.now sections p → Answers (lower_package_activations (length output.old) (length report.old) p) result.number result.value output.old output.new report.old report.new }
-    ensures fits { (result.number ≤ 9) × (result.value < 4294967296) }
+    ensures answers { (p : Package) → SectionsAt pack.now sections p → Answers (lower_package_activations (length output.old) (length report.old) p) (number_for result) (value_for result) output.old output.new report.old report.new }
+    ensures fits { (number_for result ≤ 9) × (value_for result < 4294967296) }
 {
     let names = sections.names;
     keep_firsts(pack, names, sections.enums, offsets);
@@ -121,8 +122,8 @@ fn lower_filled(
 // places there is room for what 17,408 enums start from.
 fn lower_with_scratch(pack: &[u8], sections: Pack, output: &mut [u8], report: &mut [u8]) -> Outcome
     requires { (length pack.now ≤ max_bytes) × OpenedAs pack.now sections }
-    ensures answers { (p : Package) → SectionsAt pack.now sections p → Answers (lower_package_activations (length output.old) (length report.old) p) result.number result.value output.old output.new report.old report.new }
-    ensures fits { (result.number ≤ 9) × (result.value < 4294967296) }
+    ensures answers { (p : Package) → SectionsAt pack.now sections p → Answers (lower_package_activations (length output.old) (length report.old) p) (number_for result) (value_for result) output.old output.new report.old report.new }
+    ensures fits { (number_for result ≤ 9) × (value_for result < 4294967296) }
 {
     let mut offsets = [0u16; SPOTS];
     let mut nodes = [0u16; 6656];
@@ -157,15 +158,12 @@ fn lower_with_scratch(pack: &[u8], sections: Pack, output: &mut [u8], report: &m
 // stand on the stack at once. No pack is longer than the check allows.
 fn lower_out_of_line(pack: &[u8], sections: Pack, output: &mut [u8], report: &mut [u8]) -> Outcome
     requires { (length pack.now ≤ max_bytes) × OpenedAs pack.now sections }
-    ensures answers { (p : Package) → SectionsAt pack.now sections p → Answers (lower_package_activations (length output.old) (length report.old) p) result.number result.value output.old output.new report.old report.new }
-    ensures fits { (result.number ≤ 9) × (result.value < 4294967296) }
+    ensures answers { (p : Package) → SectionsAt pack.now sections p → Answers (lower_package_activations (length output.old) (length report.old) p) (number_for result) (value_for result) output.old output.new report.old report.new }
+    ensures fits { (number_for result ≤ 9) × (value_for result < 4294967296) }
 {
     if Pack::BYTES < pack.len() {
         let r = lower_out_of_line(&pack[..Pack::BYTES], sections, output, report);
-        return Outcome {
-            number: r.number,
-            value: 0,
-        };
+        return r.map(|_| 0);
     }
     lower_with_scratch(pack, sections, output, report)
 }
@@ -173,8 +171,8 @@ fn lower_out_of_line(pack: &[u8], sections: Pack, output: &mut [u8], report: &mu
 // A pack that was opened. One without activations stays as it is, and needs no scratch.
 fn lower_checked(pack: &[u8], sections: Pack, output: &mut [u8], report: &mut [u8]) -> Outcome
     requires { (length pack.now ≤ max_bytes) × OpenedAs pack.now sections }
-    ensures answers { Answers (lower_activations pack.now (length output.old) (length report.old)) result.number result.value output.old output.new report.old report.new }
-    ensures fits { (result.number ≤ 9) × (result.value < 4294967296) }
+    ensures answers { Answers (lower_activations pack.now (length output.old) (length report.old)) (number_for result) (value_for result) output.old output.new report.old report.new }
+    ensures fits { (number_for result ≤ 9) × (value_for result < 4294967296) }
 {
     let a = number(pack, sections.activations);
     let count = a.value;
@@ -186,16 +184,12 @@ fn lower_checked(pack: &[u8], sections: Pack, output: &mut [u8], report: &mut [u
 
 // Lowers the activations of a pack: the lowered pack in `output`, or a report of what is refused in `report`.
 pub fn lower_activations(pack: &[u8], output: &mut [u8], report: &mut [u8]) -> Outcome
-    ensures answers { Answers (lower_activations pack.now (length output.old) (length report.old)) result.number result.value output.old output.new report.old report.new }
-    ensures fits { (result.number ≤ 9) × (result.value < 4294967296) }
+    ensures answers { Answers (lower_activations pack.now (length output.old) (length report.old)) (number_for result) (value_for result) output.old output.new report.old report.new }
+    ensures fits { (number_for result ≤ 9) × (value_for result < 4294967296) }
 {
     let opened = read_pack(pack);
-    let k = opened.pack;
-    let v = opened.verdict;
-    let Verdict::Whole = v else {
-        return answer(v, pack.len());
-    };
-    lower_checked(pack, k, output, report)
+    opened.verdict?;
+    lower_checked(pack, opened.pack, output, report)
 }
 
 // The same with number and value in one word.

@@ -8,7 +8,7 @@ ghost use Rattle.machines.specs.CheckedReads.{number_in};
 ghost use Rattle.activations.specs.Places.{first_left_in, right_side_in, body_in, branch_end, branches_end, act_at, act_end};
 
 use machines::added::after_ports;
-use machines::checked_read::{NumberAt, after_equations, after_expr, number};
+use machines::checked_read::{after_equations, after_expr, number};
 use pack::check::reached;
 use pack::parts::{then_names, then_type};
 use wire::answer::Skipped;
@@ -109,7 +109,7 @@ pub fn after_act(pack: &[u8], names: usize, at: usize) -> usize
 }
 
 // How many branches there are, and where the first stands.
-pub fn first_branch(pack: &[u8], a: Act) -> NumberAt
+pub fn first_branch(pack: &[u8], a: Act) -> Number
     ensures { result ≡ number_in pack.now a.branches }
 {
     number(pack, a.branches)

@@ -3,6 +3,7 @@ ghost use Rattle.std.specs.Prelude.{List, ◌++◌, ◌≡◌, ℕ, ◌+◌, ◌
 ghost use Rattle.wire.specs.Bytes.{two, word_range};
 ghost use Rattle.wire.specs.Writer.{overwritten};
 ghost use Rattle.pack_rules.specs.Outcome.{Answers, reported};
+ghost use Rattle.pack.specs.Finish.{number_for, value_for};
 ghost use Rattle.pack_rules.specs.Limits.{max_bytes};
 ghost use Rattle.machines.specs.AddedAt.{total_t};
 ghost use Rattle.machines.specs.ReportAt.{bytes_t};
@@ -13,7 +14,7 @@ use crate::owners::{act_spot, judged};
 use machines::checked_read::number;
 use machines::report::{entry_len, put_count, put_entry};
 use machines::verdicts::{NameRef, VerdictRow, named, no_name, refused};
-use pack::finish::Outcome;
+use pack::finish::{CallError, Outcome};
 use pack::record::Pack;
 
 // A name by its number: the number of names is none, past it is `else`.
@@ -150,19 +151,13 @@ pub fn answer_report(
     report: &mut [u8],
 ) -> Outcome
     requires { (length pack.now ≤ max_bytes) × (n ≤ 6656) }
-    ensures by_index { (output : List ℕ) → Answers (reported (length report.old) (two refused ++ bytes_t (entry_t names pack.now offsets.now acts.now) n 0)) result.number result.value output output report.old report.new }
-    ensures number_bound { (result.number ≤ 9) × (result.value < 4294967296) }
+    ensures by_index { (output : List ℕ) → Answers (reported (length report.old) (two refused ++ bytes_t (entry_t names pack.now offsets.now acts.now) n 0)) (number_for result) (value_for result) output output report.old report.new }
+    ensures number_bound { (number_for result ≤ 9) × (value_for result < 4294967296) }
 {
     let b = report_len(pack, names, offsets, acts, n);
     if report.len() < b {
-        return Outcome {
-            number: Outcome::REPORT_ROOM,
-            value: b as u64,
-        };
+        return Err(CallError::ReportRoom(b));
     }
     put_report(pack, names, offsets, acts, n, refused, report);
-    Outcome {
-        number: Outcome::REFUSED,
-        value: b as u64,
-    }
+    Err(CallError::Refused(b))
 }

@@ -6,17 +6,16 @@ use mathlib.Core.Path.{◌≡◌, refl, sym, ap, ◌∙◌}
 use lib.ListN.{get_or}
 use borrow.Author.Tests.{eq-eqb, ne_eqb}
 use Rattle.wire.specs.Bytes.{two}
-use Rattle.wire.specs.Code.{onward}
+use Rattle.wire.specs.Code.{Skipped, onward}
 use Rattle.wire.specs.Writer.{State, put, puts}
-use Rattle.wire.specs.declared.answer.Skipped.{Skipped}
-use Rattle.wire.specs.declared.answer.Skipped.TheVariants as sk
+use Rattle.std.specs.Prelude.{Ok}
 use Rattle.pack_rules.specs.Names.{Name}
 use Rattle.pack_rules.specs.Read.{equations_in, ports_in}
 use Rattle.pack.specs.Verdict.{offset_of}
 use Rattle.pack_rules.specs.Write.{Item, each, port_items, raw}
 use Rattle.pack.specs.Intern.{put_item, render}
 use Rattle.pack.proofs.Interns.{render-append}
-use Rattle.machines.specs.declared.checked_read.NumberAt.{NumberAt}
+use Rattle.wire.specs.declared.answer.Number.{Number}
 use Rattle.machines.specs.ResolvedIn.{end_of}
 use Rattle.machines.specs.CheckedReads.{byte_in, number_in}
 use Rattle.machines.specs.Layout.{slice_of}
@@ -37,15 +36,15 @@ origin-put old o m f e z = refl
 
 module _ (ns : List Name) (s : List ℕ) where
   -- nodes
-  pub node-locals : (at : ℕ) (m k : NumberAt) (a b : Skipped) (r : ℕ) → m ≡ number_in s at → k ≡ byte_in s m.next → a ≡ onward (ports_in ns s) (sk.To k.next) → b ≡ onward (ports_in ns s) a → r ≡ offset_of b → r ≡ node_locals_in ns s at
+  pub node-locals : (at : ℕ) (m k : Number) (b : Skipped) (r : ℕ) → m ≡ number_in s at → k ≡ byte_in s m.next → b ≡ onward (ports_in ns s) (onward (ports_in ns s) (Ok k.next)) → r ≡ offset_of b → r ≡ node_locals_in ns s at
   unfolding node_locals_in
-  node-locals at m k a b r x y z w v = on m _ _ r x (on k _ _ r y (v ∙ ap offset_of (w ∙ ap (onward (ports_in ns s)) z)))
+  node-locals at m k b r x y z v = on m _ _ r x (on k _ _ r y (v ∙ ap offset_of z))
 
   pub node-equations : (at a r : ℕ) → a ≡ node_locals_in ns s at → r ≡ end_of (ports_in ns s a) → r ≡ node_equations_in ns s at
   unfolding node_equations_in
   node-equations at a r x y = y ∙ ap (λ k. end_of (ports_in ns s k)) x
 
-  pub old-here : (n at k e : ℕ) (c : NumberAt) (r z : ℕ) → 0 < n → e ≡ node_equations_in ns s at → k ≡ 0 → c ≡ number_in s e → r ≡ small_of c.value → old_t ns s n at k ≡ z → r ≡ z
+  pub old-here : (n at k e : ℕ) (c : Number) (r z : ℕ) → 0 < n → e ≡ node_equations_in ns s at → k ≡ 0 → c ≡ number_in s e → r ≡ small_of c.value → old_t ns s n at k ≡ z → r ≡ z
   unfolding old_t
   old-here zero at k e c r z l x y w v h = absurd (omega arith)
   old-here (suc n) at zero e c r z l x y w v h = on c _ _ r (w ∙ ap (number_in s) x) v ∙ h
@@ -69,7 +68,7 @@ module _ (ns : List Name) (s : List ℕ) where
   old-done (suc n) at k z l h = absurd (omega arith)
 
   -- a machine's locals
-  module _ (offsets : List ℕ) (at k : ℕ) (m : NumberAt) (n : List ℕ) (a e : ℕ) (l : NumberAt) (b : List ℕ) (i : ℕ)
+  module _ (offsets : List ℕ) (at k : ℕ) (m : Number) (n : List ℕ) (a e : ℕ) (l : Number) (b : List ℕ) (i : ℕ)
       (em : m ≡ number_in s at) (en : n ≡ pack_name s offsets m.value) (ea : a ≡ locals_in ns s at) (ee : e ≡ end_of (ports_in ns s a)) (el : l ≡ number_in s a)
       (eb : b ≡ slice_of s l.next (e - l.next)) (ei : i ≡ small_of k - 1) where
     pub locals-parts : raw b ∷ (each port_items (region_locals n 0) ++ each port_items (inner_locals n 1 i)) ≡ locals_t ns s offsets at k
@@ -97,7 +96,7 @@ module _ (ns : List Name) (s : List ℕ) where
       brings-nothing z h = rw (← ea, ne_eqb a k h) refl
 
   -- the origin of a machine
-  module _ (defs regcounts : List ℕ) (i f at : ℕ) (m o : NumberAt) (ea : at ≡ get_or defs i 0) (em : m ≡ number_in s at) (eo : o ≡ number_in s m.next) where
+  module _ (defs regcounts : List ℕ) (i f at : ℕ) (m o : Number) (ea : at ≡ get_or defs i 0) (em : m ≡ number_in s at) (eo : o ≡ number_in s m.next) where
     origin-none : o.value ≡ 65535 → [] ≡ given_origin_t ns s defs regcounts f i
     unfolding given_origin_t
     origin-none h = on m _ _ [] (em ∙ ap (number_in s) ea) (on o _ _ [] eo (rw (eq-eqb o.value 65535 h)))

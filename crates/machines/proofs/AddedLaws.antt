@@ -15,7 +15,7 @@ use Rattle.pack_rules.specs.Read.{ports_in}
 use Rattle.pack_rules.specs.Write.{Item}
 use Rattle.pack.specs.Intern.{render}
 use Rattle.pack.proofs.Interns.{render-append}
-use Rattle.machines.specs.declared.checked_read.NumberAt.{NumberAt}
+use Rattle.wire.specs.declared.answer.Number.{Number}
 use Rattle.machines.specs.ResolvedIn.{end_of}
 use Rattle.machines.specs.CheckedReads.{number_in}
 use Rattle.machines.specs.Tables.{outputs_in}
@@ -133,7 +133,7 @@ pub regions-is : (regcounts : List ℕ) (i e r : ℕ) → e ≡ get_or regcounts
 unfolding regions_t
 regions-is regcounts i e r a b = b ∙ ap small_of a
 
-module _ (s defs : List ℕ) (i a : ℕ) (m o : NumberAt) (e : a ≡ get_or defs i 0) (f : m ≡ number_in s a) (g : o ≡ number_in s m.next) where
+module _ (s defs : List ℕ) (i a : ℕ) (m o : Number) (e : a ≡ get_or defs i 0) (f : m ≡ number_in s a) (g : o ≡ number_in s m.next) where
   pub owned-not : o.value ≡ 65535 → 0 ≡ owned_t s defs i
   unfolding owned_t
   owned-not h = on m _ _ 0 (f ∙ ap (number_in s) e) (on o _ _ 0 g (rw (eq-eqb o.value 65535 h)))
@@ -143,15 +143,15 @@ module _ (s defs : List ℕ) (i a : ℕ) (m o : NumberAt) (e : a ≡ get_or defs
   owned-yes h = on m _ _ 1 (f ∙ ap (number_in s) e) (on o _ _ 1 g (rw (ne_eqb o.value 65535 h)))
 
 module _ (ns : List Name) (s : List ℕ) where
-  pub locals-is : (at : ℕ) (m : NumberAt) (o r : ℕ) → m ≡ number_in s at → o ≡ outputs_in ns s m.next → r ≡ end_of (ports_in ns s o) → r ≡ locals_in ns s at
+  pub locals-is : (at : ℕ) (m : Number) (o r : ℕ) → m ≡ number_in s at → o ≡ outputs_in ns s m.next → r ≡ end_of (ports_in ns s o) → r ≡ locals_in ns s at
   unfolding locals_in
   locals-is at m o r x y z = on m _ _ r x (z ∙ ap (λ k. end_of (ports_in ns s k)) y)
 
-  pub equations-are : (at k : ℕ) (m : NumberAt) (a : ℕ) (o : NumberAt) (r : ℕ) → m ≡ number_in s at → a ≡ outputs_in ns s m.next → o ≡ number_in s a → r ≡ made_of k o.value → r ≡ equation_count_t ns s at k
+  pub equations-are : (at k : ℕ) (m : Number) (a : ℕ) (o : Number) (r : ℕ) → m ≡ number_in s at → a ≡ outputs_in ns s m.next → o ≡ number_in s a → r ≡ made_of k o.value → r ≡ equation_count_t ns s at k
   unfolding equation_count_t
   equations-are at k m a o r x y z w = on m _ _ r x (on o _ _ r (z ∙ ap (number_in s) y) w)
 
-  pub locals_are : (at k a : ℕ) (l : NumberAt) (r : ℕ) → a ≡ locals_in ns s at → l ≡ number_in s a → r ≡ made_of k l.value → r ≡ local_count_t ns s at k
+  pub locals_are : (at k a : ℕ) (l : Number) (r : ℕ) → a ≡ locals_in ns s at → l ≡ number_in s a → r ≡ made_of k l.value → r ≡ local_count_t ns s at k
   unfolding local_count_t
   locals_are at k a l r x y z = on l _ _ r (y ∙ ap (number_in s) x) z
 

@@ -19,7 +19,7 @@ use Rattle.pack_rules.specs.Write.{Item, encode, package_items, shorts}
 use Rattle.pack.specs.Intern.{render, table, unwritten}
 use Rattle.pack.specs.declared.record.Pack.{Pack}
 use Rattle.pack.proofs.Finished.{carried}
-use Rattle.machines.specs.declared.checked_read.NumberAt.{NumberAt}
+use Rattle.wire.specs.declared.answer.Number.{Number}
 use Rattle.machines.specs.Layout.{slice_of}
 use Rattle.machines.specs.CheckedReads.{number_in}
 use Rattle.machine_rules.specs.Machines.{machines_lowered, made_machines}
@@ -63,7 +63,7 @@ written-quiet room p report = go (shorts (package_items p))
 module _ (s : List ℕ) (k : Pack) (p : Package) (h : SectionsAt s k p) (bytes : Bytes s) (short : length s ≤ 65536)
     (offsets₀ to₀ nodes₀ defs₀ receivers₀ regcounts₀ offsets to nodes defs receivers regcounts : List ℕ) (e : Empty offsets₀ to₀ nodes₀ defs₀ receivers₀ regcounts₀)
     (f : (ns : List Name) → length ns ≡ k.names → Filled ns s k offsets₀ to₀ nodes₀ defs₀ receivers₀ regcounts₀ offsets to nodes defs receivers regcounts)
-    (t reg qualified : List ℕ) (long : Long t reg qualified) (m : NumberAt) (n : ℕ) (em : m ≡ number_in s k.machines) (en : n ≡ small_of m.value) where
+    (t reg qualified : List ℕ) (long : Long t reg qualified) (m : Number) (n : ℕ) (em : m ≡ number_in s k.machines) (en : n ≡ small_of m.value) where
   counted : n ≡ length p.machines
   counted = counted-machines s k m n em en ∙ machines-here s k p h bytes short
 

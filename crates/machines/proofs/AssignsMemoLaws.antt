@@ -11,7 +11,7 @@ use lib.Dec.{eqb, ltb}
 use borrow.Author.Tests.{eqb-true, eqb-false, le-ltb, lt-ltb}
 use Rattle.pack_rules.specs.Names.{Name}
 use Rattle.machines.specs.declared.cover.OnlyLeft.{OnlyLeft}
-use Rattle.machines.specs.declared.checked_read.NumberAt.{NumberAt}
+use Rattle.wire.specs.declared.answer.Number.{Number}
 use Rattle.machines.specs.CheckedReads.{number_in}
 use Rattle.machines.specs.CoverAt.{gives_t, own_t, uncovered_t}
 use Rattle.machines.specs.Memo.{regions_in, state_row}
@@ -63,7 +63,7 @@ mark-fits a false l = mod-eq_of_lt (omega (arith, l))
 
 -- what is left of a state's equations: all at first, then those after one, in the end none; and what the first of them gives
 module _ (s : List ℕ) (names : ℕ) where
-  pub rest_all : (at : ℕ) (i t : NumberAt) → i ≡ number_in s at → t ≡ number_in s i.next → HintOf s names at t.value t.next
+  pub rest_all : (at : ℕ) (i t : Number) → i ≡ number_in s at → t ≡ number_in s i.next → HintOf s names at t.value t.next
   unfolding HintOf
   rest_all at i t e f ns n x h = sym (own_is ns s x at i t _ e f refl) ∙ h
 

@@ -15,7 +15,7 @@ use Rattle.pack.specs.Finish.{answered}
 use Rattle.pack.specs.Table.{tabled}
 use Rattle.pack.specs.declared.record.Pack.{Pack}
 use Rattle.pack.proofs.Finished.{carried}
-use Rattle.machines.specs.declared.checked_read.NumberAt.{NumberAt}
+use Rattle.wire.specs.declared.answer.Number.{Number}
 use Rattle.machines.specs.CheckedReads.{number_in}
 use Rattle.machines.specs.Tables.{machines_placed, names_placed}
 use Rattle.machines.specs.Layout.{slice_of}
@@ -27,15 +27,15 @@ use Rattle.machines.specs.CallTables.{Filled, Reports, machine_count, node_count
 use Rattle.machines.proofs.Overwriting.{over-start}
 
 -- the machines that are counted
-pub counted-machines : (s : List ℕ) (k : Pack) (m : NumberAt) (n : ℕ) → m ≡ number_in s k.machines → n ≡ small_of m.value → n ≡ machine_count s k
+pub counted-machines : (s : List ℕ) (k : Pack) (m : Number) (n : ℕ) → m ≡ number_in s k.machines → n ≡ small_of m.value → n ≡ machine_count s k
 unfolding machine_count
-counted-machines s k m n e f = f ∙ ap (λ (y : NumberAt). small_of y.value) e
+counted-machines s k m n e f = f ∙ ap (λ (y : Number). small_of y.value) e
 
 -- the tables that were filled
-module _ (ns : List Name) (s : List ℕ) (k : Pack) (c m : NumberAt) (old n : ℕ) (ec : c ≡ number_in s k.nodes) (em : m ≡ number_in s k.machines) (eo : old ≡ small_of c.value) (en : n ≡ small_of m.value) where
+module _ (ns : List Name) (s : List ℕ) (k : Pack) (c m : Number) (old n : ℕ) (ec : c ≡ number_in s k.nodes) (em : m ≡ number_in s k.machines) (eo : old ≡ small_of c.value) (en : n ≡ small_of m.value) where
   counted-nodes : old ≡ node_count s k
   unfolding node_count
-  counted-nodes = eo ∙ ap (λ (y : NumberAt). small_of y.value) ec
+  counted-nodes = eo ∙ ap (λ (y : Number). small_of y.value) ec
 
   pub filled : (offsets₀ to₀ nodes₀ defs₀ receivers₀ regcounts₀ offsets to nodes₁ nodes defs receivers regcounts : List ℕ) (r : ℕ) → offsets ≡ names_placed s k.names 2 0 offsets₀ → to ≡ machines_placed ns s k.machines to₀
       → nodes₁ ≡ fill_t (node_name_t ns s c.next) old 0 nodes₀ → defs ≡ fill_t (nth (machine_end ns s) m.next) n 0 defs₀
@@ -43,8 +43,8 @@ module _ (ns : List Name) (s : List ℕ) (k : Pack) (c m : NumberAt) (old n : �
       → nodes_of receivers nodes r ≡ settle_t s defs regcounts n 0 (nodes_of receivers₀ nodes₁ old)
       → Filled ns s k offsets₀ to₀ nodes₀ defs₀ receivers₀ regcounts₀ offsets to nodes defs receivers regcounts
   filled offsets₀ to₀ nodes₀ defs₀ receivers₀ regcounts₀ offsets to nodes₁ nodes defs receivers regcounts r a b d f g h =
-      let from : m.next ≡ (number_in s k.machines).next = ap (λ (y : NumberAt). y.next) em in
-      let from' : c.next ≡ (number_in s k.nodes).next = ap (λ (y : NumberAt). y.next) ec in
+      let from : m.next ≡ (number_in s k.machines).next = ap (λ (y : Number). y.next) em in
+      let from' : c.next ≡ (number_in s k.nodes).next = ap (λ (y : Number). y.next) ec in
       record {
         count = r;
         names = a;

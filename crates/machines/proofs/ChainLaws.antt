@@ -12,7 +12,7 @@ use Rattle.pack_rules.specs.Write.{Item, expr_items}
 use Rattle.pack.specs.Intern.{put_item, put_name, render}
 use Rattle.pack.proofs.Interns.{render-append}
 use Rattle.machines.specs.declared.made_names.Var.TheVariants as vr
-use Rattle.machines.specs.declared.checked_read.NumberAt.{NumberAt}
+use Rattle.wire.specs.declared.answer.Number.{Number}
 use Rattle.machine_rules.specs.MadeNames.{state_var}
 use Rattle.machines.specs.Vars.{var_name}
 use Rattle.machines.specs.ResolvedIn.{end_of}
@@ -37,7 +37,7 @@ module _ (old sb offsets t qualified : List ℕ) (ns : List Name) where
   moves-step q n at s = render-append old (move_t sb offsets t qualified q at (end_of (expr_in ns sb at)) _) (moves_t sb offsets t qualified ns q n _) s
 
   -- the loop over transitions: one more, and the end
-  pub moves_more : (q n k at e : ℕ) (x : NumberAt) (y s z : State) → n ≡ suc k → e ≡ end_of (expr_in ns sb at) → x ≡ number_in sb e → y ≡ render old (move_t sb offsets t qualified q at e x.value) s → render old (moves_t sb offsets t qualified ns q n at) s ≡ z → render old (moves_t sb offsets t qualified ns q k x.next) y ≡ z
+  pub moves_more : (q n k at e : ℕ) (x : Number) (y s z : State) → n ≡ suc k → e ≡ end_of (expr_in ns sb at) → x ≡ number_in sb e → y ≡ render old (move_t sb offsets t qualified q at e x.value) s → render old (moves_t sb offsets t qualified ns q n at) s ≡ z → render old (moves_t sb offsets t qualified ns q k x.next) y ≡ z
   moves_more q n k at e x y s z l a b c h =
       ap (render old (moves_t sb offsets t qualified ns q k x.next)) (c ∙ ap (λ (y : ℕ). render old (move_t sb offsets t qualified q at y x.value) s) a)
       ∙ on x (number_in sb (end_of (expr_in ns sb at))) (λ y o. render old (moves_t sb offsets t qualified ns q k o) (render old (move_t sb offsets t qualified q at (end_of (expr_in ns sb at)) y) s)) _ (b ∙ ap (number_in sb) a) refl
@@ -48,7 +48,7 @@ module _ (old sb offsets t qualified : List ℕ) (ns : List Name) where
   moves-none q zero at id s z l e h = ap (λ (y : ℕ). render old (expr_items (e_var (state_var y))) s) e ∙ h
   moves-none q (suc n) at id s z l e h = absurd (omega arith)
 
-  pub transitions-is : (q p at : ℕ) (c : NumberAt) (x s : State) → at ≡ get_or t (p + 1) 0 → c ≡ number_in sb at → x ≡ render old (moves_t sb offsets t qualified ns q c.value c.next) s → x ≡ render old (transitions_t sb offsets t qualified ns q p) s
+  pub transitions-is : (q p at : ℕ) (c : Number) (x s : State) → at ≡ get_or t (p + 1) 0 → c ≡ number_in sb at → x ≡ render old (moves_t sb offsets t qualified ns q c.value c.next) s → x ≡ render old (transitions_t sb offsets t qualified ns q p) s
   unfolding transitions_t
   transitions-is q p at c x s e f g =
       g ∙ ap (λ (is : List Item). render old is s) (on c (number_in sb (get_or t (p + 1) 0)) (λ n o. moves_t sb offsets t qualified ns q n o) _ (f ∙ ap (number_in sb) e) refl)

@@ -8,58 +8,44 @@ use mathlib.Core.Logic.{⊎_elim}
 use mathlib.Core.Path.{◌≡◌, refl, sym, ap, subst, ◌∙◌}
 use lib.ListN.{get_or, set}
 use lib.Dec.{eqb}
-use types.Run.{OneOf}
-use denote.Enum.Declared.{tag_of}
 use borrow.Author.Tests.{eq-eqb, eqb-true, ne_eqb}
-use Rattle.wire.specs.contracts.answer.Read as Read-enum
-use Rattle.wire.specs.declared.answer.Read.{Read}
-use Rattle.wire.specs.declared.answer.Read.TheVariants as rd
-use Rattle.wire.specs.declared.answer.Skipped.{Skipped}
-use Rattle.wire.specs.declared.answer.Skipped.TheVariants as sk
 use Rattle.wire.specs.Answer.{Answer, below, byte, deep, early, illegal, u16, value}
-use Rattle.wire.proofs.Answers.{guard-value}
-use Rattle.wire.proofs.Steps.{u16-small}
+use Rattle.wire.proofs.Answers.{guard-value, u16-value}
 use Rattle.std.specs.Prelude.{Option, Some, None, IfSome}
 use Rattle.std.specs.Option.{option_eq}
 use Rattle.pack_rules.specs.Names.{Name}
-use Rattle.wire.specs.Code.{next, onward, read_of, skip, skips}
+use Rattle.std.specs.Prelude.{Ok}
+use Rattle.wire.specs.Code.{Read, Skipped, read_of, skip}
 use Rattle.pack.specs.Verdict.{offset_of}
-use Rattle.machines.specs.declared.checked_read.NumberAt.{NumberAt}
+use Rattle.wire.specs.declared.answer.Number.{Number}
 use Rattle.machines.specs.ResolvedIn.{MachineAt, RegionAt, end_of}
 use Rattle.machines.proofs.Reading.{name-number}
 use Rattle.machines.specs.CheckedReads.{byte_in, first_some, machine_from, num, number_in, region_in, sure_of, turns, with}
 
-pub sure-stops : (r : Read) → OneOf (1 ∷ 2 ∷ 3 ∷ []) (tag_of Read-enum.the_type r) → num 0 0 ≡ sure_of r
-unfolding sure_of
-sure-stops (rd.Is v q) h = absurd (⊎_elim (λ d. omega arith) (λ d. ⊎_elim (λ f. omega arith) (λ f. omega arith) d) h)
-sure-stops rd.Early h = refl
-sure-stops (rd.Illegal o) h = refl
-sure-stops (rd.Deep o) h = refl
-
-pub number_is : (s : List ℕ) (at : ℕ) (r : Read) (q : NumberAt) → r ≡ read_of (u16 s at) → q ≡ sure_of r → q ≡ number_in s at
+pub number_is : (s : List ℕ) (at : ℕ) (r : Read) (q : Number) → r ≡ read_of (u16 s at) → q ≡ sure_of r → q ≡ number_in s at
 unfolding number_in
 number_is s at r q e f = f ∙ ap sure_of e
 
-pub byte-is : (s : List ℕ) (at : ℕ) (r : Read) (q : NumberAt) → r ≡ read_of (byte s at) → q ≡ sure_of r → q ≡ byte_in s at
+pub byte-is : (s : List ℕ) (at : ℕ) (r : Read) (q : Number) → r ≡ read_of (byte s at) → q ≡ sure_of r → q ≡ byte_in s at
 unfolding byte_in
 byte-is s at r q e f = f ∙ ap sure_of e
 
 -- a step of the code
-pub on : {A : Type 0} (h x : NumberAt) (k : ℕ → ℕ → A) (r : A) → h ≡ x → r ≡ k h.value h.next → r ≡ with x k
+pub on : {A : Type 0} (h x : Number) (k : ℕ → ℕ → A) (r : A) → h ≡ x → r ≡ k h.value h.next → r ≡ with x k
 unfolding with
-on h x k r e f = f ∙ ap (λ (y : NumberAt). k y.value y.next) e
+on h x k r e f = f ∙ ap (λ (y : Number). k y.value y.next) e
 
-pub region-is : (s : List ℕ) (at : ℕ) (i h r : NumberAt) → i ≡ number_in s at → h ≡ byte_in s i.next → r ≡ number_in s h.next → r ≡ region_in s at
+pub region-is : (s : List ℕ) (at : ℕ) (i h r : Number) → i ≡ number_in s at → h ≡ byte_in s i.next → r ≡ number_in s h.next → r ≡ region_in s at
 unfolding region_in
 region-is s at i h r e f g = on i _ _ r e (on h _ _ r f g)
 
-pub machine-is : (s : List ℕ) (at : ℕ) (i r : NumberAt) → i ≡ number_in s at → r ≡ number_in s i.next → r ≡ machine_from s at
+pub machine-is : (s : List ℕ) (at : ℕ) (i r : Number) → i ≡ number_in s at → r ≡ number_in s i.next → r ≡ machine_from s at
 unfolding machine_from
 machine-is s at i r e f = on i _ _ r e f
 
 -- where reading stands after what was skipped
-pub end_is : {A : Type 0} (f : ℕ → Answer A) (at : ℕ) (r : Skipped) (q : ℕ) → r ≡ onward f (sk.To at) → q ≡ offset_of r → q ≡ end_of (f at)
-unfolding onward next skips skip offset_of end_of
+pub end_is : {A : Type 0} (f : ℕ → Answer A) (at : ℕ) (r : Skipped) (q : ℕ) → r ≡ skip (f at) → q ≡ offset_of r → q ≡ end_of (f at)
+unfolding skip offset_of end_of
 end_is {A} f at r q e g = g ∙ ap offset_of e ∙ go (f at)
   where
     go : (a : Answer A) → offset_of (skip a) ≡ end_of a
@@ -69,12 +55,12 @@ end_is {A} f at r q e g = g ∙ ap offset_of e ∙ go (f at)
     go (deep o) = refl
 
 -- a loop that gathers numbers: one more, and the end
-pub turns-went : (k : ℕ → NumberAt) (f : ℕ → ℕ → ℕ) (n at a b : ℕ) (e z : NumberAt) → 0 < n → e ≡ k at → b ≡ f a e.value → turns k f n at a ≡ z → turns k f (n - 1) e.next b ≡ z
+pub turns-went : (k : ℕ → Number) (f : ℕ → ℕ → ℕ) (n at a b : ℕ) (e z : Number) → 0 < n → e ≡ k at → b ≡ f a e.value → turns k f n at a ≡ z → turns k f (n - 1) e.next b ≡ z
 unfolding turns with
 turns-went k f zero at a b e z l g h d = absurd (omega arith)
-turns-went k f (suc n) at a b e z l g h d = let i : suc n - 1 ≡ n = omega arith in rw (i, h) (ap (λ (y : NumberAt). turns k f n y.next (f a y.value)) g ∙ d)
+turns-went k f (suc n) at a b e z l g h d = let i : suc n - 1 ≡ n = omega arith in rw (i, h) (ap (λ (y : Number). turns k f n y.next (f a y.value)) g ∙ d)
 
-pub turns-done : (k : ℕ → NumberAt) (f : ℕ → ℕ → ℕ) (n at a : ℕ) (z : NumberAt) → n ≤ 0 → turns k f n at a ≡ z → num a at ≡ z
+pub turns-done : (k : ℕ → Number) (f : ℕ → ℕ → ℕ) (n at a : ℕ) (z : Number) → n ≤ 0 → turns k f n at a ≡ z → num a at ≡ z
 unfolding turns
 turns-done k f zero at a z l d = d
 turns-done k f (suc n) at a z l d = absurd (omega arith)
@@ -111,7 +97,7 @@ pub byte-to : {A : Type 0} (s : List ℕ) (at v q : ℕ) (k : ℕ → ℕ → A)
 unfolding with byte_in sure_of read_of
 byte-to s at v q k e = rw e
 
-pub then_to : {A : Type 0} (x : NumberAt) (v q : ℕ) (k : ℕ → ℕ → A) → x ≡ num v q → with x k ≡ k v q
+pub then_to : {A : Type 0} (x : Number) (v q : ℕ) (k : ℕ → ℕ → A) → x ≡ num v q → with x k ≡ k v q
 unfolding with
 then_to x v q k e = rw e
 
@@ -150,18 +136,18 @@ or-none true b e = absurd (true≢false e)
 or-none false b e = (refl, e)
 
 -- no count and no index is past 16 bits
-pub number_small : (s : List ℕ) (at : ℕ) (c : NumberAt) → ((i : ℕ) → get_or s i 0 < 256) → c ≡ number_in s at → c.value < 65536
+pub number_small : (s : List ℕ) (at : ℕ) (c : Number) → ((i : ℕ) → get_or s i 0 < 256) → c ≡ number_in s at → c.value < 65536
 unfolding number_in sure_of read_of
-number_small s at c by e = subst (λ (x : NumberAt). x.value < 65536) (sym e) (go (u16 s at) refl)
+number_small s at c by e = subst (λ (x : Number). x.value < 65536) (sym e) (go (u16 s at) refl)
   where
     go : (a : Answer ℕ) → u16 s at ≡ a → (sure_of (read_of a)).value < 65536
-    go (value v q) g = u16-small s at v q by g
+    go (value v q) g = let p = u16-value s at v q g in omega (arith, by at, by (at + 1))
     go early g = omega arith
     go (illegal o) g = omega arith
     go (deep o) g = omega arith
 
 -- so a table of 16-bit words holds it as it is
-pub number_put : (s : List ℕ) (at : ℕ) (c : NumberAt) (t u : List ℕ) (i : ℕ) → ((j : ℕ) → get_or s j 0 < 256) → c ≡ number_in s at → u ≡ set t i (c.value % 65536) → u ≡ set t i c.value
+pub number_put : (s : List ℕ) (at : ℕ) (c : Number) (t u : List ℕ) (i : ℕ) → ((j : ℕ) → get_or s j 0 < 256) → c ≡ number_in s at → u ≡ set t i (c.value % 65536) → u ≡ set t i c.value
 number_put s at c t u i by e h = h ∙ ap (set t i) (mod-eq_of_lt (number_small s at c by e))
 
 -- what holds of the one that was looked at last holds of the same one again

@@ -10,7 +10,7 @@ use borrow.Author.Tests.{eq-eqb, ne_eqb}
 use Rattle.pack_rules.specs.Names.{Name}
 use Rattle.pack_rules.specs.Read.{equation_in}
 use Rattle.machines.specs.declared.cover.OnlyLeft.{OnlyLeft}
-use Rattle.machines.specs.declared.checked_read.NumberAt.{NumberAt}
+use Rattle.wire.specs.declared.answer.Number.{Number}
 use Rattle.machines.specs.ResolvedIn.{end_of}
 use Rattle.machines.specs.CheckedReads.{first_some, number_in, with}
 use Rattle.machines.specs.CoverAt.{all_miss, asked, assigned, first_miss, gives_t, miss_t, own_t, tells, uncovered_t}
@@ -54,7 +54,7 @@ module _ (k : ℕ → OnlyLeft) where
   tells-done (suc n) at z l d = absurd (omega arith)
 
 module _ (ns : List Name) (s : List ℕ) where
-  pub gives-is : (out at q : ℕ) (k i : NumberAt) (x y r : Bool) → k ≡ number_in s at → i ≡ number_in s k.next → q ≡ end_of (equation_in ns s at) → x ≡ eqb k.value 1 → y ≡ eqb i.value out → r ≡ (x && y) → assigned r q ≡ gives_t ns s out at
+  pub gives-is : (out at q : ℕ) (k i : Number) (x y r : Bool) → k ≡ number_in s at → i ≡ number_in s k.next → q ≡ end_of (equation_in ns s at) → x ≡ eqb k.value 1 → y ≡ eqb i.value out → r ≡ (x && y) → assigned r q ≡ gives_t ns s out at
   unfolding gives_t
   gives-is out at q k i x y r a b c d e f =
       on k _ _ _ a (on i _ _ _ b (ap (λ z. assigned z q) (f ∙ ap (λ z. z && y) d ∙ ap (λ z. eqb k.value 1 && z) e) ∙ ap (assigned (eqb k.value 1 && eqb i.value out)) c))
@@ -64,7 +64,7 @@ module _ (ns : List Name) (s : List ℕ) where
   unfolding gives_t with
   gives-next out x at e h = ap (λ (y : OnlyLeft). y.next) h
 
-  pub own_is : (out at : ℕ) (i t : NumberAt) (a : Bool) → i ≡ number_in s at → t ≡ number_in s i.next → a ≡ (tells (gives_t ns s out) ◌||◌ t.value t.next false).yes → a ≡ own_t ns s out at
+  pub own_is : (out at : ℕ) (i t : Number) (a : Bool) → i ≡ number_in s at → t ≡ number_in s i.next → a ≡ (tells (gives_t ns s out) ◌||◌ t.value t.next false).yes → a ≡ own_t ns s out at
   unfolding own_t
   own_is out at i t a x y z = on i _ _ _ x (on t _ _ _ y z)
 

@@ -14,8 +14,8 @@ use Rattle.wire.proofs.Writers.{lt-or-le}
 use Rattle.pack_rules.specs.Names.{Name, eq_name, member}
 use Rattle.pack_rules.specs.Write.{At, Found, Missing, enc, lookup}
 use Rattle.pack.specs.Intern.{found_of, table}
-use Rattle.pack.specs.declared.intern.Found as code
-use Rattle.pack.specs.declared.intern.Found.TheVariants as codes
+use Rattle.std.specs.Prelude.{Result, Ok, Err}
+use Rattle.std.specs.Result.{is_ok}
 use Rattle.machines.specs.Duplicates.{duplicate_at, duplicate_in, end_at, first_again, word_at}
 use Rattle.machine_rules.specs.Checks.{repeated}
 use Rattle.pack.proofs.TableIndex.{enc-more, table-enc}
@@ -35,13 +35,13 @@ found-member (m ∷ ms) n k = go (eq_name m n) refl (found-member ms n (k + 1))
     go true e h = sym (ap (λ b. b || member n ms) (eq_name-turn n m ∙ e))
     go false e h = h ∙ sym (ap (λ b. b || member n ms) (eq_name-turn n m ∙ e))
 
-pub found_at : (t n : List ℕ) (f : code.Found) (k : ℕ) → found_of f ≡ lookup (table t) n 0 → f ≡ codes.At k → true ≡ member n (table t)
+pub found-is : (t n : List ℕ) (f : Result ℕ ℕ) → found_of f ≡ lookup (table t) n 0 → is_ok f ≡ member n (table t)
 unfolding found_of found
-found_at t n f k e g = ap (λ y. found (found_of y)) (sym g) ∙ ap found e ∙ found-member (table t) n 0
-
-pub found-missing : (t n : List ℕ) (f : code.Found) (k : ℕ) → found_of f ≡ lookup (table t) n 0 → f ≡ codes.Missing k → false ≡ member n (table t)
-unfolding found_of found
-found-missing t n f k e g = ap (λ y. found (found_of y)) (sym g) ∙ ap found e ∙ found-member (table t) n 0
+found-is t n f e = held f ∙ ap found e ∙ found-member (table t) n 0
+  where
+    held : (f : Result ℕ ℕ) → is_ok f ≡ found (found_of f)
+    held (Ok k) = refl
+    held (Err k) = refl
 
 -- steps enough are steps enough
 again-past : (f : ℕ) (t : List ℕ) (at : ℕ) → length t ≤ at → first_again f t at ≡ at
@@ -93,7 +93,7 @@ pub again-end : (t : List ℕ) (at z : ℕ) → length t ≤ at → first_again 
 again-end t at z h d = sym (again-past (length t - at) t at h) ∙ d
 
 -- the first n bytes, or all where there are fewer
-pub again_cut : (l : List ℕ) (n e r : ℕ) → e ≡ min (0 + n) (length l) → r ≡ duplicate_at (take e l) → r ≡ duplicate_at (take n l)
+pub again_cut : (l : List ℕ) (n e r : ℕ) → e ≡ min n (length l) → r ≡ duplicate_at (take e l) → r ≡ duplicate_at (take n l)
 again_cut l n e r p q = q ∙ ap duplicate_at (⊎_elim (λ (h : length l < n). over h) (λ (h : n ≤ length l). let g : e ≡ n = omega arith in ap (λ y. take y l) g) (lt-or-le (length l) n))
   where
     over : length l < n → take e l ≡ take n l

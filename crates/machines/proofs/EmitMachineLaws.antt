@@ -13,7 +13,7 @@ use Rattle.pack_rules.specs.Write.{Item}
 use Rattle.pack.specs.Intern.{render}
 use Rattle.pack.proofs.Interns.{render-append}
 use Rattle.machines.specs.declared.layout.LayoutPos.{LayoutPos}
-use Rattle.machines.specs.declared.checked_read.NumberAt.{NumberAt}
+use Rattle.wire.specs.declared.answer.Number.{Number}
 use Rattle.machines.specs.CheckedReads.{number_in}
 use Rattle.machines.specs.Tables.{initial_in, outputs_in}
 use Rattle.machines.specs.LayoutAt.{Board, board, fed, layout_machine}
@@ -37,11 +37,11 @@ long_kept t reg qualified u v l a b c h = record {
 }
 
 -- a machine that is laid out again
-module _ (ns : List Name) (s offsets to : List ℕ) (at i : ℕ) (m : NumberAt) (t reg qualified u v l : List ℕ) (y : LayoutPos)
+module _ (ns : List Name) (s offsets to : List ℕ) (at i : ℕ) (m : Number) (t reg qualified u v l : List ℕ) (y : LayoutPos)
     (em : m ≡ number_in s at) (ei : i ≡ initial_in ns s m.next) (ey : board u v l y ≡ layout_machine ns s offsets to i t reg qualified) where
   laid-again : board u v l y ≡ lay_at ns s offsets to at t reg qualified
   unfolding lay_at
-  laid-again = ey ∙ ap (λ x. layout_machine ns s offsets to x t reg qualified) (ei ∙ ap (λ (x : NumberAt). initial_in ns s x.next) em)
+  laid-again = ey ∙ ap (λ x. layout_machine ns s offsets to x t reg qualified) (ei ∙ ap (λ (x : Number). initial_in ns s x.next) em)
 
   pub equations-put : (o : ℕ) (old : List ℕ) (z a w : State) → o ≡ outputs_in ns s m.next → a ≡ render old (regions_t s offsets u l ns v 0 y.regions) z → w ≡ render old (port_outputs_t s u l ns o) a → w ≡ render old (equations_at ns s offsets to at t reg qualified) z
   unfolding equations_at fed
@@ -49,14 +49,14 @@ module _ (ns : List Name) (s offsets to : List ℕ) (at i : ℕ) (m : NumberAt) 
       ew
       ∙ ap (render old (port_outputs_t s u l ns o)) ea
       ∙ sym (render-append old (regions_t s offsets u l ns v 0 y.regions) (port_outputs_t s u l ns o) z)
-      ∙ ap (λ x. render old (regions_t s offsets u l ns v 0 y.regions ++ port_outputs_t s u l ns x) z) (eo ∙ ap (λ (x : NumberAt). outputs_in ns s x.next) em)
+      ∙ ap (λ x. render old (regions_t s offsets u l ns v 0 y.regions ++ port_outputs_t s u l ns x) z) (eo ∙ ap (λ (x : Number). outputs_in ns s x.next) em)
       ∙ ap (λ (b : Board). render old (regions_t s offsets b.t b.qualified ns b.reg 0 b.c.regions ++ port_outputs_t s b.t b.qualified ns (outputs_in ns s (number_in s at).next)) z) laid-again
 
   pub enums-put : (n : Name) (old : List ℕ) (z w : State) → n ≡ pack_name s offsets m.value → w ≡ render old (enums_t u l v n 0 y.regions) z → w ≡ render old (enums_at ns s offsets to at t reg qualified) z
   unfolding enums_at fed
   enums-put n old z w en ew =
       ew
-      ∙ ap (λ (x : Name). render old (enums_t u l v x 0 y.regions) z) (en ∙ ap (λ (x : NumberAt). pack_name s offsets x.value) em)
+      ∙ ap (λ (x : Name). render old (enums_t u l v x 0 y.regions) z) (en ∙ ap (λ (x : Number). pack_name s offsets x.value) em)
       ∙ ap (λ (b : Board). render old (enums_t b.t b.qualified b.reg (pack_name s offsets (number_in s at).value) 0 b.c.regions) z) laid-again
 
 -- where it goes to the node k, and where not

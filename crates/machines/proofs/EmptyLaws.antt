@@ -16,7 +16,7 @@ use Rattle.machines.specs.declared.resolve.SkippedRegions.{SkippedRegions}
 use Rattle.machines.specs.declared.layout.LayoutPos.{LayoutPos}
 use Rattle.machines.specs.declared.layout.RegionHead.{RegionHead}
 use Rattle.machines.specs.declared.resolve.RefineStack.{RefineStack}
-use Rattle.machines.specs.declared.checked_read.NumberAt.{NumberAt}
+use Rattle.wire.specs.declared.answer.Number.{Number}
 use Rattle.machines.specs.declared.resolve.Resolved.{Resolved}
 use Rattle.machines.specs.declared.resolve.Resolved.TheVariants as wk
 use Rattle.machines.specs.CheckedReads.{num, region_in, with}
@@ -70,7 +70,7 @@ longest-from s offsets (suc k) o a =
     ∙ ap (max_of a) (sym (longest-from s offsets k (o + 5) (max_of 0 (len_at s offsets o)) ∙ ap (λ (x : ℕ). max_of x (longest_d s offsets k (o + 5) 0)) (max-first (len_at s offsets o))))
 
 -- one region without states, and its offsets
-pub empty-is : (at : ℕ) (g : NumberAt) (x y r : Bool) → 5 ≤ g.next → x ≡ eqb g.value 0 → y ≡ eqb (g.next - 5) at → r ≡ (x && y) → r ≡ empty_at at g
+pub empty-is : (at : ℕ) (g : Number) (x y r : Bool) → 5 ≤ g.next → x ≡ eqb g.value 0 → y ≡ eqb (g.next - 5) at → r ≡ (x && y) → r ≡ empty_at at g
 unfolding empty_at
 empty-is at g x y r l a b c = c ∙ (λ i. a i && (b ∙ go (eqb (g.next - 5) at) refl) i)
   where
@@ -82,11 +82,11 @@ and_no : (a : Bool) → (a && false) ≡ false
 and_no true = refl
 and_no false = refl
 
-pub empty-not : (at : ℕ) (g : NumberAt) → g.next < 5 → false ≡ empty_at at g
+pub empty-not : (at : ℕ) (g : Number) → g.next < 5 → false ≡ empty_at at g
 unfolding empty_at
 empty-not at g l = sym (ap (◌&&◌ (eqb g.value 0)) (ne_eqb g.next (at + 5) (λ h. omega (arith, h, l))) ∙ and_no (eqb g.value 0))
 
-empty-parts : (at : ℕ) (g : NumberAt) → empty_at at g ≡ true → (g.value ≡ 0) × (g.next ≡ at + 5)
+empty-parts : (at : ℕ) (g : Number) → empty_at at g ≡ true → (g.value ≡ 0) × (g.next ≡ at + 5)
 unfolding empty_at
 empty-parts at g e = let h = (and-eq-true_iff (eqb g.value 0) (eqb g.next (at + 5))).0 e in (eqb-true g.value 0 h.0, eqb-true g.next (at + 5) h.1)
 
@@ -98,7 +98,7 @@ pub seen_none : (s offsets : List ℕ) (from : ℕ) → SeenBefore s offsets fro
 unfolding SeenBefore
 seen_none s offsets from r = let v : r ≡ 0 + r = omega arith in (λ e. subst (λ (y : ℕ). empty_d s y from ≡ true) v e, ap (λ (y : ℕ). longest_d s offsets y from 0) v)
 
-pub seen_more : (s offsets : List ℕ) (from k l p m n : ℕ) (g : NumberAt) (b : Bool) → g ≡ region_in s p → b ≡ empty_at p g → b ≡ true → m ≡ len_at s offsets p → n ≡ max_of l m → SeenBefore s offsets from k l p → SeenBefore s offsets from (k + 1) n g.next
+pub seen_more : (s offsets : List ℕ) (from k l p m n : ℕ) (g : Number) (b : Bool) → g ≡ region_in s p → b ≡ empty_at p g → b ≡ true → m ≡ len_at s offsets p → n ≡ max_of l m → SeenBefore s offsets from k l p → SeenBefore s offsets from (k + 1) n g.next
 unfolding SeenBefore empty_d longest_d
 seen_more s offsets from k l p m n g b a c d e f h r =
     let w = empty-parts p g (sym c ∙ d) in
@@ -134,7 +134,7 @@ unfolding beside_in
 initials-kept s names offsets t h p k e l = row_kept (λ (x : ℕ). mark_in t p / 32 ≡ longest_d s offsets x p 0) t p of_empty k e l (h.empties p)
 
 -- what is taken of them
-pub taken-one : (s offsets t : List ℕ) (k at l : ℕ) (g : NumberAt) → k < 2 → g ≡ region_in s at → l ≡ len_at s offsets at → taken g.value g.next l ≡ taken_of s offsets t k at
+pub taken-one : (s offsets t : List ℕ) (k at l : ℕ) (g : Number) → k < 2 → g ≡ region_in s at → l ≡ len_at s offsets at → taken g.value g.next l ≡ taken_of s offsets t k at
 unfolding taken_of
 taken-one s offsets t k at l g e a b = rw (lt-ltb k 2 e) (on g _ _ _ a (ap (taken g.value g.next) b))
 

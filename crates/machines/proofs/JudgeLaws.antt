@@ -11,7 +11,7 @@ use Rattle.pack_rules.specs.Names.{Name}
 use Rattle.pack_rules.specs.Read.{port_in}
 use Rattle.machines.specs.declared.verdicts.NameRef.{NameRef}
 use Rattle.machines.specs.declared.verdicts.VerdictRow.{VerdictRow}
-use Rattle.machines.specs.declared.checked_read.NumberAt.{NumberAt}
+use Rattle.wire.specs.declared.answer.Number.{Number}
 use Rattle.machines.specs.declared.validate.Checked.{Checked}
 use Rattle.machines.specs.declared.validate.Checked.TheVariants as ck
 use Rattle.machines.specs.declared.resolve.Resolved.{Resolved}
@@ -49,22 +49,22 @@ pub refused-is : (k : ℕ) (a b x y : NameRef) (r : VerdictRow) → r ≡ refuse
 refused-is k a b x y r e f g = e ∙ λ i. refused_by k (f i) (g i)
 
 module _ (ns : List Name) (s t : List ℕ) where
-  pub outputs-went : (regions n p q : ℕ) (x : NumberAt) (m : ℕ) (z : VerdictRow) → 0 < n → x ≡ number_in s p → m ≡ uncovered_t ns s t x.value 8 0 → m ≡ 0 → q ≡ end_of (port_in ns s p) → outputs_j ns s t regions n p ≡ z → outputs_j ns s t regions (n - 1) q ≡ z
+  pub outputs-went : (regions n p q : ℕ) (x : Number) (m : ℕ) (z : VerdictRow) → 0 < n → x ≡ number_in s p → m ≡ uncovered_t ns s t x.value 8 0 → m ≡ 0 → q ≡ end_of (port_in ns s p) → outputs_j ns s t regions n p ≡ z → outputs_j ns s t regions (n - 1) q ≡ z
   unfolding outputs_j
   outputs-went regions zero p q x m z l a b c d e = absurd (omega arith)
   outputs-went regions (suc n) p q x m z l a b c d e =
       let k : suc n - 1 ≡ n = omega arith in
-      let o : uncovered_t ns s t (number_in s p).value 8 0 ≡ 0 = ap (λ (y : NumberAt). uncovered_t ns s t y.value 8 0) (sym a) ∙ sym b ∙ c in
+      let o : uncovered_t ns s t (number_in s p).value 8 0 ≡ 0 = ap (λ (y : Number). uncovered_t ns s t y.value 8 0) (sym a) ∙ sym b ∙ c in
       (λ i. outputs_j ns s t regions (k i) (d i))
       ∙ sym (ap (λ y. cond y (outputs_j ns s t regions n (end_of (port_in ns s p))) (refused_by 4 (named (number_in s p).value) (state_called t (uncovered_t ns s t (number_in s p).value 8 0)))) (eq-eqb _ 0 o))
       ∙ e
 
-  pub outputs-stop : (regions n p : ℕ) (x : NumberAt) (m : ℕ) (a b : NameRef) (r z : VerdictRow) → 0 < n → x ≡ number_in s p → m ≡ uncovered_t ns s t x.value 8 0 → (m ≡ 0 → ⊥) → a ≡ named x.value → b ≡ state_called t m → r ≡ refused_by 4 a b → outputs_j ns s t regions n p ≡ z → r ≡ z
+  pub outputs-stop : (regions n p : ℕ) (x : Number) (m : ℕ) (a b : NameRef) (r z : VerdictRow) → 0 < n → x ≡ number_in s p → m ≡ uncovered_t ns s t x.value 8 0 → (m ≡ 0 → ⊥) → a ≡ named x.value → b ≡ state_called t m → r ≡ refused_by 4 a b → outputs_j ns s t regions n p ≡ z → r ≡ z
   unfolding outputs_j
   outputs-stop regions zero p x m a b r z l c d e f g h k = absurd (omega arith)
   outputs-stop regions (suc n) p x m a b r z l c d e f g h k =
-      let o : m ≡ uncovered_t ns s t (number_in s p).value 8 0 = d ∙ ap (λ (y : NumberAt). uncovered_t ns s t y.value 8 0) c in
-      h ∙ (λ i. refused_by 4 ((f ∙ ap (λ (y : NumberAt). named y.value) c) i) ((g ∙ ap (state_called t) o) i))
+      let o : m ≡ uncovered_t ns s t (number_in s p).value 8 0 = d ∙ ap (λ (y : Number). uncovered_t ns s t y.value 8 0) c in
+      h ∙ (λ i. refused_by 4 ((f ∙ ap (λ (y : Number). named y.value) c) i) ((g ∙ ap (state_called t) o) i))
       ∙ sym (ap (λ y. cond y (outputs_j ns s t regions n (end_of (port_in ns s p))) (refused_by 4 (named (number_in s p).value) (state_called t (uncovered_t ns s t (number_in s p).value 8 0)))) (ne_eqb _ 0 (λ y. e (o ∙ y))))
       ∙ k
 
@@ -73,7 +73,7 @@ module _ (ns : List Name) (s t : List ℕ) where
   outputs-done regions zero p a b z l c d e = (λ i. record { kind = 0; regions = regions; second = c i; third = d i }) ∙ e
   outputs-done regions (suc n) p a b z l c d e = absurd (omega arith)
 
-  pub checked-fine : (c : Checked) (at regions : ℕ) (k : NumberAt) (r : VerdictRow) → c ≡ ck.Fine → k ≡ number_in s at → r ≡ outputs_j ns s t regions k.value k.next → r ≡ checked_j ns s t c at regions
+  pub checked-fine : (c : Checked) (at regions : ℕ) (k : Number) (r : VerdictRow) → c ≡ ck.Fine → k ≡ number_in s at → r ≡ outputs_j ns s t regions k.value k.next → r ≡ checked_j ns s t c at regions
   unfolding checked_j outputs_at
   checked-fine c at regions k r e f g = on k _ (λ n p. outputs_j ns s t regions n p) r f g ∙ ap (λ y. checked_j ns s t y at regions) (sym e)
 
@@ -110,11 +110,11 @@ module _ (ns : List Name) (s t : List ℕ) where
 
 -- resolving, and then the machine as it is laid out
 module _ (ns : List Name) (s offsets to : List ℕ) where
-  walked_at : (at i : ℕ) (m : NumberAt) (w : Resolved) → m ≡ number_in s at → i ≡ initial_in ns s m.next → w ≡ machine_w ns s offsets to m.value i → w ≡ walk_at ns s offsets to at
+  walked_at : (at i : ℕ) (m : Number) (w : Resolved) → m ≡ number_in s at → i ≡ initial_in ns s m.next → w ≡ machine_w ns s offsets to m.value i → w ≡ walk_at ns s offsets to at
   unfolding walk_at
   walked_at at i m w a b c = on m _ _ w a (c ∙ ap (machine_w ns s offsets to m.value) b)
 
-  module _ (at i : ℕ) (m : NumberAt) (w : Resolved) (t reg qualified : List ℕ) (a : m ≡ number_in s at) (b : i ≡ initial_in ns s m.next) (c : w ≡ machine_w ns s offsets to m.value i) where
+  module _ (at i : ℕ) (m : Number) (w : Resolved) (t reg qualified : List ℕ) (a : m ≡ number_in s at) (b : i ≡ initial_in ns s m.next) (c : w ≡ machine_w ns s offsets to m.value i) where
     judged-by : (v : Resolved) (r : VerdictRow) → w ≡ v → r ≡ walked_j ns s offsets to v (laid_at ns s offsets to at (lay_at ns s offsets to at t reg qualified)) → r ≡ judge_at ns s offsets to at t reg qualified
     unfolding judge_at
     judged-by v r e f = f ∙ ap (λ y. walked_j ns s offsets to y (laid_at ns s offsets to at (lay_at ns s offsets to at t reg qualified))) (sym e ∙ walked_at at i m w a b c)
@@ -133,13 +133,13 @@ module _ (ns : List Name) (s offsets to : List ℕ) where
 
     laid_from : layout_machine ns s offsets to i t reg qualified ≡ lay_at ns s offsets to at t reg qualified
     unfolding lay_at
-    laid_from = ap (λ y. layout_machine ns s offsets to y t reg qualified) (b ∙ ap (λ (y : NumberAt). initial_in ns s y.next) a)
+    laid_from = ap (λ y. layout_machine ns s offsets to y t reg qualified) (b ∙ ap (λ (y : Number). initial_in ns s y.next) a)
 
     pub judged-laid : (q k l o : ℕ) (t' reg' qualified' : List ℕ) (y : LayoutPos) (r : VerdictRow) → w ≡ wk.Went q k l → board t' reg' qualified' y ≡ layout_machine ns s offsets to i t reg qualified → o ≡ outputs_in ns s m.next → r ≡ laid_j ns s t' qualified' y.letters y.regions o → r ≡ judge_at ns s offsets to at t reg qualified
     unfolding walked_j laid_at
     judged-laid q k l o t' reg' qualified' y r e f g h =
         judged-by (wk.Went q k l) r e
-        (h ∙ ap (λ z. laid_j ns s t' qualified' y.letters y.regions z) (g ∙ ap (λ (z : NumberAt). outputs_in ns s z.next) a)
+        (h ∙ ap (λ z. laid_j ns s t' qualified' y.letters y.regions z) (g ∙ ap (λ (z : Number). outputs_in ns s z.next) a)
         ∙ ap (λ (z : Board). laid_j ns s z.t z.qualified z.c.letters z.c.regions (outputs_in ns s (number_in s at).next)) (f ∙ laid_from))
 
     -- the letters after

@@ -12,7 +12,7 @@ use Rattle.pack_rules.specs.Names.{Name}
 use Rattle.machines.specs.declared.layout.Entered.{Entered}
 use Rattle.machines.specs.declared.layout.LayoutPos.{LayoutPos}
 use Rattle.machines.specs.declared.layout.RegionHead.{RegionHead}
-use Rattle.machines.specs.declared.checked_read.NumberAt.{NumberAt}
+use Rattle.wire.specs.declared.answer.Number.{Number}
 use Rattle.machines.specs.Layout.{holed}
 use Rattle.machines.specs.CheckedReads.{byte_in, number_in}
 use Rattle.machines.specs.LayoutAt.{Board, board, close_region, close_state, entered, entered_of, fed, inner, layout_machine, layout_region, layout_state, layout_t, letters_of, machine_as, moved_to, moves_at, name_number, open_region, open_state, opening, passed, qualified_at, qualified_len, refine_b, region_b, region_from, region_words, regions_at, state_ends, state_words, sum, tally, times}
@@ -74,11 +74,11 @@ region-words t t1 t2 t3 t4 t5 t6 t7 t8 p h a m id st up e1 e2 e3 e4 e5 e6 e7 e8 
     (e4 ∙ ap (λ (l : List ℕ). set l (p + 3) m) (e3 ∙ ap (λ (l : List ℕ). set l (p + 2) a) (e2 ∙ ap (λ (l : List ℕ). set l (p + 1) h.history) e1))))))
 
 -- openings
-pub region-from : (s : List ℕ) (at : ℕ) (x y n : NumberAt) → x ≡ number_in s at → y ≡ byte_in s x.next → n ≡ number_in s y.next → opening x.value y.value n.value n.next ≡ region_from s at
+pub region-from : (s : List ℕ) (at : ℕ) (x y n : Number) → x ≡ number_in s at → y ≡ byte_in s x.next → n ≡ number_in s y.next → opening x.value y.value n.value n.next ≡ region_from s at
 unfolding region_from
 region-from s at x y n e f g = on x _ _ _ e (on y _ _ _ f (on n _ _ _ g refl))
 
-pub machine-as : (s : List ℕ) (h at : ℕ) (x n : NumberAt) → x ≡ number_in s at → n ≡ number_in s x.next → opening x.value h n.value n.next ≡ machine_as s h at
+pub machine-as : (s : List ℕ) (h at : ℕ) (x n : Number) → x ≡ number_in s at → n ≡ number_in s x.next → opening x.value h n.value n.next ≡ machine_as s h at
 unfolding machine_as
 machine-as s h at x n e g = on x _ _ _ e (on n _ _ _ g refl)
 
@@ -94,7 +94,7 @@ unfolding open_region
 open-region t u reg v qualified st up a m h c w i g e f x y z = λ j. board (e j) (f j) qualified (layout_t h.next (x j) (y j) c.letters (z j))
 
 module _ (ns : List Name) (s offsets : List ℕ) where
-  pub open-state : (t u reg qualified v : List ℕ) (a m : ℕ) (c : LayoutPos) (i n : NumberAt) (w l p x y : ℕ)
+  pub open-state : (t u reg qualified v : List ℕ) (a m : ℕ) (c : LayoutPos) (i n : Number) (w l p x y : ℕ)
       → i ≡ number_in s c.next → w ≡ qualified_len s offsets i.value qualified a m c.letters → v ≡ qualified_at s offsets i.value qualified a m c.letters
       → l ≡ sum c.letters 1 → p ≡ moves_at ns s c.next → u ≡ state_words t c.words c.next p l w
       → n ≡ regions_at ns s c.next → x ≡ sum c.words 6 → y ≡ sum l w
@@ -105,10 +105,10 @@ module _ (ns : List Name) (s offsets : List ℕ) where
       (λ j. entered (regions j).next (ex j) (size j) (regions j).value (el j) (letters j), λ j. board (words j) reg (name j) (layout_t (regions j).next (ex j) c.regions (size j) c.hole))
     where
       letters : w ≡ qualified_len s offsets (number_in s c.next).value qualified a m c.letters
-      letters = ew ∙ ap (λ (z : NumberAt). qualified_len s offsets z.value qualified a m c.letters) ei
+      letters = ew ∙ ap (λ (z : Number). qualified_len s offsets z.value qualified a m c.letters) ei
 
       name : v ≡ qualified_at s offsets (number_in s c.next).value qualified a m c.letters
-      name = ev ∙ ap (λ (z : NumberAt). qualified_at s offsets z.value qualified a m c.letters) ei
+      name = ev ∙ ap (λ (z : Number). qualified_at s offsets z.value qualified a m c.letters) ei
 
       size : y ≡ sum (sum c.letters 1) (qualified_len s offsets (number_in s c.next).value qualified a m c.letters)
       size = ey ∙ (λ j. sum (el j) (letters j))
@@ -151,11 +151,11 @@ module _ (ns : List Name) (s offsets to : List ℕ) where
   unfolding region_b
   region-on rec st up a m b d h e f = f ∙ ap (λ (y : RegionHead). rec st up a m y b) e
 
-  pub refine-plain : (rec : ℕ → ℕ → ℕ → ℕ → RegionHead → Board → Board) (st up l n k : ℕ) (b z : Board) (f : NumberAt) → f ≡ number_in s b.c.next → f.value ≡ 65535 → z ≡ close_state st k f.next b → z ≡ refine_b ns s offsets to rec st up l n k b
+  pub refine-plain : (rec : ℕ → ℕ → ℕ → ℕ → RegionHead → Board → Board) (st up l n k : ℕ) (b z : Board) (f : Number) → f ≡ number_in s b.c.next → f.value ≡ 65535 → z ≡ close_state st k f.next b → z ≡ refine_b ns s offsets to rec st up l n k b
   unfolding refine_b
   refine-plain rec st up l n k b z f e g h = on f _ _ z e (yes f.value 65535 _ _ z g h)
 
-  pub refine-into : (rec : ℕ → ℕ → ℕ → ℕ → RegionHead → Board → Board) (st up l n k j w : ℕ) (b d z : Board) (f : NumberAt) (h : RegionHead)
+  pub refine-into : (rec : ℕ → ℕ → ℕ → ℕ → RegionHead → Board → Board) (st up l n k j w : ℕ) (b d z : Board) (f : Number) (h : RegionHead)
       → f ≡ number_in s b.c.next → (f.value ≡ 65535 → ⊥) → w ≡ get_or to f.value 0 → h ≡ machine_as s 0 w → d ≡ rec st up l n h b
       → j ≡ tally k b.c.words d.c.words → z ≡ close_state st j f.next d → z ≡ refine_b ns s offsets to rec st up l n k b
   unfolding refine_b fed

@@ -11,7 +11,7 @@ use Rattle.wire.specs.Lists.{Bytes}
 use Rattle.pack_rules.specs.Limits.{absent, max_level, max_states}
 use Rattle.pack_rules.specs.Names.{Name}
 use Rattle.machines.specs.declared.resolve.RefineStack.{RefineStack}
-use Rattle.machines.specs.declared.checked_read.NumberAt.{NumberAt}
+use Rattle.wire.specs.declared.answer.Number.{Number}
 use Rattle.machines.specs.declared.resolve.Resolved.{Resolved}
 use Rattle.machines.specs.declared.resolve.Resolved.TheVariants as wk
 use Rattle.machines.specs.CheckedReads.{machine_from, number_in, region_in, turns, with}
@@ -70,7 +70,7 @@ qualify-within i w a e d h =
     cond-within (leb (i + 1 + w) 255) (wk.Went e d (max_of a (i + 1 + w))) wk.Large
     (λ k. went-within e d (max_of a (i + 1 + w)) (max-within a (i + 1 + w) h (leb-true (i + 1 + w) 255 k))) large-within
 
-turns-within : (r : ℕ → NumberAt) → ((at : ℕ) → (r at).value ≤ 255) → (n at a : ℕ) → a ≤ 255 → (turns r max_of n at a).value ≤ 255
+turns-within : (r : ℕ → Number) → ((at : ℕ) → (r at).value ≤ 255) → (n at a : ℕ) → a ≤ 255 → (turns r max_of n at a).value ≤ 255
 unfolding turns with
 turns-within r h zero at a k = k
 turns-within r h (suc n) at a k = turns-within r h n (r at).next (max_of a (r at).value) (max-within a (r at).value k (h at))

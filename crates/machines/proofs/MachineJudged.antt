@@ -17,7 +17,7 @@ use Rattle.pack_rules.specs.Read.{machine_in}
 use Rattle.pack_rules.specs.Report.{Refusal}
 use Rattle.machines.specs.declared.verdicts.NameRef.{NameRef}
 use Rattle.machines.specs.declared.verdicts.VerdictRow.{VerdictRow}
-use Rattle.machines.specs.declared.checked_read.NumberAt.{NumberAt}
+use Rattle.wire.specs.declared.answer.Number.{Number}
 use Rattle.machines.specs.declared.resolve.Resolved.{Resolved}
 use Rattle.machines.specs.declared.resolve.Resolved.TheVariants as wk
 use Rattle.machine_rules.specs.Refusals.{refine_cycle, too_large, unknown_refine}
@@ -101,11 +101,11 @@ module _ (s : List ℕ) (ns : List Name) (ms : List MachineDef) (offsets to : Li
 
   lay-is : lay_at ns s offsets to at t reg qualified ≡ laid
   unfolding lay_at
-  lay-is = ap (λ (y : NumberAt). layout_machine ns s offsets to (initial_in ns s y.next) t reg qualified) number ∙ ap (λ o. layout_machine ns s offsets to o t reg qualified) (initial-to ns s at d q m)
+  lay-is = ap (λ (y : Number). layout_machine ns s offsets to (initial_in ns s y.next) t reg qualified) number ∙ ap (λ o. layout_machine ns s offsets to o t reg qualified) (initial-to ns s at d q m)
 
   laid-is : (b : Board) → laid_at ns s offsets to at b ≡ laid_j ns s b.t b.qualified b.c.letters b.c.regions m.to-outputs
   unfolding laid_at
-  laid-is b = ap (λ (y : NumberAt). laid_j ns s b.t b.qualified b.c.letters b.c.regions (outputs_in ns s y.next)) number ∙ ap (laid_j ns s b.t b.qualified b.c.letters b.c.regions) (outputs-to ns s at d q m)
+  laid-is b = ap (λ (y : Number). laid_j ns s b.t b.qualified b.c.letters b.c.regions (outputs_in ns s y.next)) number ∙ ap (laid_j ns s b.t b.qualified b.c.letters b.c.regions) (outputs-to ns s at d q m)
 
   -- a walk that stopped
   module _ (l : List ℕ) (v : Resolved) (e : walk ≡ v) where
@@ -171,7 +171,7 @@ module _ (s : List ℕ) (ns : List Name) (ms : List MachineDef) (offsets to : Li
   pub read-judged : JudgedAs s offsets (board_at ns s offsets to at t reg qualified).qualified (number_in s at).value ms d (judge ms d) (judge_at ns s offsets to at t reg qualified)
   unfolding board_at judge_at
   read-judged =
-      subst (λ (y : NumberAt). JudgedAs s offsets (walked_b ns s offsets to (walk_at ns s offsets to at) (lay_at ns s offsets to at t reg qualified) before-it).qualified y.value ms d (judge ms d) (walked_j ns s offsets to (walk_at ns s offsets to at) (laid_at ns s offsets to at (lay_at ns s offsets to at t reg qualified)))) (sym number)
+      subst (λ (y : Number). JudgedAs s offsets (walked_b ns s offsets to (walk_at ns s offsets to at) (lay_at ns s offsets to at t reg qualified) before-it).qualified y.value ms d (judge ms d) (walked_j ns s offsets to (walk_at ns s offsets to at) (laid_at ns s offsets to at (lay_at ns s offsets to at t reg qualified)))) (sym number)
       (subst (λ (b : Board). JudgedAs s offsets (walked_b ns s offsets to (walk_at ns s offsets to at) b before-it).qualified own.i ms d (judge ms d) (walked_j ns s offsets to (walk_at ns s offsets to at) (laid_at ns s offsets to at b))) (sym lay-is)
       (subst (λ (j : VerdictRow). JudgedAs s offsets (walked_b ns s offsets to (walk_at ns s offsets to at) laid before-it).qualified own.i ms d (judge ms d) (walked_j ns s offsets to (walk_at ns s offsets to at) j)) (sym (laid-is laid))
       (by-walk (walk_at ns s offsets to at) (sym walk_is))))

@@ -12,7 +12,7 @@ use lib.Dec.{eqb}
 use borrow.Author.Tests.{eqb-true, eqb-false}
 use Rattle.wire.specs.Answer.{Answer, counted, many, u16, value}
 use Rattle.wire.specs.Code.{next, onward, skip, skips}
-use Rattle.wire.specs.declared.answer.Skipped.TheVariants as sk
+use Rattle.std.specs.Prelude.{Ok}
 use Rattle.wire.proofs.Answers.{bind-value, u16-value}
 use Rattle.wire.proofs.Formats.{bind_to}
 use Rattle.pack_rules.specs.Names.{Name, eq_name}
@@ -30,7 +30,7 @@ use Rattle.machines.proofs.ResolvedAtOffset.{Found}
 use Rattle.machines.proofs.CheckedReadLaws.{number-to}
 use Rattle.machines.proofs.NamesPlaced.{NamesAre, alone}
 
-pub onward-to : {A : Type 0} (f : ℕ → Answer A) (at : ℕ) (x : A) (q : ℕ) → f at ≡ value x q → onward f (sk.To at) ≡ sk.To q
+pub onward-to : {A : Type 0} (f : ℕ → Answer A) (at : ℕ) (x : A) (q : ℕ) → f at ≡ value x q → onward f (Ok at) ≡ Ok q
 unfolding onward next skips skip
 onward-to f at x q e = rw e
 

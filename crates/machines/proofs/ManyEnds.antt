@@ -7,7 +7,7 @@ use Rattle.wire.specs.Answer.{Answer, bind, counted, deep, early, illegal, many,
 use Rattle.wire.specs.Code.{read_of}
 use Rattle.pack_rules.specs.Names.{Name}
 use Rattle.pack_rules.specs.Read.{OneState, state_at}
-use Rattle.machines.specs.declared.checked_read.NumberAt.{NumberAt}
+use Rattle.wire.specs.declared.answer.Number.{Number}
 use Rattle.machines.specs.ResolvedIn.{end_of, over_in}
 use Rattle.machines.specs.CheckedReads.{number_in, sure_of}
 use Rattle.machines.proofs.Reading.{state-value}
@@ -51,9 +51,9 @@ many-done f zero p z l d = d
 many-done f (suc n) p z l d = absurd (omega arith)
 
 -- as many as the number before them says; where there is no number, none at 0
-pub counted-ends : {A : Type 0} (f : ℕ → Answer A) (s : List ℕ) (at : ℕ) (c : NumberAt) → c ≡ number_in s at → end_of (many f c.value c.next) ≡ end_of (counted f s at)
+pub counted-ends : {A : Type 0} (f : ℕ → Answer A) (s : List ℕ) (at : ℕ) (c : Number) → c ≡ number_in s at → end_of (many f c.value c.next) ≡ end_of (counted f s at)
 unfolding counted many bind end_of number_in sure_of read_of
-counted-ends f s at c e = ap (λ (y : NumberAt). end_of (many f y.value y.next)) e ∙ go (u16 s at)
+counted-ends f s at c e = ap (λ (y : Number). end_of (many f y.value y.next)) e ∙ go (u16 s at)
   where
     go : (a : Answer ℕ) → end_of (many f (sure_of (read_of a)).value (sure_of (read_of a)).next) ≡ end_of (bind a λ n p. many f n p)
     go (value n p) = refl
@@ -61,7 +61,7 @@ counted-ends f s at c e = ap (λ (y : NumberAt). end_of (many f y.value y.next))
     go (illegal o) = refl
     go (deep o) = refl
 
-pub counted-done : {A : Type 0} (f : ℕ → Answer A) (s : List ℕ) (at n p : ℕ) (c : NumberAt) → c ≡ number_in s at → n ≤ 0 → end_of (many f n p) ≡ end_of (many f c.value c.next) → p ≡ end_of (counted f s at)
+pub counted-done : {A : Type 0} (f : ℕ → Answer A) (s : List ℕ) (at n p : ℕ) (c : Number) → c ≡ number_in s at → n ≤ 0 → end_of (many f n p) ≡ end_of (many f c.value c.next) → p ≡ end_of (counted f s at)
 counted-done f s at n p c e l d = many-done f n p _ l d ∙ counted-ends f s at c e
 
 -- a state that reads ends with an optional name, past 0

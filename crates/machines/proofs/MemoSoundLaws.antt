@@ -12,7 +12,7 @@ use Rattle.pack_rules.specs.Names.{Name}
 use Rattle.pack_rules.specs.Read.{equation_in, equations_in, expr_in, transition_in}
 use Rattle.machines.specs.declared.resolve.EmptyRegions.{EmptyRegions}
 use Rattle.machines.specs.declared.memo.UnknownTarget.{UnknownTarget}
-use Rattle.machines.specs.declared.checked_read.NumberAt.{NumberAt}
+use Rattle.wire.specs.declared.answer.Number.{Number}
 use Rattle.machines.specs.ResolvedIn.{end_of, over_in}
 use Rattle.machines.specs.CheckedReads.{num, number_in}
 use Rattle.machines.specs.ResolveAt.{head_t, max_of}
@@ -36,13 +36,13 @@ pub guard-kept : (s : List ℕ) (names : ℕ) (t : List ℕ) (at e : ℕ) → Ro
     → (ns : List Name) → length ns ≡ names → e ≡ end_of (expr_in ns s at)
 guard-kept s names t at e h q l ns n = row_kept (λ (x : ℕ). x ≡ end_of (expr_in ns s at)) t at of_guard e q l (λ i z m. (h.rows ns n at i z).guard m)
 
-pub strays-kept : (s : List ℕ) (names : ℕ) (t : List ℕ) (f v x n : ℕ) (c : NumberAt) → RowsSound s names t → 5 ≤ f → v ≡ kept_in t (f - 5) of_strays → 0 < v → x ≡ beside_in t (f - 5) → c ≡ number_in s (f - 2) → c.value ≡ n
+pub strays-kept : (s : List ℕ) (names : ℕ) (t : List ℕ) (f v x n : ℕ) (c : Number) → RowsSound s names t → 5 ≤ f → v ≡ kept_in t (f - 5) of_strays → 0 < v → x ≡ beside_in t (f - 5) → c ≡ number_in s (f - 2) → c.value ≡ n
     → (ns : List Name) → length ns ≡ names → unknown_target_d ns s n f ≡ unknown_targets x (v - 1)
 unfolding beside_in
 strays-kept s names t f v x n c h b q l g d w ns e =
     let m : f ≡ f - 5 + 5 = omega (arith, b) in
     let o : f - 2 ≡ f - 5 + 3 = omega (arith, b) in
-    (λ i. unknown_target_d ns s ((sym w ∙ ap (λ (y : NumberAt). y.value) (d ∙ ap (number_in s) o)) i) (m i))
+    (λ i. unknown_target_d ns s ((sym w ∙ ap (λ (y : Number). y.value) (d ∙ ap (number_in s) o)) i) (m i))
     ∙ row_kept (λ (y : ℕ). unknown_target_d ns s (number_in s (f - 5 + 3)).value (f - 5 + 5) ≡ unknown_targets (mark_in t (f - 5) / 32) (y - 1)) t (f - 5) of_strays v q l (λ i z k. (h.rows ns e (f - 5) i z).stray k)
     ∙ ap (λ (y : ℕ). unknown_targets y (v - 1)) (sym g)
 
@@ -59,7 +59,7 @@ pub past-kept : (s : List ℕ) (names : ℕ) (t : List ℕ) (at r o : ℕ) → R
     → (ns : List Name) → length ns ≡ names → o ≡ over_in ns s at
 past-kept s names t at r o h q l w ns n = w ∙ (state-kept s names t at r h q l ns n).past
 
-pub regions-kept : (s : List ℕ) (names : ℕ) (t : List ℕ) (at r : ℕ) (c : NumberAt) → RowsSound s names t → r ≡ regions_in t at → 0 < r → c ≡ number_in s r
+pub regions-kept : (s : List ℕ) (names : ℕ) (t : List ℕ) (at r : ℕ) (c : Number) → RowsSound s names t → r ≡ regions_in t at → 0 < r → c ≡ number_in s r
     → (ns : List Name) → length ns ≡ names → c ≡ regions_at ns s at
 unfolding regions_at
 regions-kept s names t at r c h q l w ns n = w ∙ ap (number_in s) (q ∙ (state-kept s names t at r h q l ns n).regions)
@@ -69,15 +69,15 @@ pub head-kept : (s : List ℕ) (names : ℕ) (offsets t : List ℕ) (at r l : �
 head-kept s names offsets t at r l h q g w ns n = (λ i. num (w i) (q i)) ∙ h.heads ns n at (subst (λ (x : ℕ). 0 < x) q g)
 
 -- what is read of a state that is not kept
-pub moves_read : (ns : List Name) (s : List ℕ) (at m : ℕ) (i : NumberAt) → i ≡ number_in s at → m ≡ end_of (equations_in ns s i.next) → m ≡ moves_at ns s at
+pub moves_read : (ns : List Name) (s : List ℕ) (at m : ℕ) (i : Number) → i ≡ number_in s at → m ≡ end_of (equations_in ns s i.next) → m ≡ moves_at ns s at
 unfolding moves_at
-moves_read ns s at m i e q = q ∙ ap (λ (x : NumberAt). end_of (equations_in ns s x.next)) e
+moves_read ns s at m i e q = q ∙ ap (λ (x : Number). end_of (equations_in ns s x.next)) e
 
-pub moves_from : (ns : List Name) (s : List ℕ) (at m : ℕ) (i : NumberAt) → i ≡ number_in s at → m ≡ moves_at ns s at → m ≡ end_of (equations_in ns s i.next)
+pub moves_from : (ns : List Name) (s : List ℕ) (at m : ℕ) (i : Number) → i ≡ number_in s at → m ≡ moves_at ns s at → m ≡ end_of (equations_in ns s i.next)
 unfolding moves_at
-moves_from ns s at m i e q = q ∙ ap (λ (x : NumberAt). end_of (equations_in ns s x.next)) (sym e)
+moves_from ns s at m i e q = q ∙ ap (λ (x : Number). end_of (equations_in ns s x.next)) (sym e)
 
-pub regions-read : (ns : List Name) (s : List ℕ) (at m r : ℕ) (c : NumberAt) → m ≡ moves_at ns s at → r ≡ end_of (counted (transition_in ns s) s m) → c ≡ number_in s r → c ≡ regions_at ns s at
+pub regions-read : (ns : List Name) (s : List ℕ) (at m r : ℕ) (c : Number) → m ≡ moves_at ns s at → r ≡ end_of (counted (transition_in ns s) s m) → c ≡ number_in s r → c ≡ regions_at ns s at
 unfolding regions_at
 regions-read ns s at m r c e q w = w ∙ ap (number_in s) (q ∙ ap (λ (x : ℕ). end_of (counted (transition_in ns s) s x)) e)
 
@@ -128,7 +128,7 @@ guard-put s names t u at e r q offsets =
     row_put_lem s names t at of_guard 0 e refl (omega arith) (λ ns n. record { equation = λ x. absurd (omega arith); guard = λ x. r ns n; stray = λ x. absurd (omega arith); empty = λ x. absurd (omega arith) }) u q offsets
     (λ x. absurd (omega arith))
 
-pub strays-put : (s : List ℕ) (names : ℕ) (t u : List ℕ) (f : ℕ) (c : NumberAt) (r : UnknownTarget) → 5 ≤ f → c ≡ number_in s (f - 2) → ((ns : List Name) → length ns ≡ names → r ≡ unknown_target_d ns s c.value f)
+pub strays-put : (s : List ℕ) (names : ℕ) (t u : List ℕ) (f : ℕ) (c : Number) (r : UnknownTarget) → 5 ≤ f → c ≡ number_in s (f - 2) → ((ns : List Name) → length ns ≡ names → r ≡ unknown_target_d ns s c.value f)
     → u ≡ row_put t (f - 5) (row_mark (f - 5) of_strays r.fine) (r.name + 1) → (offsets : List ℕ) → MemoSound s names offsets t → MemoSound s names offsets u
 unfolding row_mark
 strays-put s names t u f c r b d g q offsets =
@@ -139,7 +139,7 @@ strays-put s names t u f c r b d g q offsets =
     row_put_lem s names t (f - 5) of_strays r.fine (r.name + 1) refl (omega arith) (λ ns e. record {
       equation = λ z. absurd (omega arith);
       guard = λ z. absurd (omega arith);
-      stray = λ z. (λ i. unknown_target_d ns s (ap (λ (w : NumberAt). w.value) (ap (number_in s) o ∙ sym d) i) (m i)) ∙ sym (g ns e) ∙ (λ i. unknown_targets (x i) (y i));
+      stray = λ z. (λ i. unknown_target_d ns s (ap (λ (w : Number). w.value) (ap (number_in s) o ∙ sym d) i) (m i)) ∙ sym (g ns e) ∙ (λ i. unknown_targets (x i) (y i));
       empty = λ z. absurd (omega arith);
     }) u q offsets
     (λ z. absurd (omega arith))
@@ -153,7 +153,7 @@ empties-put s names offsets t u at n e h q =
     (λ x. l ∙ h.longest)
 
 -- one state more
-pub state-put : (t u : List ℕ) (at : ℕ) (h : NumberAt) (m o r : ℕ) → h.next ≡ r → u ≡ state_put t at h.value m o r
+pub state-put : (t u : List ℕ) (at : ℕ) (h : Number) (m o r : ℕ) → h.next ≡ r → u ≡ state_put t at h.value m o r
     → (s : List ℕ) (names : ℕ) (offsets : List ℕ) → MemoSound s names offsets t → HeadRead s names offsets at h m o r → MemoSound s names offsets u
 state-put t u at h m o r e q s names offsets k d =
     subst (MemoSound s names offsets) (sym q) (record {

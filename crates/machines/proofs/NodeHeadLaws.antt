@@ -8,7 +8,7 @@ use Rattle.pack_rules.specs.Names.{Name}
 use Rattle.pack_rules.specs.Read.{ports_in}
 use Rattle.pack_rules.specs.Write.{Item, raw}
 use Rattle.pack.specs.Intern.{put_item, render}
-use Rattle.machines.specs.declared.checked_read.NumberAt.{NumberAt}
+use Rattle.wire.specs.declared.answer.Number.{Number}
 use Rattle.machines.specs.ResolvedIn.{end_of}
 use Rattle.machines.specs.CheckedReads.{number_in, with}
 use Rattle.machines.specs.Layout.{slice_of}
@@ -25,7 +25,7 @@ module _ (ns : List Name) (s defs receivers regcounts offsets : List ℕ) (n k :
       ∙ ap (render old (each_t (added_locals_t ns s defs receivers regcounts offsets k) n 0)) (hb ∙ ap (puts h) ha)
       ∙ (λ j. render old (each_t (added_locals_t ns s defs receivers regcounts offsets k) n 0) (puts (eh j) (puts (two (eo j + em j)) z)))
 
-  pub old-head-put : (at l e : ℕ) (c : NumberAt) (h : List ℕ) (z a w : State) → l ≡ node_locals_in ns s at → e ≡ end_of (ports_in ns s l) → c ≡ number_in s l → h ≡ slice_of s at (l - at) → a ≡ puts h z
+  pub old-head-put : (at l e : ℕ) (c : Number) (h : List ℕ) (z a w : State) → l ≡ node_locals_in ns s at → e ≡ end_of (ports_in ns s l) → c ≡ number_in s l → h ≡ slice_of s at (l - at) → a ≡ puts h z
       → w ≡ render old (node_locals_t ns s defs receivers regcounts offsets n k c.value c.next e) a → w ≡ render old (old_head_t ns s defs receivers regcounts offsets n k at) z
   unfolding old_head_t node_equations_in render put_item
   old-head-put at l e c h z a w el ee ec eh ha hw =
@@ -36,7 +36,7 @@ module _ (ns : List Name) (s defs receivers regcounts offsets : List ℕ) (n k :
       ∙ ap (λ (is : List Item). render old is (puts (slice_of s at (node_locals_in ns s at - at)) z))
       (on c (number_in s (node_locals_in ns s at)) (λ v b. node_locals_t ns s defs receivers regcounts offsets n k v b (node_equations_in ns s at)) _ (ec ∙ ap (number_in s) el) refl)
 
-  pub new-head-put : (at : ℕ) (m o : NumberAt) (l : ℕ) (h : List ℕ) (z a b c w : State) → m ≡ number_in s at → o ≡ number_in s m.next → l ≡ locals_in ns s at → h ≡ slice_of s o.next (l - o.next)
+  pub new-head-put : (at : ℕ) (m o : Number) (l : ℕ) (h : List ℕ) (z a b c w : State) → m ≡ number_in s at → o ≡ number_in s m.next → l ≡ locals_in ns s at → h ≡ slice_of s o.next (l - o.next)
       → a ≡ puts (two m.value) z → b ≡ put 1 a → c ≡ puts h b → w ≡ render old (node_locals_t ns s defs receivers regcounts offsets n k 0 0 0) c → w ≡ render old (new_head_t ns s defs receivers regcounts offsets n k at) z
   unfolding new_head_t render put_item puts
   new-head-put at m o l h z a b c w em eo el eh ha hb hc hw =

@@ -26,7 +26,7 @@ use Rattle.pack.specs.declared.record.Pack.{Pack}
 use Rattle.pack.proofs.Tables.{format_names}
 use Rattle.pack.proofs.Written.{finished-is}
 use Rattle.pack.proofs.TableIndex.{table-enc}
-use Rattle.machines.specs.declared.checked_read.NumberAt.{NumberAt}
+use Rattle.wire.specs.declared.answer.Number.{Number}
 use Rattle.machines.specs.Layout.{slice_of}
 use Rattle.machines.specs.CheckedReads.{num, number_in}
 use Rattle.machine_rules.specs.Refusals.{unknown_owner}
@@ -123,7 +123,7 @@ module _ (s : List ℕ) (k : Pack) (p : Package) (h : SectionsAt s k p) (bytes :
         let a = name-number p.names s (get_or defs i 0) d.name m.to-owner m.name in
         let b = optional-some p.names s m.to-owner o m.to-inputs (m.owner ∙ ap (λ (y : Option Name). value y m.to-inputs) w) in
         let u : number_in s (get_or defs i 0) ≡ num a.i m.to-owner = number-num s (get_or defs i 0) a.i m.to-owner a.is in
-        let v : number_in s (number_in s (get_or defs i 0)).next ≡ num b.i m.to-inputs = ap (λ (y : NumberAt). number_in s y.next) u ∙ number-num s m.to-owner b.i m.to-inputs b.is in
+        let v : number_in s (number_in s (get_or defs i 0)).next ≡ num b.i m.to-inputs = ap (λ (y : Number). number_in s y.next) u ∙ number-num s m.to-owner b.i m.to-inputs b.is in
         let short : (j : ℕ) (n : Name) → j < length p.names → name_at p.names j ≡ n → Short n = λ j n l z. subst Short z (names-lettered s p.names p.machines offsets to r bytes j l).1 in
         let y = refused_as s p.names offsets qualified r.spot (names-counted s p.names r.names bytes) a.i 8 (named b.i) no_name d.name (o ∷ []) [] x a.small a.named (omega arith) (omega arith)
         (called-name s p.names offsets qualified r.spot (names-counted s p.names r.names bytes) b.i b.small ∙ ap (λ (n : Name). n ∷ []) b.named)

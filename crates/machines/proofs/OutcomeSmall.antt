@@ -19,7 +19,11 @@ use Rattle.pack_rules.specs.Forms.{name_at}
 use Rattle.pack_rules.specs.Read.{Reading, bytes_after, deep_at, ends_early, illegal_at, machine_in, read, too_long, whole}
 use Rattle.pack_rules.specs.Report.{Refusal, entries, report_bytes}
 use Rattle.pack_rules.specs.Outcome.{Answers, Gives, Outcome, answers, number_of, on_package, reported, reports, returned, sized, value_of, writes, written}
-use Rattle.pack.specs.Verdict.{SectionsAt, record_of, value_for, verdict_of}
+use Rattle.std.specs.Prelude.{Err}
+use Rattle.pack.specs.declared.finish.CallError.{CallError}
+use Rattle.pack.specs.declared.finish.CallError.TheVariants as ce
+use Rattle.pack.specs.Finish.{error_value}
+use Rattle.pack.specs.Verdict.{SectionsAt, record_of, verdict_of}
 use Rattle.pack_rules.specs.Write.{enc, encode, package_items, shorts}
 use Rattle.pack.specs.declared.record.Pack.{Pack}
 use Rattle.pack.proofs.CheckLaws.{record-stands, value-small}
@@ -163,17 +167,24 @@ unfolding report_or_pack
 opened-fits output report [] p l = written-fits output p
 opened-fits output report (x ∷ xs) p l = reported-fits report (report_bytes (x ∷ xs)) l
 
+-- what stands beside the number of a pack that is not whole
+abbrev Small : List ℕ → Reading → Type 0
+Small s x = (e : CallError) → Err e ≡ verdict_of (length s) x → error_value e ≤ 65536
+
+within : (s : List ℕ) → Small s (read s)
+within s e h = value-small s e h
+
 -- THE THEOREM: of any bytes, and buffers of any length
 pub lowered-fits : (s : List ℕ) (output report : ℕ) → Bytes s → InTable (lower_machines s output report)
-unfolding lower_machines on_package lower_package_machines number_of value_of verdict_of value_for
-lowered-fits s output report bytes = go (read s) refl (value-small s (verdict_of (read s)) refl)
+unfolding lower_machines on_package lower_package_machines number_of value_of verdict_of
+lowered-fits s output report bytes = go (read s) refl (within s)
   where
-    go : (x : Reading) → read s ≡ x → value_for (verdict_of x) (length s) ≤ 65536 → InTable (on_package s x (lower_package_machines output report))
+    go : (x : Reading) → read s ≡ x → Small s x → InTable (on_package s x (lower_package_machines output report))
     go too_long e l = (omega arith, omega arith)
-    go ends_early e l = (omega arith, omega arith)
-    go (illegal_at o) e l = (omega arith, omega arith)
-    go (deep_at o) e l = (omega arith, omega arith)
-    go (bytes_after o) e l = (omega arith, omega arith)
+    go ends_early e l = (omega arith, omega (arith, l (ce.EndsEarly (length s)) refl))
+    go (illegal_at o) e l = (omega arith, omega (arith, l (ce.Illegal o) refl))
+    go (deep_at o) e l = (omega arith, omega (arith, l (ce.TooDeep o) refl))
+    go (bytes_after o) e l = (omega arith, omega (arith, l (ce.BytesAfter o) refl))
     go (whole p) e l = opened-fits output report (made_machines p).refusals (machines_lowered p (made_machines p)) (report-small s (record_of s) p (record-stands s p e) bytes (read-value s p e).0)
 
 -- number and value of a call of the lowering: they fit, and are the word that the C interface returns

@@ -11,7 +11,7 @@ use borrow.Author.Tests.{eq-eqb, ne_eqb, lt-ltb, le-ltb}
 use Rattle.pack_rules.specs.Names.{Name}
 use Rattle.pack_rules.specs.Read.{equations_in}
 use Rattle.machines.specs.declared.verdicts.VerdictRow.{VerdictRow}
-use Rattle.machines.specs.declared.checked_read.NumberAt.{NumberAt}
+use Rattle.wire.specs.declared.answer.Number.{Number}
 use Rattle.machines.specs.ResolvedIn.{end_of}
 use Rattle.machines.specs.CheckedReads.{number_in}
 use Rattle.machines.specs.Tables.{initial_in, states_end}
@@ -57,7 +57,7 @@ nth-more next from i p q a b = b ∙ ap next a ∙ nth-step next from i ∙ ap (
 
 -- past a machine, past a node
 module _ (ns : List Name) (s : List ℕ) where
-  pub machine-end : (at i r : ℕ) (m : NumberAt) → m ≡ number_in s at → i ≡ initial_in ns s m.next → r ≡ states_end ns s i → r ≡ machine_end ns s at
+  pub machine-end : (at i r : ℕ) (m : Number) → m ≡ number_in s at → i ≡ initial_in ns s m.next → r ≡ states_end ns s i → r ≡ machine_end ns s at
   unfolding machine_end
   machine-end at i r m a b c = on m _ _ r a (c ∙ ap (states_end ns s) b)
 
@@ -65,9 +65,9 @@ module _ (ns : List Name) (s : List ℕ) where
   unfolding node_end
   node_end_lem at e r a b = b ∙ ap (λ y. end_of (equations_in ns s y)) a
 
-  pub node-name : (from i p : ℕ) (m : NumberAt) → p ≡ nth (node_end ns s) from i → m ≡ number_in s p → m.value ≡ node_name_t ns s from i
+  pub node-name : (from i p : ℕ) (m : Number) → p ≡ nth (node_end ns s) from i → m ≡ number_in s p → m.value ≡ node_name_t ns s from i
   unfolding node_name_t
-  node-name from i p m a b = ap (λ (y : NumberAt). y.value) (b ∙ ap (number_in s) a)
+  node-name from i p m a b = ap (λ (y : Number). y.value) (b ∙ ap (number_in s) a)
 
   -- the regions of the machine where the loop stands
   pub regions-here : (offsets to : List ℕ) (at p g : ℕ) (t reg qualified : List ℕ) (j : VerdictRow) → p ≡ at → j ≡ judge_at ns s offsets to p t reg qualified → HasRegions ns s offsets to at g → Long t reg qualified → j.regions ≡ g
@@ -123,7 +123,7 @@ module _ (t : List ℕ) (n g o : ℕ) where
   goes-nowhere k e f h l = let m : n ≤ find_t t o n 0 = subst (λ y. n ≤ y) h l in rw (ne_eqb g 0 e, ne_eqb o 65535 f, le-ltb (find_t t o n 0) n m)
 
 -- a machine settled
-module _ (s defs regcounts : List ℕ) (i : ℕ) (receivers nodes : List ℕ) (n at g : ℕ) (m o : NumberAt) (k : ℕ) (receivers' : List ℕ)
+module _ (s defs regcounts : List ℕ) (i : ℕ) (receivers nodes : List ℕ) (n at g : ℕ) (m o : Number) (k : ℕ) (receivers' : List ℕ)
     (a : at ≡ get_or defs i 0) (b : g ≡ get_or regcounts i 0) (c : m ≡ number_in s at) (d : o ≡ number_in s m.next) (e : k ≡ goes_to nodes n g o.value) (f : receivers' ≡ set receivers i k) where
   settled-as : (x : Nodes) → x ≡ joined i m.value k (nodes_of receivers nodes n) → x ≡ settled_t s defs regcounts i (nodes_of receivers nodes n)
   unfolding settled_t

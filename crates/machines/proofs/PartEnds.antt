@@ -5,16 +5,15 @@ use mathlib.Core.List.{List}
 use mathlib.Core.Path.{◌≡◌, ap, ◌∙◌}
 use lib.ListN.{length}
 use Rattle.wire.specs.Answer.{counted, many, value}
-use Rattle.wire.specs.declared.answer.Skipped.{Skipped}
-use Rattle.wire.specs.declared.answer.Skipped.TheVariants as sk
-use Rattle.wire.specs.Code.{onward}
+use Rattle.std.specs.Prelude.{Ok}
+use Rattle.wire.specs.Code.{Skipped, next, onward, skips}
 use Rattle.wire.proofs.Answers.{bind-value, fwd-map, map-value}
 use Rattle.pack_rules.specs.Names.{Name}
 use Rattle.pack_rules.specs.Syntax.{Equation, Transition}
 use Rattle.pack_rules.specs.Read.{equation_in, equations_in, expr_in, name_in, names_in, transition_in}
 use Rattle.pack.specs.Verdict.{offset_of}
 use Rattle.pack.proofs.PartLaws.{transition-steps}
-use Rattle.machines.specs.declared.checked_read.NumberAt.{NumberAt}
+use Rattle.wire.specs.declared.answer.Number.{Number}
 use Rattle.machines.specs.ResolvedIn.{end_of}
 use Rattle.machines.specs.CheckedReads.{number_in}
 use Rattle.machines.proofs.CheckedReadLaws.{end_is}
@@ -40,13 +39,14 @@ module _ (ns : List Name) (s : List ℕ) where
       omega (arith, i)
 
   -- all of them, after their count
-  pub equations-end : (at m : ℕ) (c : NumberAt) → c ≡ number_in s at → m ≡ end_of (many (equation_in ns s) c.value c.next) → m ≡ end_of (equations_in ns s at)
+  pub equations-end : (at m : ℕ) (c : Number) → c ≡ number_in s at → m ≡ end_of (many (equation_in ns s) c.value c.next) → m ≡ end_of (equations_in ns s at)
   unfolding equations_in
   equations-end at m c a b = b ∙ counted-ends (equation_in ns s) s at c a
 
-  pub transitions-end : (at m : ℕ) (c : NumberAt) → c ≡ number_in s at → m ≡ end_of (many (transition_in ns s) c.value c.next) → m ≡ end_of (counted (transition_in ns s) s at)
+  pub transitions-end : (at m : ℕ) (c : Number) → c ≡ number_in s at → m ≡ end_of (many (transition_in ns s) c.value c.next) → m ≡ end_of (counted (transition_in ns s) s at)
   transitions-end at m c a b = b ∙ counted-ends (transition_in ns s) s at c a
 
   -- a transition, past its guard
-  pub transition-end : (at q : ℕ) (g r : Skipped) → g ≡ onward (expr_in ns s) (sk.To at) → r ≡ onward (name_in ns s) g → q ≡ offset_of r → q ≡ end_of (transition_in ns s at)
-  transition-end at q g r a b d = end_is (transition_in ns s) at r q (b ∙ ap (onward (name_in ns s)) a ∙ transition-steps ns s (sk.To at)) d
+  pub transition-end : (at q : ℕ) (g r : Skipped) → g ≡ onward (expr_in ns s) (Ok at) → r ≡ onward (name_in ns s) g → q ≡ offset_of r → q ≡ end_of (transition_in ns s at)
+  unfolding onward next skips
+  transition-end at q g r a b d = end_is (transition_in ns s) at r q (b ∙ ap (onward (name_in ns s)) a ∙ transition-steps ns s (Ok at)) d

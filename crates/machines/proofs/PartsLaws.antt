@@ -15,7 +15,7 @@ use Rattle.pack_rules.specs.Write.{Item, raw}
 use Rattle.pack.specs.Intern.{put_item, render}
 use Rattle.pack.specs.declared.record.Pack.{Pack}
 use Rattle.pack.proofs.Interns.{render-append}
-use Rattle.machines.specs.declared.checked_read.NumberAt.{NumberAt}
+use Rattle.wire.specs.declared.answer.Number.{Number}
 use Rattle.machines.specs.ResolvedIn.{end_of}
 use Rattle.machines.specs.CheckedReads.{number_in, with}
 use Rattle.machines.specs.Layout.{slice_of}
@@ -34,7 +34,7 @@ module _ (ns : List Name) (s defs receivers regcounts offsets : List ℕ) (n : �
         ∙ ap (render old (each_t (added_equations_t receivers eqs k) n 0)) (hb ∙ ap (puts h) ha)
         ∙ (λ j. render old (each_t (added_equations_t receivers eqs k) n 0) (puts (eh j) (puts (two (eo j + em j)) z)))
 
-    pub old-node-put : (k at e y : ℕ) (c : NumberAt) (z a w : State) → e ≡ node_equations_in ns s at → y ≡ end_of (equations_in ns s e) → c ≡ number_in s e → a ≡ render old (old_head_t ns s defs receivers regcounts offsets n k at) z
+    pub old-node-put : (k at e y : ℕ) (c : Number) (z a w : State) → e ≡ node_equations_in ns s at → y ≡ end_of (equations_in ns s e) → c ≡ number_in s e → a ≡ render old (old_head_t ns s defs receivers regcounts offsets n k at) z
         → w ≡ render old (node_equations_t ns s defs receivers regcounts offsets n eqs k c.value c.next y) a → w ≡ render old (old_node_t ns s defs receivers regcounts offsets n eqs k at) z
     unfolding old_node_t
     old-node-put k at e y c z a w ee ey ec ha hw =
@@ -75,7 +75,7 @@ module _ (ns : List Name) (s defs receivers regcounts offsets : List ℕ) (n : �
     unfolding new_node_t render
     no-new-node i o z eo h = rw (ne_eqb (owned_t s defs i) 0 (λ x. h (eo ∙ x))) refl
 
-    pub nodes-put : (at : ℕ) (c : NumberAt) (o g : ℕ) (z a b w : State) → c ≡ number_in s at → o ≡ small_of c.value → g ≡ n - total_t (owned_t s defs) n 0 → a ≡ puts (two (o + g)) z → b ≡ render old (old_nodes_t ns s defs receivers regcounts offsets n eqs c.value 0 c.next) a
+    pub nodes-put : (at : ℕ) (c : Number) (o g : ℕ) (z a b w : State) → c ≡ number_in s at → o ≡ small_of c.value → g ≡ n - total_t (owned_t s defs) n 0 → a ≡ puts (two (o + g)) z → b ≡ render old (old_nodes_t ns s defs receivers regcounts offsets n eqs c.value 0 c.next) a
         → w ≡ render old (each_t (new_node_t ns s defs receivers regcounts offsets n eqs) n 0) b → w ≡ render old (nodes_t ns s defs receivers regcounts offsets n eqs at) z
     unfolding nodes_t render put_item
     nodes-put at c o g z a b w ec eo eg ha hb hw =
@@ -86,7 +86,7 @@ module _ (ns : List Name) (s defs receivers regcounts offsets : List ℕ) (n : �
         (on c (number_in s at) (λ v b. raw (two (small_of v + (n - total_t (owned_t s defs) n 0))) ∷ (old_nodes_t ns s defs receivers regcounts offsets n eqs v 0 b ++ each_t (new_node_t ns s defs receivers regcounts offsets n eqs) n 0)) _ ec refl)
 
   module _ (old : List ℕ) where
-    pub enums-part-put : (ens : ℕ → List Item) (at to : ℕ) (c : NumberAt) (o g : ℕ) (h : List ℕ) (z a b w : State) → c ≡ number_in s at → o ≡ small_of c.value → g ≡ total_t (regions_t regcounts) n 0 → h ≡ slice_of s c.next (to - c.next) → a ≡ puts (two (o + g)) z → b ≡ puts h a
+    pub enums-part-put : (ens : ℕ → List Item) (at to : ℕ) (c : Number) (o g : ℕ) (h : List ℕ) (z a b w : State) → c ≡ number_in s at → o ≡ small_of c.value → g ≡ total_t (regions_t regcounts) n 0 → h ≡ slice_of s c.next (to - c.next) → a ≡ puts (two (o + g)) z → b ≡ puts h a
         → w ≡ render old (each_t ens n 0) b → w ≡ render old (enums_part_t ns s defs receivers regcounts offsets n ens at to) z
     unfolding enums_part_t render put_item
     enums-part-put ens at to c o g h z a b w ec eo eg eh ha hb hw =
@@ -96,7 +96,7 @@ module _ (ns : List Name) (s defs receivers regcounts offsets : List ℕ) (n : �
         ∙ ap (λ (is : List Item). render old is z)
         (on c (number_in s at) (λ v b. raw (two (small_of v + total_t (regions_t regcounts) n 0)) ∷ raw (slice_of s b (to - b)) ∷ each_t ens n 0) _ ec refl)
 
-    pub origins-part-put : (at to nodes : ℕ) (c : NumberAt) (o : ℕ) (d : NumberAt) (g : ℕ) (h : List ℕ) (z a b w : State) → c ≡ number_in s at → o ≡ small_of c.value → d ≡ number_in s nodes → g ≡ total_t (owned_t s defs) n 0 → h ≡ slice_of s c.next (to - c.next)
+    pub origins-part-put : (at to nodes : ℕ) (c : Number) (o : ℕ) (d : Number) (g : ℕ) (h : List ℕ) (z a b w : State) → c ≡ number_in s at → o ≡ small_of c.value → d ≡ number_in s nodes → g ≡ total_t (owned_t s defs) n 0 → h ≡ slice_of s c.next (to - c.next)
         → a ≡ puts (two (o + g)) z → b ≡ puts h a → w ≡ render old (each_t (own_origin_t ns s defs receivers regcounts d.value d.next) n 0) b → w ≡ render old (origins_part_t ns s defs receivers regcounts offsets n at to nodes) z
     unfolding origins_part_t render put_item
     origins-part-put at to nodes c o d g h z a b w ec eo ed eg eh ha hb hw =

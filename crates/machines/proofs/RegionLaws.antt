@@ -90,8 +90,8 @@ module _ (buf n : List ℕ) (v : Writer) (e : state_of buf [] v ≡ puts n (st 2
       (cc, cc))
       (lt-or-le 255 (length n))
 
-  pub built-text : (k : ℕ) → v.full ≡ false → k ≡ min (0 + v.at) 255 → take k buf ≡ n
-  built-text k f h = take_part buf v.at k (h ∙ ap (min (0 + v.at)) (sym (built-at f).1)) ∙ (built-at f).0
+  pub built-text : (k : ℕ) → v.full ≡ false → k ≡ min v.at 255 → take k buf ≡ n
+  built-text k f h = take_part buf v.at k (h ∙ ap (min v.at) (sym (built-at f).1)) ∙ (built-at f).0
 
 -- a region's state, by whether its initial state's name is too long
 module _ (old sb offsets t qualified : List ℕ) where

@@ -14,7 +14,7 @@ use Rattle.machine_rules.specs.Resolved.{ResolvedMachine, ResolvedStates, r_cons
 use Rattle.pack_rules.specs.Read.{ports_in}
 use Rattle.pack_rules.specs.Write.{Item, each, enum_items, equation_items}
 use Rattle.pack.specs.Intern.{render}
-use Rattle.machines.specs.declared.checked_read.NumberAt.{NumberAt}
+use Rattle.wire.specs.declared.answer.Number.{Number}
 use Rattle.machines.specs.declared.resolve.Resolved.{Resolved}
 use Rattle.machines.specs.declared.resolve.Resolved.TheVariants as wk
 use Rattle.machine_rules.specs.Resolve.{Walk, as_machine, stop, went}
@@ -126,7 +126,7 @@ module _ (ns : List Name) (s old offsets : List ℕ) (P : PackOf ns s old offset
     laid-at : (t reg qualified : List ℕ) → lay_at ns s offsets to (get_or defs i 0) t reg qualified ≡ layout_machine ns s offsets to read_as.to-initial t reg qualified
     unfolding lay_at
     laid-at t reg qualified =
-        ap (λ (y : NumberAt). layout_machine ns s offsets to (initial_in ns s y.next) t reg qualified) number_at
+        ap (λ (y : Number). layout_machine ns s offsets to (initial_in ns s y.next) t reg qualified) number_at
         ∙ ap (λ y. layout_machine ns s offsets to y t reg qualified) (initial-to ns s (get_or defs i 0) h.shown.drawing h.shown.end read_as)
 
     -- THE LAW: its equations
@@ -135,7 +135,7 @@ module _ (ns : List Name) (s old offsets : List ℕ) (P : PackOf ns s old offset
     share-equations t reg qualified g z =
         let b = layout_machine ns s offsets to read_as.to-initial t reg qualified in
         let f : Board → ℕ → List Item = λ b o. regions_t s offsets b.t b.qualified ns b.reg 0 b.c.regions ++ port_outputs_t s b.t b.qualified ns o in
-        let o : outputs_in ns s (number_in s (get_or defs i 0)).next ≡ read_as.to-outputs = ap (λ (y : NumberAt). outputs_in ns s y.next) number_at ∙ outputs-to ns s (get_or defs i 0) h.shown.drawing h.shown.end read_as in
+        let o : outputs_in ns s (number_in s (get_or defs i 0)).next ≡ read_as.to-outputs = ap (λ (y : Number). outputs_in ns s y.next) number_at ∙ outputs-to ns s (get_or defs i 0) h.shown.drawing h.shown.end read_as in
         (λ j. render old (f (laid-at t reg qualified j) (o j)) z)
         ∙ equations-board (as_machine h.shown.drawing h.shown.states) b (laid-share t reg qualified g) h.accepted read_as.to-outputs read_as.to-locals read_as.outputs z
         ∙ ap (λ y. render old (each equation_items (equations_of y)) z) (sym (its-machine ns s old offsets P defs receivers regcounts i x h.shown))
@@ -146,7 +146,7 @@ module _ (ns : List Name) (s old offsets : List ℕ) (P : PackOf ns s old offset
     share-enums t reg qualified g z =
         let b = layout_machine ns s offsets to read_as.to-initial t reg qualified in
         let f : Board → Name → List Item = λ b o. enums_t b.t b.qualified b.reg o 0 b.c.regions in
-        let o : pack_name s offsets (number_in s (get_or defs i 0)).value ≡ h.shown.drawing.name = ap (λ (y : NumberAt). pack_name s offsets y.value) number_at ∙ P.placed called.i called.small ∙ called.named in
+        let o : pack_name s offsets (number_in s (get_or defs i 0)).value ≡ h.shown.drawing.name = ap (λ (y : Number). pack_name s offsets y.value) number_at ∙ P.placed called.i called.small ∙ called.named in
         (λ j. render old (f (laid-at t reg qualified j) (o j)) z)
         ∙ ap (λ is. render old is z) (enums-board (as_machine h.shown.drawing h.shown.states) b (laid-share t reg qualified g) h.accepted)
         ∙ ap (λ y. render old (each enum_items (enums_of y)) z) (sym (its-machine ns s old offsets P defs receivers regcounts i x h.shown))

@@ -14,7 +14,7 @@ use Rattle.pack_rules.specs.Names.{Name}
 use Rattle.wire.specs.Writer.{overwritten}
 use Rattle.machines.specs.declared.verdicts.NameRef.{NameRef}
 use Rattle.machines.specs.declared.verdicts.VerdictRow.{VerdictRow}
-use Rattle.machines.specs.declared.checked_read.NumberAt.{NumberAt}
+use Rattle.wire.specs.declared.answer.Number.{Number}
 use Rattle.machines.specs.CheckedReads.{number_in}
 use Rattle.machines.specs.ReportEntries.{entry_bytes}
 use Rattle.machines.specs.VerdictAt.{board_at, judge_at, named, no_name, refused_by}
@@ -37,17 +37,17 @@ module _ (ns : List Name) (s offsets to defs regcounts : List ℕ) (i : ℕ) (t 
     unfolding letters_t
     letters-again l e f = let h : get_or regcounts i 0 ≡ 0 = sym b ∙ e in rw (eq-eqb (get_or regcounts i 0) 0 h) (f ∙ ap (λ y. (board_at ns s offsets to y t reg qualified).qualified) a)
 
-    pub refusal-owner : (m o : NumberAt) (x y : NameRef) (j : VerdictRow) → (g ≡ 0 → ⊥) → m ≡ number_in s at → o ≡ number_in s m.next → x ≡ named o.value → y ≡ no_name → j ≡ refused_by 8 x y → j ≡ refusal_t ns s offsets to defs regcounts i t reg qualified
+    pub refusal-owner : (m o : Number) (x y : NameRef) (j : VerdictRow) → (g ≡ 0 → ⊥) → m ≡ number_in s at → o ≡ number_in s m.next → x ≡ named o.value → y ≡ no_name → j ≡ refused_by 8 x y → j ≡ refusal_t ns s offsets to defs regcounts i t reg qualified
     unfolding refusal_t
     refusal-owner m o x y j e c d f h k =
-        let l : o ≡ number_in s (number_in s (get_or defs i 0)).next = d ∙ ap (λ (z : NumberAt). number_in s z.next) (c ∙ ap (number_in s) a) in
-        rw (ne_eqb (get_or regcounts i 0) 0 (λ z. e (b ∙ z))) (k ∙ λ w. refused_by 8 ((f ∙ ap (λ (z : NumberAt). named z.value) l) w) (h w))
+        let l : o ≡ number_in s (number_in s (get_or defs i 0)).next = d ∙ ap (λ (z : Number). number_in s z.next) (c ∙ ap (number_in s) a) in
+        rw (ne_eqb (get_or regcounts i 0) 0 (λ z. e (b ∙ z))) (k ∙ λ w. refused_by 8 ((f ∙ ap (λ (z : Number). named z.value) l) w) (h w))
 
     pub letters-owner : (g ≡ 0 → ⊥) → qualified ≡ letters_t ns s offsets to defs regcounts i t reg qualified
     unfolding letters_t
     letters-owner e = rw (ne_eqb (get_or regcounts i 0) 0 (λ z. e (b ∙ z)))
 
-  pub entry_of : (at : ℕ) (m : NumberAt) (j : VerdictRow) (l : List ℕ) → at ≡ get_or defs i 0 → m ≡ number_in s at → j ≡ refusal_t ns s offsets to defs regcounts i t reg qualified → l ≡ letters_t ns s offsets to defs regcounts i t reg qualified
+  pub entry_of : (at : ℕ) (m : Number) (j : VerdictRow) (l : List ℕ) → at ≡ get_or defs i 0 → m ≡ number_in s at → j ≡ refusal_t ns s offsets to defs regcounts i t reg qualified → l ≡ letters_t ns s offsets to defs regcounts i t reg qualified
       → entry_bytes s offsets l m.value j ≡ entry_t ns s offsets to defs regcounts i t reg qualified
   unfolding entry_t
   entry_of at m j l a b c d = λ w. entry_bytes s offsets (d w) ((b ∙ ap (number_in s) a) w).value (c w)

@@ -14,7 +14,7 @@ use Rattle.pack_rules.specs.Names.{Name}
 use Rattle.pack_rules.specs.Read.{equations_in, expr_in}
 use Rattle.machines.specs.contracts.resolve.Resolved as Walked-enum
 use Rattle.machines.specs.declared.resolve.RefineStack.{RefineStack}
-use Rattle.machines.specs.declared.checked_read.NumberAt.{NumberAt}
+use Rattle.wire.specs.declared.answer.Number.{Number}
 use Rattle.machines.specs.declared.resolve.Resolved.{Resolved}
 use Rattle.machines.specs.declared.resolve.Resolved.TheVariants as wk
 use Rattle.machines.specs.ResolvedIn.{end_of}
@@ -45,7 +45,7 @@ pub most-not : (a b : ℕ) → b ≤ a → a ≡ max_of a b
 unfolding max_of
 most-not a b h = rw (le-ltb a b h)
 
-pub len-at-is : (s offsets : List ℕ) (at x : ℕ) (i : NumberAt) → i ≡ number_in s at → x ≡ len_of s offsets i.value → x ≡ len_at s offsets at
+pub len-at-is : (s offsets : List ℕ) (at x : ℕ) (i : Number) → i ≡ number_in s at → x ≡ len_of s offsets i.value → x ≡ len_at s offsets at
 unfolding len_at
 len-at-is s offsets at x i e f = on i _ _ x e f
 
@@ -101,31 +101,31 @@ module _ (s offsets to : List ℕ) where
   unfolding enter_w
   enter-unknown p i m w o e f g h = rw (sym e ∙ f, eq-eqb (get_or to m 0) 0 (sym g ∙ h))
 
-  pub enter-on : (p : RefineStack) (i m w l : ℕ) (o : Bool) (k : NumberAt) → o ≡ on_of p m → o ≡ false → w ≡ get_or to m 0 → (w ≡ 0 → ⊥) → k ≡ machine_from s w → l ≡ len_at s offsets w → wk.Went k.next k.value l ≡ enter_w s offsets to p i m
+  pub enter-on : (p : RefineStack) (i m w l : ℕ) (o : Bool) (k : Number) → o ≡ on_of p m → o ≡ false → w ≡ get_or to m 0 → (w ≡ 0 → ⊥) → k ≡ machine_from s w → l ≡ len_at s offsets w → wk.Went k.next k.value l ≡ enter_w s offsets to p i m
   unfolding enter_w
   enter-on p i m w l o k e f g h x y =
       rw (sym e ∙ f, ne_eqb (get_or to m 0) 0 (λ q. h (g ∙ q)))
       (on k _ _ _ (x ∙ ap (machine_from s) g) (ap (wk.Went k.next k.value) (y ∙ ap (len_at s offsets) g)))
 
 module _ (ns : List Name) (s offsets : List ℕ) where
-  pub target_is : (at x p : ℕ) (i : NumberAt) → p ≡ end_of (expr_in ns s at) → i ≡ number_in s p → x ≡ len_of s offsets i.value → num x i.next ≡ target_t ns s offsets at
+  pub target_is : (at x p : ℕ) (i : Number) → p ≡ end_of (expr_in ns s at) → i ≡ number_in s p → x ≡ len_of s offsets i.value → num x i.next ≡ target_t ns s offsets at
   unfolding target_t
   target_is at x p i f g h = on i _ _ _ (g ∙ ap (number_in s) f) (ap (λ y. num y i.next) h)
 
-  pub head-is : (at l p : ℕ) (i t r : NumberAt) → i ≡ number_in s at → p ≡ end_of (equations_in ns s i.next) → t ≡ number_in s p → l ≡ len_of s offsets i.value → r ≡ turns (target_t ns s offsets) max_of t.value t.next l → r ≡ head_t ns s offsets at
+  pub head-is : (at l p : ℕ) (i t r : Number) → i ≡ number_in s at → p ≡ end_of (equations_in ns s i.next) → t ≡ number_in s p → l ≡ len_of s offsets i.value → r ≡ turns (target_t ns s offsets) max_of t.value t.next l → r ≡ head_t ns s offsets at
   unfolding head_t
   head-is at l p i t r x y z w v = on i _ _ r x (on t _ _ r (z ∙ ap (number_in s) y) (v ∙ ap (turns (target_t ns s offsets) max_of t.value t.next) w))
 
   module _ (to : List ℕ) where
-    pub region-on : (rec : RefineStack → ℕ → ℕ → ℕ → Resolved) (p : RefineStack) (at c : ℕ) (g : NumberAt) (r : Resolved) → g ≡ region_in s at → r ≡ go_on (rec p g.value g.next c) (λ q d w. wk.Went q d (max_of (len_at s offsets at) w)) → r ≡ region_w ns s offsets to rec p at c
+    pub region-on : (rec : RefineStack → ℕ → ℕ → ℕ → Resolved) (p : RefineStack) (at c : ℕ) (g : Number) (r : Resolved) → g ≡ region_in s at → r ≡ go_on (rec p g.value g.next c) (λ q d w. wk.Went q d (max_of (len_at s offsets at) w)) → r ≡ region_w ns s offsets to rec p at c
     unfolding region_w
     region-on rec p at c g r x y = on g _ _ r x y
 
-    pub refine-plain : (rec : RefineStack → ℕ → ℕ → ℕ → Resolved) (p : RefineStack) (i at c a : ℕ) (f : NumberAt) → f ≡ number_in s at → f.value ≡ 65535 → wk.Went f.next c a ≡ refine_w ns s offsets to rec p i at c a
+    pub refine-plain : (rec : RefineStack → ℕ → ℕ → ℕ → Resolved) (p : RefineStack) (i at c a : ℕ) (f : Number) → f ≡ number_in s at → f.value ≡ 65535 → wk.Went f.next c a ≡ refine_w ns s offsets to rec p i at c a
     unfolding refine_w
     refine-plain rec p i at c a f x e = on f _ _ _ x (yes f.value 65535 _ _ _ e refl)
 
-    pub refine-into : (rec : RefineStack → ℕ → ℕ → ℕ → Resolved) (p : RefineStack) (i at c a : ℕ) (f : NumberAt) (r : Resolved) → f ≡ number_in s at → (f.value ≡ 65535 → ⊥)
+    pub refine-into : (rec : RefineStack → ℕ → ℕ → ℕ → Resolved) (p : RefineStack) (i at c a : ℕ) (f : Number) (r : Resolved) → f ≡ number_in s at → (f.value ≡ 65535 → ⊥)
         → r ≡ go_on (enter_w s offsets to p i f.value) (λ b k l. go_on (rec (pushed_of p f.value) k b c) (λ q d w. qualify_of (len_of s offsets i) (max_of l w) a f.next d)) → r ≡ refine_w ns s offsets to rec p i at c a
     unfolding refine_w
     refine-into rec p i at c a f r x e y = on f _ _ _ x (no f.value 65535 _ _ _ e y)
@@ -135,7 +135,7 @@ module _ (ns : List Name) (s offsets : List ℕ) where
     state-large rec p at c h = rw (le-ltb c 512 h)
 
     -- from a state's regions on
-    pub state-on : (rec : RefineStack → ℕ → ℕ → ℕ → Resolved) (p : RefineStack) (at c : ℕ) (h t : NumberAt) (r : Resolved) → c < 512 → h ≡ head_t ns s offsets at → t ≡ number_in s h.next
+    pub state-on : (rec : RefineStack → ℕ → ℕ → ℕ → Resolved) (p : RefineStack) (at c : ℕ) (h t : Number) (r : Resolved) → c < 512 → h ≡ head_t ns s offsets at → t ≡ number_in s h.next
         → r ≡ go_on (rounds (region_w ns s offsets to rec p) t.value t.next (c + 1) h.value) (λ z d b. with (number_in s at) λ i x. refine_w ns s offsets to rec p i z d b) → r ≡ state_w ns s offsets to rec p at c
     unfolding state_w
     state-on rec p at c h t r l y z w = rw (lt-ltb c 512 l) (on h _ _ r y (on t _ _ r z w))
@@ -149,7 +149,7 @@ module _ (ns : List Name) (s offsets : List ℕ) where
     walk-some zero p n at c h = absurd (h refl)
     walk-some (suc l) p n at c h = let e : suc l - 1 ≡ l = omega arith in rw e refl
 
-    pub machine-walk : (m at : ℕ) (k : NumberAt) (p : RefineStack) (r : Resolved) → k ≡ machine_from s at → p ≡ start_of m → r ≡ walk ns s offsets to 8 p k.value k.next 0 → r ≡ machine_w ns s offsets to m at
+    pub machine-walk : (m at : ℕ) (k : Number) (p : RefineStack) (r : Resolved) → k ≡ machine_from s at → p ≡ start_of m → r ≡ walk ns s offsets to 8 p k.value k.next 0 → r ≡ machine_w ns s offsets to m at
     unfolding machine_w
     machine-walk m at k p r x y z = on k _ _ r x (z ∙ ap (λ (q : RefineStack). walk ns s offsets to 8 q k.value k.next 0) y)
 

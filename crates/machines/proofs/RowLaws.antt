@@ -31,7 +31,7 @@ first-none t q r h l = let e = word-past t q 6 h in absurd (omega arith)
 pub inner-none : (t : List ℕ) (p r : ℕ) → length t ≤ p → 0 < get_or t (p + 5) 0 → r ≡ p + 6
 inner-none t p r h l = let e = word-past t p 5 h in absurd (omega arith)
 
-pub part-is : (s : List ℕ) (a n b e : ℕ) → b ≡ min (0 + a) (length s) → e ≡ min (b + n) (length s) → take (e - b) (drop b s) ≡ slice_of s a n
+pub part-is : (s : List ℕ) (a n b e : ℕ) → b ≡ min a (length s) → e ≡ min (b + n) (length s) → take (e - b) (drop b s) ≡ slice_of s a n
 unfolding slice_of
 part-is s a n b e f g =
     ap (λ (k : ℕ). take (k - b) (drop b s)) g ∙ take-capped s b n (omega arith) ∙ ap (take n) (drop-part s a b f)

@@ -19,7 +19,7 @@ use Rattle.pack_rules.specs.Legal.{Fresh, place}
 use Rattle.pack_rules.specs.Read.{machine_in, optional_in}
 use Rattle.pack_rules.specs.Report.{Refusal}
 use Rattle.pack.proofs.Tables.{Either, either, known, place_out, unknown}
-use Rattle.machines.specs.declared.checked_read.NumberAt.{NumberAt}
+use Rattle.wire.specs.declared.answer.Number.{Number}
 use Rattle.machine_rules.specs.Refusals.{unknown_owner}
 use Rattle.machine_rules.specs.Resolve.{as_machine}
 use Rattle.machine_rules.specs.Checks.{refusal_of}
@@ -130,10 +130,10 @@ OwnerIs ns (some o) v = (v ≡ absent → ⊥) × (v < length ns) × (name_at ns
 
 owner-is : (ns : List Name) (s : List ℕ) (at : ℕ) (o : Option Name) (q : ℕ) → optional_in ns s at ≡ value o q → OwnerIs ns o (number_in s at).value
 unfolding OwnerIs
-owner-is ns s at none q e = ap (λ (y : NumberAt). y.value) (number-num s at absent q (optional-none ns s at q e))
+owner-is ns s at none q e = ap (λ (y : Number). y.value) (number-num s at absent q (optional-none ns s at q e))
 owner-is ns s at (some o) q e =
     let h = optional-some ns s at o q e in
-    let v : (number_in s at).value ≡ h.i = ap (λ (y : NumberAt). y.value) (number-num s at h.i q h.is) in
+    let v : (number_in s at).value ≡ h.i = ap (λ (y : Number). y.value) (number-num s at h.i q h.is) in
     (λ z. h.present (sym v ∙ z), subst (λ y. y < length ns) (sym v) h.small, ap (name_at ns) v ∙ h.named)
 
 module _ (ms : List MachineDef) (ns : List Name) (s defs regcounts : List ℕ) where

@@ -34,7 +34,7 @@ elsewhere-less receivers n k p i a d e h g j l m q = go (eqb j i) refl
     go false x = g j (omega (arith, eqb-false j i x)) m q
 
 -- a table from f on, as it is cut and as it is looked up
-pub from_is : (t : List ℕ) (f b : ℕ) → b ≡ min (0 + f) (length t) → take (length t - b) (drop b t) ≡ drop f t
+pub from_is : (t : List ℕ) (f b : ℕ) → b ≡ min f (length t) → take (length t - b) (drop b t) ≡ drop f t
 from_is t f b e = take_all (length t - b) (drop b t) (omega (arith, length-drop b t)) ∙ drop-part t f b e
 
 from_at : (t x : List ℕ) (f : ℕ) → x ≡ drop f t → (p : ℕ) → get_or x p 0 ≡ get_or t (f + p) 0

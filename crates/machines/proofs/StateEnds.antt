@@ -5,21 +5,17 @@ use mathlib.Core.List.{List, [], ◌∷◌}
 use mathlib.Core.Logic.{⊎_elim}
 use mathlib.Core.Path.{◌≡◌, refl, sym, ap, ◌∙◌}
 use lib.ListN.{length}
-use types.Run.{OneOf}
-use denote.Enum.Declared.{tag_of}
-use Rattle.wire.specs.contracts.answer.Skipped as Skipped-enum
 use Rattle.wire.specs.Answer.{Answer, below, counted, deep, early, illegal, many, value}
-use Rattle.wire.specs.declared.answer.Skipped.{Skipped}
-use Rattle.wire.specs.declared.answer.Skipped.TheVariants as sk
-use Rattle.wire.specs.Code.{next, onward, skip, skips}
-use Rattle.wire.proofs.Steps.{stays}
+use Rattle.std.specs.Prelude.{Ok, Err}
+use Rattle.wire.specs.declared.answer.Stop.{Stop}
+use Rattle.wire.specs.Code.{Skipped, next, onward, skip, skips}
 use Rattle.pack_rules.specs.Limits.{max_level}
 use Rattle.pack_rules.specs.Names.{Name}
 use Rattle.pack_rules.specs.Read.{OneRegion, OneState, equations_in, name_in, optional_in, region_at, state_with, transition_in}
 use Rattle.pack.specs.Verdict.{offset_of}
 use Rattle.pack.proofs.PartLaws.{region-steps, state-steps}
 use Rattle.machines.specs.declared.memo.Head.{Head}
-use Rattle.machines.specs.declared.checked_read.NumberAt.{NumberAt}
+use Rattle.wire.specs.declared.answer.Number.{Number}
 use Rattle.machines.specs.ResolvedIn.{end_of, over_in}
 use Rattle.machines.specs.CheckedReads.{number_in}
 use Rattle.machines.specs.ResolveAt.{head_t}
@@ -40,17 +36,14 @@ ends_read (illegal o) q e l = absurd (omega arith)
 ends_read (deep o) q e l = absurd (omega arith)
 
 -- and reading stands there
-ends-to : {A : Type 0} (f : ℕ → Answer A) (at q : ℕ) → q ≡ end_of (f at) → 0 < q → onward f (sk.To at) ≡ sk.To q
+ends-to : {A : Type 0} (f : ℕ → Answer A) (at q : ℕ) → q ≡ end_of (f at) → 0 < q → onward f (Ok at) ≡ Ok q
 unfolding onward next skips skip
 ends-to f at q e l = ap skip (ends_read (f at) q e l).1
 
--- where reading stopped no offset was reached
-offset-none : (b : Skipped) → OneOf (1 ∷ 2 ∷ 3 ∷ []) (tag_of Skipped-enum.the_type b) → offset_of b ≡ 0
-unfolding offset_of
-offset-none (sk.To q) h = absurd (⊎_elim (λ d. omega arith) (λ d. ⊎_elim (λ f. omega arith) (λ f. omega arith) d) h)
-offset-none sk.Early h = refl
-offset-none (sk.Illegal o) h = refl
-offset-none (sk.Deep o) h = refl
+-- what is read from where reading stands
+opens : {A : Type 0} (f : ℕ → Answer A) (at : ℕ) (r : Skipped) → r ≡ onward f (Ok at) → r ≡ skip (f at)
+unfolding onward next skips
+opens f at r e = e
 
 -- the levels that the code begins with
 pub all-levels : 8 ≤ max_level
@@ -58,7 +51,7 @@ all-levels = omega arith
 
 module _ (ns : List Name) (s : List ℕ) where
   -- a state before its regions
-  pub head-of : (offsets : List ℕ) (at : ℕ) (i h : NumberAt) (m r : ℕ) → i ≡ number_in s at → m ≡ end_of (equations_in ns s i.next)
+  pub head-of : (offsets : List ℕ) (at : ℕ) (i h : Number) (m r : ℕ) → i ≡ number_in s at → m ≡ end_of (equations_in ns s i.next)
       → (m ≡ moves_at ns s at → h ≡ head_t ns s offsets at) → r ≡ end_of (counted (transition_in ns s) s m)
       → head h m r ≡ head_of ns s offsets at
   unfolding head_of
@@ -71,26 +64,26 @@ module _ (ns : List Name) (s : List ℕ) where
   name-next at a e l =
       let r = ends_read (name_in ns s at) a e l in
       let n = name-number ns s at r.0 a r.1 in
-      ap (λ (x : NumberAt). x.next) (number-num s at n.i a n.is)
+      ap (λ (x : Number). x.next) (number-num s at n.i a n.is)
 
   -- a state ends after its refinement, where all before that reads
   pub state-end : (region : ℕ → Answer OneRegion) (offsets : List ℕ) (at a p q : ℕ) (h : Head) (n o : Skipped)
-      → n ≡ onward (name_in ns s) (sk.To at) → a ≡ offset_of n → (a ≡ 0 → ⊥) → (h.moves ≡ 0 → ⊥) → (h.regions ≡ 0 → ⊥) → (p ≡ 0 → ⊥)
-      → o ≡ onward (optional_in ns s) (sk.To p) → q ≡ offset_of o
+      → n ≡ onward (name_in ns s) (Ok at) → a ≡ offset_of n → (a ≡ 0 → ⊥) → (h.moves ≡ 0 → ⊥) → (h.regions ≡ 0 → ⊥) → (p ≡ 0 → ⊥)
+      → o ≡ onward (optional_in ns s) (Ok p) → q ≡ offset_of o
       → h ≡ head_of ns s offsets at → p ≡ end_of (counted region s h.regions) → q ≡ end_of (state_with region ns s at)
   unfolding head_of moves_at
   state-end region offsets at a p q h n o en ea la lm lr lp eo eq eh ep =
       end_is (state_with region ns s) at o q
-      (eo
+      (opens (state_with region ns s) at o (eo
       ∙ ap (onward (optional_in ns s)) (sym (ends-to (counted region s) h.regions p ep (omega (arith, lp))))
       ∙ ap (λ (x : Skipped). onward (optional_in ns s) (onward (counted region s) x)) (sym (ends-to (counted (transition_in ns s) s) h.moves h.regions transitions (omega (arith, lr))))
       ∙ ap (λ (x : Skipped). onward (optional_in ns s) (onward (counted region s) (onward (counted (transition_in ns s) s) x))) (sym (ends-to (equations_in ns s) a h.moves equations (omega (arith, lm))))
       ∙ ap (λ (x : Skipped). onward (optional_in ns s) (onward (counted region s) (onward (counted (transition_in ns s) s) (onward (equations_in ns s) x)))) (sym (ends-to (name_in ns s) at a name (omega (arith, la))))
-      ∙ state-steps ns s region (sk.To at))
+      ∙ state-steps ns s region (Ok at)))
       eq
     where
       name : a ≡ end_of (name_in ns s at)
-      name = end_is (name_in ns s) at n a en ea
+      name = end_is (name_in ns s) at n a (opens (name_in ns s) at n en) ea
 
       moves : h.moves ≡ end_of (equations_in ns s (number_in s at).next)
       moves = ap (λ (x : Head). x.moves) eh
@@ -111,20 +104,19 @@ module _ (ns : List Name) (s : List ℕ) where
   abbrev inside : ℕ → ℕ → Answer OneState
   inside levels = state_with (region_at (levels - 1) ns s) ns s
 
-  region-onward : (levels at : ℕ) (b : Skipped) → (levels ≡ 0 → ⊥) → b ≡ onward (below 2 s) (onward (name_in ns s) (sk.To at))
+  region-onward : (levels at : ℕ) (b : Skipped) → (levels ≡ 0 → ⊥) → b ≡ onward (below 2 s) (onward (name_in ns s) (Ok at))
       → offset_of (onward (counted (inside levels) s) b) ≡ end_of (region_at levels ns s at)
-  region-onward levels at b l e = end_is (region_at levels ns s) at _ _ (ap (onward (counted (inside levels) s)) e ∙ region-steps ns s levels (sk.To at) l) refl
+  region-onward levels at b l e = end_is (region_at levels ns s) at _ _ (opens (region_at levels ns s) at _ (ap (onward (counted (inside levels) s)) e ∙ region-steps ns s levels (Ok at) l)) refl
 
-  pub region-stops : (levels at : ℕ) (b : Skipped) → (levels ≡ 0 → ⊥) → b ≡ onward (below 2 s) (onward (name_in ns s) (sk.To at)) → OneOf (1 ∷ 2 ∷ 3 ∷ []) (tag_of Skipped-enum.the_type b)
-      → end_of (many (inside levels) 0 0) ≡ end_of (region_at levels ns s at)
-  unfolding many end_of
-  region-stops levels at b l e h = sym (offset-none b h) ∙ ap offset_of (stays (counted (inside levels) s) b h) ∙ region-onward levels at b l e
+  pub region-stops : (levels at : ℕ) (e : Stop) → (levels ≡ 0 → ⊥) → Err e ≡ onward (below 2 s) (onward (name_in ns s) (Ok at)) → end_of (many (inside levels) 0 0) ≡ end_of (region_at levels ns s at)
+  unfolding many end_of onward next offset_of
+  region-stops levels at e l g = region-onward levels at (Err e) l g
 
-  pub region-states : (levels at p : ℕ) (b : Skipped) (c : NumberAt) → (levels ≡ 0 → ⊥) → b ≡ onward (below 2 s) (onward (name_in ns s) (sk.To at)) → b ≡ sk.To p → c ≡ number_in s p
+  pub region-states : (levels at p : ℕ) (b : Skipped) (c : Number) → (levels ≡ 0 → ⊥) → b ≡ onward (below 2 s) (onward (name_in ns s) (Ok at)) → b ≡ Ok p → c ≡ number_in s p
       → end_of (many (inside levels) c.value c.next) ≡ end_of (region_at levels ns s at)
   region-states levels at p b c l e f g =
       counted-ends (inside levels) s p c g
-      ∙ sym (end_is (counted (inside levels) s) p _ _ refl refl)
+      ∙ sym (end_is (counted (inside levels) s) p _ _ (opens (counted (inside levels) s) p _ refl) refl)
       ∙ ap (λ (x : Skipped). offset_of (onward (counted (inside levels) s) x)) (sym f)
       ∙ region-onward levels at b l e
 

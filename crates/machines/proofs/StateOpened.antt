@@ -14,7 +14,7 @@ use Rattle.pack_rules.specs.Syntax.{Equation, Transition}
 use Rattle.pack_rules.specs.Forms.{name_at}
 use Rattle.pack_rules.specs.Read.{equations_in, transition_in}
 use Rattle.machines.specs.declared.layout.RegionHead.{RegionHead}
-use Rattle.machines.specs.declared.checked_read.NumberAt.{NumberAt}
+use Rattle.wire.specs.declared.answer.Number.{Number}
 use Rattle.machines.specs.LayoutAt.{Board, board, close_state, fed, inner, layout_t, layout_state, letters_of, machine_as, moves_at, name_number, opening, open_state, refine_b, region_b, region_from, regions_at, qualifying, state_words, sum, tally}
 use Rattle.machines.specs.ResolvedIn.{MachineAt, RegionAt, StateAt, end_of}
 use Rattle.machines.specs.CheckedReads.{num, number_in}
@@ -68,7 +68,7 @@ module _ (ns : List Name) (s offsets to : List ℕ) where
     unfolding moves_at
     moves-is =
         let i = name-number ns s b.c.next nm h.to-equations h.name in
-        ap (λ (y : NumberAt). end_of (equations_in ns s y.next)) (number-num s b.c.next i.i h.to-equations i.is)
+        ap (λ (y : Number). end_of (equations_in ns s y.next)) (number-num s b.c.next i.i h.to-equations i.is)
         ∙ end-to (equations_in ns s h.to-equations) es h.to-transitions h.equations
 
     regions-is : regions_at ns s b.c.next ≡ num k q
@@ -84,7 +84,7 @@ module _ (ns : List Name) (s offsets to : List ℕ) where
         let i = name-number ns s b.c.next nm h.to-equations h.name in
         let l = room.letters in
         let x = u.inside in
-        ap (λ (y : NumberAt). qualifying s offsets y.value b.qualified a m) (number-num s b.c.next i.i h.to-equations i.is)
+        ap (λ (y : Number). qualifying s offsets y.value b.qualified a m) (number-num s b.c.next i.i h.to-equations i.is)
         ∙ spelling-is s offsets i.i b.qualified a m p (name_at ns i.i) (omega arith) u.is (spot i.i i.small)
         ∙ ap (λ (y : Name). p ++ y) i.named ∙ sym named
 

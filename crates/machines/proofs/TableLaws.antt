@@ -6,13 +6,12 @@ use mathlib.Core.Path.{◌≡◌, refl, sym, ap, ◌∙◌}
 use lib.ListN.{length, get_or, set, length-set, get_or-eq_default}
 use borrow.Author.Tests.{lt-ltb, le-ltb}
 use Rattle.wire.specs.Answer.{counted}
-use Rattle.wire.specs.Code.{onward}
-use Rattle.wire.specs.declared.answer.Skipped.{Skipped}
-use Rattle.wire.specs.declared.answer.Skipped.TheVariants as sk
+use Rattle.wire.specs.Code.{Skipped, next, onward, skips}
+use Rattle.std.specs.Prelude.{Ok}
 use Rattle.pack_rules.specs.Names.{Name}
 use Rattle.pack_rules.specs.Read.{optional_in, ports_in, state_at}
 use Rattle.pack.specs.Verdict.{offset_of}
-use Rattle.machines.specs.declared.checked_read.NumberAt.{NumberAt}
+use Rattle.wire.specs.declared.answer.Number.{Number}
 use Rattle.machines.specs.ResolvedIn.{end_of}
 use Rattle.machines.specs.CheckedReads.{number_in}
 use Rattle.machines.specs.Tables.{outputs_in, initial_in, len_of, machines_placed, names_placed, next_name, placed_from, states_end}
@@ -51,20 +50,19 @@ unfolding len_of
 len_is s offsets i at r e f = f ∙ ap (λ (y : ℕ). get_or s y 0) e
 
 module _ (ns : List Name) (s : List ℕ) where
-  pub outputs-is : (at : ℕ) (o a : Skipped) (r : ℕ) → o ≡ onward (optional_in ns s) (sk.To at) → a ≡ onward (ports_in ns s) o → r ≡ offset_of a → r ≡ outputs_in ns s at
+  pub outputs-is : (at : ℕ) (a : Skipped) (r : ℕ) → a ≡ onward (ports_in ns s) (onward (optional_in ns s) (Ok at)) → r ≡ offset_of a → r ≡ outputs_in ns s at
   unfolding outputs_in
-  outputs-is at o a r x y z = z ∙ ap offset_of (y ∙ ap (onward (ports_in ns s)) x)
+  outputs-is at a r x z = z ∙ ap offset_of x
 
-  pub initial-is : (at : ℕ) (o a b c : Skipped) (r : ℕ) → o ≡ onward (optional_in ns s) (sk.To at) → a ≡ onward (ports_in ns s) o → b ≡ onward (ports_in ns s) a → c ≡ onward (ports_in ns s) b → r ≡ offset_of c → r ≡ initial_in ns s at
+  pub initial-is : (at : ℕ) (a : Skipped) (r : ℕ) → a ≡ onward (ports_in ns s) (onward (ports_in ns s) (onward (ports_in ns s) (onward (optional_in ns s) (Ok at)))) → r ≡ offset_of a → r ≡ initial_in ns s at
   unfolding initial_in
-  initial-is at o a b c r x y z w v =
-      v ∙ ap offset_of (w ∙ ap (onward (ports_in ns s)) (z ∙ ap (onward (ports_in ns s)) (y ∙ ap (onward (ports_in ns s)) x)))
+  initial-is at a r x z = z ∙ ap offset_of x
 
-  pub states-end : (at : ℕ) (i : NumberAt) (r : ℕ) → i ≡ number_in s at → r ≡ end_of (counted (state_at ns s) s i.next) → r ≡ states_end ns s at
-  unfolding states_end
+  pub states-end : (at : ℕ) (i : Number) (r : ℕ) → i ≡ number_in s at → r ≡ end_of (counted (state_at ns s) s i.next) → r ≡ states_end ns s at
+  unfolding states_end onward next skips
   states-end at i r x y = on i _ _ r x (y ∙ sym (end_is (counted (state_at ns s) s) i.next _ _ refl refl))
 
-  pub placed-more : (n at w p : ℕ) (i : NumberAt) (t u z : List ℕ) → 0 < n → i ≡ number_in s at → w ≡ initial_in ns s i.next → u ≡ set t i.value (w % 65536) → p ≡ states_end ns s w → placed_from ns s n at t ≡ z → placed_from ns s (n - 1) p u ≡ z
+  pub placed-more : (n at w p : ℕ) (i : Number) (t u z : List ℕ) → 0 < n → i ≡ number_in s at → w ≡ initial_in ns s i.next → u ≡ set t i.value (w % 65536) → p ≡ states_end ns s w → placed_from ns s n at t ≡ z → placed_from ns s (n - 1) p u ≡ z
   unfolding placed_from
   placed-more zero at w p i t u z l a b c d e = absurd (omega arith)
   placed-more (suc n) at w p i t u z l a b c d e =
@@ -76,7 +74,7 @@ module _ (ns : List Name) (s : List ℕ) where
   placed_end zero at t z l e = e
   placed_end (suc n) at t z l e = absurd (omega arith)
 
-  pub placed-is : (at : ℕ) (c : NumberAt) (t u : List ℕ) → c ≡ number_in s at → u ≡ placed_from ns s c.value c.next t → u ≡ machines_placed ns s at t
+  pub placed-is : (at : ℕ) (c : Number) (t u : List ℕ) → c ≡ number_in s at → u ≡ placed_from ns s c.value c.next t → u ≡ machines_placed ns s at t
   unfolding machines_placed
   placed-is at c t u e f = on c _ _ u e f
 

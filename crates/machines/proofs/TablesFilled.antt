@@ -14,7 +14,7 @@ use Rattle.pack_rules.specs.Names.{Name}
 use Rattle.pack_rules.specs.Syntax.{MachineDef, Node}
 use Rattle.pack_rules.specs.Forms.{name_at}
 use Rattle.pack_rules.specs.Read.{machine_in, node_in}
-use Rattle.machines.specs.declared.checked_read.NumberAt.{NumberAt}
+use Rattle.wire.specs.declared.answer.Number.{Number}
 use Rattle.machines.specs.CheckedReads.{number_in}
 use Rattle.machines.specs.Tables.{initial_in, states_end}
 use Rattle.machines.specs.Sections.{node_names}
@@ -128,7 +128,7 @@ module _ (ns : List Name) (s : List ℕ) where
     name-here at x q e =
         let r = node-value ns s at x q e in
         let n = name-number ns s at x.name r.to-kind r.name in
-        let v : (number_in s at).value ≡ n.i = ap (λ (y : NumberAt). y.value) (number-num s at n.i r.to-kind n.is) in
+        let v : (number_in s at).value ≡ n.i = ap (λ (y : Number). y.value) (number-num s at n.i r.to-kind n.is) in
         (subst (λ y. y < length ns) (sym v) n.small, ap (name_at ns) v ∙ n.named)
 
     named-from : (m k : ℕ) (xs : List Node) (q : ℕ) → many (node_in ns s) m (nth (node_end ns s) from k) ≡ value xs q

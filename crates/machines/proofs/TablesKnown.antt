@@ -11,7 +11,7 @@ use Rattle.machine_rules.specs.Resolved.{ResolvedMachine}
 use Rattle.pack_rules.specs.Read.{machine_in, node_in}
 use Rattle.pack.specs.Verdict.{SectionsAt}
 use Rattle.pack.specs.declared.record.Pack.{Pack}
-use Rattle.machines.specs.declared.checked_read.NumberAt.{NumberAt}
+use Rattle.wire.specs.declared.answer.Number.{Number}
 use Rattle.machines.specs.declared.verdicts.VerdictRow.{VerdictRow}
 use Rattle.machines.specs.CheckedReads.{num, number_in}
 use Rattle.machines.specs.Tables.{names_placed}
@@ -59,12 +59,12 @@ module _ (s : List ℕ) (k : Pack) (p : Package) (h : SectionsAt s k p) (bytes :
   pub machines-here : machine_count s k ≡ length p.machines
   unfolding machine_count
   machines-here =
-      ap (λ (y : NumberAt). small_of y.value) machines-counted ∙ sym (small_is (length p.machines) (let c = pack-counts s k p h in omega arith))
+      ap (λ (y : Number). small_of y.value) machines-counted ∙ sym (small_is (length p.machines) (let c = pack-counts s k p h in omega arith))
 
   nodes-here : node_count s k ≡ length p.nodes
   unfolding node_count
   nodes-here =
-      ap (λ (y : NumberAt). small_of y.value) nodes-counted ∙ sym (small_is (length p.nodes) (let c = pack-counts s k p h in omega arith))
+      ap (λ (y : Number). small_of y.value) nodes-counted ∙ sym (small_is (length p.nodes) (let c = pack-counts s k p h in omega arith))
 
   module _ (offsets₀ to₀ nodes₀ defs₀ receivers₀ regcounts₀ offsets to nodes defs receivers regcounts : List ℕ) (e : Empty offsets₀ to₀ nodes₀ defs₀ receivers₀ regcounts₀)
       (f : Filled p.names s k offsets₀ to₀ nodes₀ defs₀ receivers₀ regcounts₀ offsets to nodes defs receivers regcounts) where
@@ -100,8 +100,8 @@ module _ (s : List ℕ) (k : Pack) (p : Package) (h : SectionsAt s k p) (bytes :
           let c = pack-counts s k p h in
           let la = e.for_places in let lb = e.for_regions in let lc = e.for_goals in let ld = e.for_nodes in
           let n = machines-here in
-          let from : (number_in s k.machines).next ≡ k.machines + 2 = ap (λ (y : NumberAt). y.next) machines-counted in
-          let from' : (number_in s k.nodes).next ≡ k.nodes + 2 = ap (λ (y : NumberAt). y.next) nodes-counted in
+          let from : (number_in s k.machines).next ≡ k.machines + 2 = ap (λ (y : Number). y.next) machines-counted in
+          let from' : (number_in s k.nodes).next ≡ k.nodes + 2 = ap (λ (y : Number). y.next) nodes-counted in
           let r : regcounts ≡ fill_t regions_at (machine_count s k) 0 regcounts₀ =
           f.regions regions_at (λ i l. subst (λ (y : ℕ). HasRegions p.names s offsets to (nth (machine_end p.names s) y i) (regions_at i)) (sym from) (has-regions i (subst (λ (y : ℕ). i < y) n l))) in
           pack-settled s k p h short regions_at defs₀ regcounts₀ receivers₀ nodes₀ defs regcounts (fill_t (node_name_t p.names s (k.nodes + 2)) (length p.nodes) 0 nodes₀) (nodes_of receivers nodes f.count)

@@ -12,7 +12,7 @@ use Rattle.pack_rules.specs.Read.{expr_in}
 use Rattle.machines.specs.declared.memo.Targets.{Targets}
 use Rattle.machines.specs.declared.memo.Targets.TheVariants as aim
 use Rattle.machines.specs.declared.memo.UnknownTarget.{UnknownTarget}
-use Rattle.machines.specs.declared.checked_read.NumberAt.{NumberAt}
+use Rattle.wire.specs.declared.answer.Number.{Number}
 use Rattle.machines.specs.ResolvedIn.{end_of, over_in}
 use Rattle.machines.specs.CheckedReads.{number_in}
 use Rattle.machines.specs.LayoutAt.{moves_at}
@@ -24,18 +24,18 @@ unfoldable pub after : ℕ → UnknownTarget → UnknownTarget
 after i r = unknown_targets (i + r.fine) r.name
 
 module _ (ns : List Name) (s : List ℕ) where
-  pub drawn-found : (x n p : ℕ) (i : NumberAt) (z : Bool) → 0 < n → i ≡ number_in s p → i.value ≡ x → drawn_state ns s x n p ≡ z → true ≡ z
+  pub drawn-found : (x n p : ℕ) (i : Number) (z : Bool) → 0 < n → i ≡ number_in s p → i.value ≡ x → drawn_state ns s x n p ≡ z → true ≡ z
   unfolding drawn_state
   drawn-found x zero p i z l b c d = absurd (omega arith)
   drawn-found x (suc n) p i z l b c d =
-      let f : eqb (number_in s p).value x ≡ true = eq-eqb _ x (ap (λ (y : NumberAt). y.value) (sym b) ∙ c) in
+      let f : eqb (number_in s p).value x ≡ true = eq-eqb _ x (ap (λ (y : Number). y.value) (sym b) ∙ c) in
       sym (ap (λ b. b || drawn_state ns s x n (over_in ns s p)) f) ∙ d
 
-  pub drawn-went : (x n p q : ℕ) (i : NumberAt) (z : Bool) → 0 < n → i ≡ number_in s p → (i.value ≡ x → ⊥) → q ≡ over_in ns s p → drawn_state ns s x n p ≡ z → drawn_state ns s x (n - 1) q ≡ z
+  pub drawn-went : (x n p q : ℕ) (i : Number) (z : Bool) → 0 < n → i ≡ number_in s p → (i.value ≡ x → ⊥) → q ≡ over_in ns s p → drawn_state ns s x n p ≡ z → drawn_state ns s x (n - 1) q ≡ z
   unfolding drawn_state
   drawn-went x zero p q i z l b c g d = absurd (omega arith)
   drawn-went x (suc n) p q i z l b c g d =
-      let f : eqb (number_in s p).value x ≡ false = ne_eqb _ x (λ h. c (ap (λ (y : NumberAt). y.value) b ∙ h)) in
+      let f : eqb (number_in s p).value x ≡ false = ne_eqb _ x (λ h. c (ap (λ (y : Number). y.value) b ∙ h)) in
       let m : suc n - 1 ≡ n = omega arith in
       (λ j. drawn_state ns s x (m j) (g j)) ∙ sym (ap (λ b. b || drawn_state ns s x n (over_in ns s p)) f) ∙ d
 
@@ -45,18 +45,18 @@ module _ (ns : List Name) (s : List ℕ) where
   drawn-done x (suc n) p z l d = absurd (omega arith)
 
   -- transitions one by one
-  aimed-one : (n f k o e : ℕ) (x : NumberAt) (b : Bool) (z : Targets) → e ≡ end_of (expr_in ns s o) → x ≡ number_in s e → b ≡ drawn_state ns s x.value n f → target_d ns s n f (suc k) o ≡ z → cond b (target_d ns s n f k x.next) (aim.Stray x.value) ≡ z
+  aimed-one : (n f k o e : ℕ) (x : Number) (b : Bool) (z : Targets) → e ≡ end_of (expr_in ns s o) → x ≡ number_in s e → b ≡ drawn_state ns s x.value n f → target_d ns s n f (suc k) o ≡ z → cond b (target_d ns s n f k x.next) (aim.Stray x.value) ≡ z
   unfolding target_d
   aimed-one n f k o e x b z a h c d =
       on x (number_in s (end_of (expr_in ns s o))) (λ y r. cond (drawn_state ns s y n f) (target_d ns s n f k r) (aim.Stray y)) _ (h ∙ ap (number_in s) a) (ap (λ y. cond y (target_d ns s n f k x.next) (aim.Stray x.value)) c) ∙ d
 
-  pub aimed-went : (n f k o e : ℕ) (x : NumberAt) (z : Targets) → 0 < k → e ≡ end_of (expr_in ns s o) → x ≡ number_in s e → true ≡ drawn_state ns s x.value n f → target_d ns s n f k o ≡ z → target_d ns s n f (k - 1) x.next ≡ z
+  pub aimed-went : (n f k o e : ℕ) (x : Number) (z : Targets) → 0 < k → e ≡ end_of (expr_in ns s o) → x ≡ number_in s e → true ≡ drawn_state ns s x.value n f → target_d ns s n f k o ≡ z → target_d ns s n f (k - 1) x.next ≡ z
   aimed-went n f zero o e x z l a h c d = absurd (omega arith)
   aimed-went n f (suc k) o e x z l a h c d =
       let m : suc k - 1 ≡ k = omega arith in
       ap (λ y. target_d ns s n f y x.next) m ∙ aimed-one n f k o e x true z a h c d
 
-  pub aimed-stop : (n f k o e : ℕ) (x : NumberAt) (z : Targets) → 0 < k → e ≡ end_of (expr_in ns s o) → x ≡ number_in s e → false ≡ drawn_state ns s x.value n f → target_d ns s n f k o ≡ z → aim.Stray x.value ≡ z
+  pub aimed-stop : (n f k o e : ℕ) (x : Number) (z : Targets) → 0 < k → e ≡ end_of (expr_in ns s o) → x ≡ number_in s e → false ≡ drawn_state ns s x.value n f → target_d ns s n f k o ≡ z → aim.Stray x.value ≡ z
   aimed-stop n f zero o e x z l a h c d = absurd (omega arith)
   aimed-stop n f (suc k) o e x z l a h c d = aimed-one n f k o e x false z a h c d
 
@@ -66,12 +66,12 @@ module _ (ns : List Name) (s : List ℕ) where
   aimed-done n f (suc k) o z l d = absurd (omega arith)
 
   -- states one by one
-  strays-one : (n f m p e : ℕ) (c : NumberAt) (a b : Targets) → e ≡ moves_at ns s p → c ≡ number_in s e → a ≡ target_d ns s n f c.value c.next → a ≡ b → unknown_at b (unknown_from ns s n f m (over_in ns s p)) ≡ unknown_from ns s n f (suc m) p
+  strays-one : (n f m p e : ℕ) (c : Number) (a b : Targets) → e ≡ moves_at ns s p → c ≡ number_in s e → a ≡ target_d ns s n f c.value c.next → a ≡ b → unknown_at b (unknown_from ns s n f m (over_in ns s p)) ≡ unknown_from ns s n f (suc m) p
   unfolding unknown_from
   strays-one n f m p e c a b g h w v =
       on c (number_in s (moves_at ns s p)) (λ k o. unknown_at (target_d ns s n f k o) (unknown_from ns s n f m (over_in ns s p))) _ (h ∙ ap (number_in s) g) (ap (λ y. unknown_at y (unknown_from ns s n f m (over_in ns s p))) (sym v ∙ w))
 
-  pub strays-went : (n f i p e q : ℕ) (c : NumberAt) (a : Targets) (z : UnknownTarget) → i < n → e ≡ moves_at ns s p → c ≡ number_in s e → a ≡ target_d ns s n f c.value c.next → a ≡ aim.All → q ≡ over_in ns s p
+  pub strays-went : (n f i p e q : ℕ) (c : Number) (a : Targets) (z : UnknownTarget) → i < n → e ≡ moves_at ns s p → c ≡ number_in s e → a ≡ target_d ns s n f c.value c.next → a ≡ aim.All → q ≡ over_in ns s p
       → after i (unknown_from ns s n f (n - i) p) ≡ z → after (i + 1) (unknown_from ns s n f (n - (i + 1)) q) ≡ z
   unfolding after unknown_at
   strays-went n f i p e q c a z l g h w v o d =
@@ -84,7 +84,7 @@ module _ (ns : List Name) (s : List ℕ) where
       ∙ ap (λ (x : ℕ). after i (unknown_from ns s n f x p)) k
       ∙ d
 
-  pub strays-stop : (n f i p e x : ℕ) (c : NumberAt) (a : Targets) (z : UnknownTarget) → i < n → e ≡ moves_at ns s p → c ≡ number_in s e → a ≡ target_d ns s n f c.value c.next → a ≡ aim.Stray x
+  pub strays-stop : (n f i p e x : ℕ) (c : Number) (a : Targets) (z : UnknownTarget) → i < n → e ≡ moves_at ns s p → c ≡ number_in s e → a ≡ target_d ns s n f c.value c.next → a ≡ aim.Stray x
       → after i (unknown_from ns s n f (n - i) p) ≡ z → unknown_targets i x ≡ z
   unfolding after unknown_at
   strays-stop n f i p e x c a z l g h w v d =

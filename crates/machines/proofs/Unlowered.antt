@@ -10,7 +10,7 @@ use Rattle.pack_rules.specs.Syntax.{MachineDef, Package}
 use Rattle.pack_rules.specs.Read.{machine_in}
 use Rattle.pack_rules.specs.Outcome.{Answers, Gives, sized, written}
 use Rattle.pack.specs.Verdict.{SectionsAt}
-use Rattle.machines.specs.declared.checked_read.NumberAt.{NumberAt}
+use Rattle.wire.specs.declared.answer.Number.{Number}
 use Rattle.machines.specs.CheckedReads.{number_in}
 use Rattle.machines.specs.CallTables.{OpenedAs}
 use Rattle.machine_rules.specs.Machines.{lower_each, machines_lowered, made_machines, start}
@@ -19,8 +19,8 @@ use Rattle.machines.proofs.ListsShown.{counted-parts, none-long}
 use Rattle.machines.proofs.ByVerdict.{copied-by, opened-by}
 
 -- a list that was read, and counts 0, has nothing
-pub counts-none : {A : Type 0} (r : ℕ → Answer A) (s : List ℕ) (at : ℕ) (xs : List A) (q : ℕ) (m : NumberAt) → counted r s at ≡ value xs q → m ≡ number_in s at → m.value ≡ 0 → xs ≡ []
-counts-none r s at xs q m h e z = none-long xs (sym (ap (λ (n : NumberAt). n.value) (e ∙ (counted-parts r s at xs q h).0)) ∙ z)
+pub counts-none : {A : Type 0} (r : ℕ → Answer A) (s : List ℕ) (at : ℕ) (xs : List A) (q : ℕ) (m : Number) → counted r s at ≡ value xs q → m ≡ number_in s at → m.value ≡ 0 → xs ≡ []
+counts-none r s at xs q m h e z = none-long xs (sym (ap (λ (n : Number). n.value) (e ∙ (counted-parts r s at xs q h).0)) ∙ z)
 
 pub no-machines : (p : Package) → p.machines ≡ [] → (output report : ℕ) → lower_package_machines output report p ≡ written output p
 unfolding lower_package_machines report_or_pack made_machines lower_each start machines_lowered
@@ -30,7 +30,7 @@ no-machines p e output report =
 
 -- the call on a pack that was opened: copied out where it has no machines, else answered as its package is
 module _ (s : List ℕ) (k : Pack) (o : OpenedAs s k) (number value : ℕ) (output output' report : List ℕ) where
-  pub copied-out : Bytes s → (m : NumberAt) → m ≡ number_in s k.machines → m.value ≡ 0 → Gives (sized (length output) s) number value output output'
+  pub copied-out : Bytes s → (m : Number) → m ≡ number_in s k.machines → m.value ≡ 0 → Gives (sized (length output) s) number value output output'
       → Answers (lower_machines s (length output) (length report)) number value output output' report report
   unfolding lower_machines
   copied-out by m e z g =

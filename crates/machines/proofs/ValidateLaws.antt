@@ -13,7 +13,7 @@ use Rattle.machines.specs.contracts.validate.Checked as Checked-enum
 use borrow.Author.Tests.{eq-eqb, ne_eqb}
 use Rattle.pack_rules.specs.Names.{Name}
 use Rattle.pack_rules.specs.Read.{expr_in}
-use Rattle.machines.specs.declared.checked_read.NumberAt.{NumberAt}
+use Rattle.wire.specs.declared.answer.Number.{Number}
 use Rattle.machines.specs.declared.validate.Checked.{Checked}
 use Rattle.machines.specs.declared.validate.Checked.TheVariants as ck
 use Rattle.machines.specs.ResolvedIn.{end_of}
@@ -22,18 +22,18 @@ use Rattle.machines.specs.ValidateAt.{Has, checked_region, checked_state, each_r
 use Rattle.machines.proofs.CheckedReadLaws.{on}
 
 module _ (s t : List ℕ) where
-  pub among-found : (x n p e : ℕ) (i : NumberAt) (z : Bool) → 0 < n → e ≡ get_or t p 0 → i ≡ number_in s e → i.value ≡ x → is_state_t s t x n p ≡ z → true ≡ z
+  pub among-found : (x n p e : ℕ) (i : Number) (z : Bool) → 0 < n → e ≡ get_or t p 0 → i ≡ number_in s e → i.value ≡ x → is_state_t s t x n p ≡ z → true ≡ z
   unfolding is_state_t
   among-found x zero p e i z l a b c d = absurd (omega arith)
   among-found x (suc n) p e i z l a b c d =
-      let f : eqb (number_in s (get_or t p 0)).value x ≡ true = eq-eqb _ x (ap (λ (y : ℕ). (number_in s y).value) (sym a) ∙ ap (λ (y : NumberAt). y.value) (sym b) ∙ c) in
+      let f : eqb (number_in s (get_or t p 0)).value x ≡ true = eq-eqb _ x (ap (λ (y : ℕ). (number_in s y).value) (sym a) ∙ ap (λ (y : Number). y.value) (sym b) ∙ c) in
       sym (ap (λ b. b || is_state_t s t x n (get_or t (p + 4) 0)) f) ∙ d
 
-  pub among-went : (x n p e q : ℕ) (i : NumberAt) (z : Bool) → 0 < n → e ≡ get_or t p 0 → i ≡ number_in s e → (i.value ≡ x → ⊥) → q ≡ get_or t (p + 4) 0 → is_state_t s t x n p ≡ z → is_state_t s t x (n - 1) q ≡ z
+  pub among-went : (x n p e q : ℕ) (i : Number) (z : Bool) → 0 < n → e ≡ get_or t p 0 → i ≡ number_in s e → (i.value ≡ x → ⊥) → q ≡ get_or t (p + 4) 0 → is_state_t s t x n p ≡ z → is_state_t s t x (n - 1) q ≡ z
   unfolding is_state_t
   among-went x zero p e q i z l a b c g d = absurd (omega arith)
   among-went x (suc n) p e q i z l a b c g d =
-      let f : eqb (number_in s (get_or t p 0)).value x ≡ false = ne_eqb _ x (λ h. c (ap (λ (y : NumberAt). y.value) b ∙ ap (λ (y : ℕ). (number_in s y).value) a ∙ h)) in
+      let f : eqb (number_in s (get_or t p 0)).value x ≡ false = ne_eqb _ x (λ h. c (ap (λ (y : Number). y.value) b ∙ ap (λ (y : ℕ). (number_in s y).value) a ∙ h)) in
       let m : suc n - 1 ≡ n = omega arith in
       (λ j. is_state_t s t x (m j) (g j)) ∙ sym (ap (λ b. b || is_state_t s t x n (get_or t (p + 4) 0)) f) ∙ d
 
@@ -58,7 +58,7 @@ unfolding Has
 has-told s t q x h = sym h
 
 module _ (ns : List Name) (s t : List ℕ) where
-  pub moves-went : (q p n at e : ℕ) (x : NumberAt) (z : Checked) → 0 < n → e ≡ end_of (expr_in ns s at) → x ≡ number_in s e → true ≡ has_t s t q x.value → moves_checked ns s t q p n at ≡ z → moves_checked ns s t q p (n - 1) x.next ≡ z
+  pub moves-went : (q p n at e : ℕ) (x : Number) (z : Checked) → 0 < n → e ≡ end_of (expr_in ns s at) → x ≡ number_in s e → true ≡ has_t s t q x.value → moves_checked ns s t q p n at ≡ z → moves_checked ns s t q p (n - 1) x.next ≡ z
   unfolding moves_checked has_t
   moves-went q p zero at e x z l a b c d = absurd (omega arith)
   moves-went q p (suc n) at e x z l a b c d =
@@ -67,7 +67,7 @@ module _ (ns : List Name) (s t : List ℕ) where
       ∙ on x (number_in s (end_of (expr_in ns s at))) (λ y o. cond (has_t s t q y) (moves_checked ns s t q p n o) (ck.Target p q y)) _ (b ∙ ap (number_in s) a) (ap (λ y. cond y (moves_checked ns s t q p n x.next) (ck.Target p q x.value)) c)
       ∙ d
 
-  pub moves-stop : (q p n at e : ℕ) (x : NumberAt) (z : Checked) → 0 < n → e ≡ end_of (expr_in ns s at) → x ≡ number_in s e → false ≡ has_t s t q x.value → moves_checked ns s t q p n at ≡ z → ck.Target p q x.value ≡ z
+  pub moves-stop : (q p n at e : ℕ) (x : Number) (z : Checked) → 0 < n → e ≡ end_of (expr_in ns s at) → x ≡ number_in s e → false ≡ has_t s t q x.value → moves_checked ns s t q p n at ≡ z → ck.Target p q x.value ≡ z
   unfolding moves_checked has_t
   moves-stop q p zero at e x z l a b c d = absurd (omega arith)
   moves-stop q p (suc n) at e x z l a b c d =
@@ -79,7 +79,7 @@ module _ (ns : List Name) (s t : List ℕ) where
   moves-done q p zero at z l d = d
   moves-done q p (suc n) at z l d = absurd (omega arith)
 
-  pub targets-from : (q p e : ℕ) (c : NumberAt) → e ≡ get_or t (p + 1) 0 → c ≡ number_in s e → moves_checked ns s t q p c.value c.next ≡ targets_t ns s t q p
+  pub targets-from : (q p e : ℕ) (c : Number) → e ≡ get_or t (p + 1) 0 → c ≡ number_in s e → moves_checked ns s t q p c.value c.next ≡ targets_t ns s t q p
   unfolding targets_t
   targets-from q p e c a b = on c _ (λ n o. moves_checked ns s t q p n o) _ (b ∙ ap (number_in s) a) refl
 

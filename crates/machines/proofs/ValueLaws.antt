@@ -14,7 +14,7 @@ use Rattle.pack_rules.specs.Read.{equation_in, expr_in, port_in}
 use Rattle.pack_rules.specs.Write.{Item}
 use Rattle.pack.specs.Intern.{put_item, render}
 use Rattle.pack.proofs.Interns.{render-append}
-use Rattle.machines.specs.declared.checked_read.NumberAt.{NumberAt}
+use Rattle.wire.specs.declared.answer.Number.{Number}
 use Rattle.machines.specs.ResolvedIn.{end_of}
 use Rattle.machines.specs.CheckedReads.{number_in}
 use Rattle.machines.specs.Layout.{slice_of}
@@ -24,19 +24,19 @@ use Rattle.machines.specs.ValueAt.{entered_t, giving_from, in_state_t, output_t,
 use Rattle.machines.proofs.CheckedReadLaws.{on}
 
 module _ (ns : List Name) (s : List ℕ) (out : ℕ) where
-  side-step : (n p : ℕ) (k l : NumberAt) (b : Bool) → k ≡ number_in s p → l ≡ number_in s k.next → b ≡ (eqb k.value 1 && eqb l.value out) → cond b l.next (side_from ns s out n (end_of (equation_in ns s p))) ≡ side_from ns s out (suc n) p
+  side-step : (n p : ℕ) (k l : Number) (b : Bool) → k ≡ number_in s p → l ≡ number_in s k.next → b ≡ (eqb k.value 1 && eqb l.value out) → cond b l.next (side_from ns s out n (end_of (equation_in ns s p))) ≡ side_from ns s out (suc n) p
   unfolding side_from
   side-step n p k l b e f g =
       on k _ _ _ e (on l _ _ _ f (ap (λ (x : Bool). cond x l.next (side_from ns s out n (end_of (equation_in ns s p)))) g))
 
   -- the loop over equations: one that does not give the output, one that does, and the end
-  pub side-went : (n p r z : ℕ) (k l : NumberAt) (b : Bool) → 0 < n → k ≡ number_in s p → l ≡ number_in s k.next → b ≡ (eqb k.value 1 && eqb l.value out) → b ≡ false → r ≡ end_of (equation_in ns s p) → side_from ns s out n p ≡ z → side_from ns s out (n - 1) r ≡ z
+  pub side-went : (n p r z : ℕ) (k l : Number) (b : Bool) → 0 < n → k ≡ number_in s p → l ≡ number_in s k.next → b ≡ (eqb k.value 1 && eqb l.value out) → b ≡ false → r ≡ end_of (equation_in ns s p) → side_from ns s out n p ≡ z → side_from ns s out (n - 1) r ≡ z
   side-went zero p r z k l b h e f g a c d = absurd (omega arith)
   side-went (suc n) p r z k l b h e f g a c d =
       let i : suc n - 1 ≡ n = omega arith in
       (λ j. side_from ns s out (i j) (c j)) ∙ ap (λ (x : Bool). cond x l.next (side_from ns s out n (end_of (equation_in ns s p)))) (sym a) ∙ side-step n p k l b e f g ∙ d
 
-  pub side-found : (n p z : ℕ) (k l : NumberAt) (b : Bool) → 0 < n → k ≡ number_in s p → l ≡ number_in s k.next → b ≡ (eqb k.value 1 && eqb l.value out) → b ≡ true → side_from ns s out n p ≡ z → l.next ≡ z
+  pub side-found : (n p z : ℕ) (k l : Number) (b : Bool) → 0 < n → k ≡ number_in s p → l ≡ number_in s k.next → b ≡ (eqb k.value 1 && eqb l.value out) → b ≡ true → side_from ns s out n p ≡ z → l.next ≡ z
   side-found zero p z k l b h e f g a d = absurd (omega arith)
   side-found (suc n) p z k l b h e f g a d =
       ap (λ (x : Bool). cond x l.next (side_from ns s out n (end_of (equation_in ns s p)))) (sym a) ∙ side-step n p k l b e f g ∙ d
@@ -46,7 +46,7 @@ module _ (ns : List Name) (s : List ℕ) (out : ℕ) where
   side-done zero p z l d = d
   side-done (suc n) p z l d = absurd (omega arith)
 
-  pub side-is : (at r : ℕ) (i c : NumberAt) → i ≡ number_in s at → c ≡ number_in s i.next → r ≡ side_from ns s out c.value c.next → r ≡ side_t ns s out at
+  pub side-is : (at r : ℕ) (i c : Number) → i ≡ number_in s at → c ≡ number_in s i.next → r ≡ side_from ns s out c.value c.next → r ≡ side_t ns s out at
   unfolding side_t
   side-is at r i c e f g = on i _ _ _ e (on c _ _ _ f g)
 
@@ -149,9 +149,9 @@ module _ (old sb t qualified : List ℕ) (ns : List Name) where
   outputs-step n p s = render-append old (output_t sb t qualified ns (number_in sb p).value) (outputs_t sb t qualified ns n (end_of (port_in ns sb p))) s
 
   -- the loop over outputs: one more, and the end
-  pub outputs-more : (n k p r : ℕ) (x : NumberAt) (y s z : State) → n ≡ suc k → x ≡ number_in sb p → y ≡ render old (output_t sb t qualified ns x.value) s → r ≡ end_of (port_in ns sb p) → render old (outputs_t sb t qualified ns n p) s ≡ z → render old (outputs_t sb t qualified ns k r) y ≡ z
+  pub outputs-more : (n k p r : ℕ) (x : Number) (y s z : State) → n ≡ suc k → x ≡ number_in sb p → y ≡ render old (output_t sb t qualified ns x.value) s → r ≡ end_of (port_in ns sb p) → render old (outputs_t sb t qualified ns n p) s ≡ z → render old (outputs_t sb t qualified ns k r) y ≡ z
   outputs-more n k p r x y s z l a b c h =
-      (λ i. render old (outputs_t sb t qualified ns k (c i)) ((b ∙ ap (λ (y : NumberAt). render old (output_t sb t qualified ns y.value) s) a) i))
+      (λ i. render old (outputs_t sb t qualified ns k (c i)) ((b ∙ ap (λ (y : Number). render old (output_t sb t qualified ns y.value) s) a) i))
       ∙ sym (outputs-step k p s) ∙ ap (λ (y : ℕ). render old (outputs_t sb t qualified ns y p) s) (sym l) ∙ h
 
   pub outputs-none : (n p : ℕ) (s z : State) → n ≤ 0 → render old (outputs_t sb t qualified ns n p) s ≡ z → s ≡ z
@@ -159,6 +159,6 @@ module _ (old sb t qualified : List ℕ) (ns : List Name) where
   outputs-none zero p s z l h = h
   outputs-none (suc n) p s z l h = absurd (omega arith)
 
-  pub outputs-is : (at : ℕ) (c : NumberAt) (s : State) → c ≡ number_in sb at → render old (outputs_t sb t qualified ns c.value c.next) s ≡ render old (port_outputs_t sb t qualified ns at) s
+  pub outputs-is : (at : ℕ) (c : Number) (s : State) → c ≡ number_in sb at → render old (outputs_t sb t qualified ns c.value c.next) s ≡ render old (port_outputs_t sb t qualified ns at) s
   unfolding port_outputs_t
   outputs-is at c s e = ap (λ (is : List Item). render old is s) (on c (number_in sb at) (λ n p. outputs_t sb t qualified ns n p) _ e refl)

@@ -3,7 +3,7 @@
 use Rattle.std.specs.Prelude.{ℕ, zero, suc, ◌+◌, ◌*◌, ◌-◌, List, [], ◌∷◌, ◌++◌, cond, get_or, eqb, ltb}
 use Rattle.wire.specs.Bytes.{two, word_range}
 use Rattle.wire.specs.Code.{onward}
-use Rattle.wire.specs.declared.answer.Skipped.TheVariants as sk
+use Rattle.std.specs.Prelude.{Ok}
 use Rattle.pack_rules.specs.Limits.{absent}
 use Rattle.pack_rules.specs.Names.{Name}
 use Rattle.pack_rules.specs.Read.{equations_in, ports_in}
@@ -73,7 +73,7 @@ module _ (ns : List Name) (s : List ℕ) where
 
   -- from a node to its locals, to its equations
   unfoldable pub node_locals_in : ℕ → ℕ
-  node_locals_in at = with (number_in s at) λ m p. with (byte_in s p) λ k q. offset_of (onward (ports_in ns s) (onward (ports_in ns s) (sk.To q)))
+  node_locals_in at = with (number_in s at) λ m p. with (byte_in s p) λ k q. offset_of (onward (ports_in ns s) (onward (ports_in ns s) (Ok q)))
 
   unfoldable pub node_equations_in : ℕ → ℕ
   node_equations_in at = end_of (ports_in ns s (node_locals_in at))

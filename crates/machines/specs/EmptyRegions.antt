@@ -5,14 +5,14 @@ use Rattle.wire.specs.Bytes.{word_range}
 use Rattle.machines.specs.declared.resolve.EmptyRegions.{EmptyRegions}
 use Rattle.machines.specs.declared.resolve.SkippedRegions.{SkippedRegions}
 use Rattle.machines.specs.declared.layout.RegionHead.{RegionHead}
-use Rattle.machines.specs.declared.checked_read.NumberAt.{NumberAt}
+use Rattle.wire.specs.declared.answer.Number.{Number}
 use Rattle.machines.specs.CheckedReads.{region_in, with}
 use Rattle.machines.specs.ResolveAt.{len_at, max_of}
 use Rattle.machines.specs.LayoutAt.{opening, region_from}
 use Rattle.machines.specs.Memo.{beside_in, kept_in, of_empty}
 
 -- a region that begins at `at` and was read as g has no states, and so takes five bytes
-unfoldable pub empty_at : ℕ → NumberAt → Bool
+unfoldable pub empty_at : ℕ → Number → Bool
 empty_at at g = eqb g.value 0 && eqb g.next (at + 5)
 
 -- n such regions, one after the other from `at` on

@@ -9,7 +9,7 @@ use Rattle.pack_rules.specs.Read.{equations_in, transition_in}
 use Rattle.machines.specs.declared.layout.Entered.{Entered}
 use Rattle.machines.specs.declared.layout.LayoutPos.{LayoutPos}
 use Rattle.machines.specs.declared.layout.RegionHead.{RegionHead}
-use Rattle.machines.specs.declared.checked_read.NumberAt.{NumberAt}
+use Rattle.wire.specs.declared.answer.Number.{Number}
 use Rattle.machines.specs.Layout.{holed}
 use Rattle.machines.specs.ResolvedIn.{end_of}
 use Rattle.machines.specs.CheckedReads.{byte_in, number_in, with}
@@ -152,7 +152,7 @@ module _ (ns : List Name) (s : List ℕ) where
   unfoldable pub moves_at : ℕ → ℕ
   moves_at at = end_of (equations_in ns s (number_in s at).next)
 
-  unfoldable pub regions_at : ℕ → NumberAt
+  unfoldable pub regions_at : ℕ → Number
   regions_at at = number_in s (end_of (counted (transition_in ns s) s (moves_at at)))
 
   module _ (offsets : List ℕ) where

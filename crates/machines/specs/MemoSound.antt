@@ -5,7 +5,7 @@ use Rattle.wire.specs.Answer.{counted}
 use Rattle.wire.specs.Bytes.{word_range}
 use Rattle.pack_rules.specs.Names.{Name}
 use Rattle.pack_rules.specs.Read.{equation_in, expr_in, transition_in}
-use Rattle.machines.specs.declared.checked_read.NumberAt.{NumberAt}
+use Rattle.wire.specs.declared.answer.Number.{Number}
 use Rattle.machines.specs.ResolvedIn.{end_of, over_in}
 use Rattle.machines.specs.CheckedReads.{num, number_in}
 use Rattle.machines.specs.ResolveAt.{head_t}
@@ -40,7 +40,7 @@ pub record MemoSound (s : List ℕ) (names : ℕ) (offsets t : List ℕ) : Type 
   pub empties : (p : ℕ) → p < word_range → 0 < value_in t p → mark_in t p % 32 ≡ p % 5 + of_empty → mark_in t p / 32 ≡ longest_d s offsets (value_in t p) p 0
 
 -- what was read of the state at p: its head, where its transitions begin, where it ends, where the count of its regions stands
-pub record HeadRead (s : List ℕ) (names : ℕ) (offsets : List ℕ) (p : ℕ) (h : NumberAt) (m o r : ℕ) : Type 0 where
+pub record HeadRead (s : List ℕ) (names : ℕ) (offsets : List ℕ) (p : ℕ) (h : Number) (m o r : ℕ) : Type 0 where
   pub head : (ns : List Name) → length ns ≡ names → h ≡ head_t ns s offsets p
   pub state : (ns : List Name) → length ns ≡ names → StateSound ns s p m o r
 

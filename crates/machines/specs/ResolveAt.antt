@@ -5,7 +5,7 @@ use Rattle.pack_rules.specs.Limits.{absent, max_level, max_name, max_states}
 use Rattle.pack_rules.specs.Names.{Name}
 use Rattle.pack_rules.specs.Read.{equations_in, expr_in}
 use Rattle.machines.specs.declared.resolve.RefineStack.{RefineStack}
-use Rattle.machines.specs.declared.checked_read.NumberAt.{NumberAt}
+use Rattle.wire.specs.declared.answer.Number.{Number}
 use Rattle.machines.specs.declared.resolve.Resolved.{Resolved}
 use Rattle.machines.specs.declared.resolve.Resolved.TheVariants as wk
 use Rattle.machines.specs.ResolvedIn.{end_of}
@@ -47,11 +47,11 @@ module _ (s offsets : List ℕ) where
 
 module _ (ns : List Name) (s offsets : List ℕ) where
   -- a transition: its target's length
-  unfoldable pub target_t : ℕ → NumberAt
+  unfoldable pub target_t : ℕ → Number
   target_t at = with (number_in s (end_of (expr_in ns s at))) λ i q. num (len_of s offsets i) q
 
   -- a state's name, equations and transitions: the longest name
-  unfoldable pub head_t : ℕ → NumberAt
+  unfoldable pub head_t : ℕ → Number
   head_t at =
       with (number_in s at) λ i p. with (number_in s (end_of (equations_in ns s p))) λ n r. turns target_t max_of n r (len_of s offsets i)
 

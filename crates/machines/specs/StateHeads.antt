@@ -5,13 +5,13 @@ use Rattle.wire.specs.Answer.{counted}
 use Rattle.pack_rules.specs.Names.{Name}
 use Rattle.pack_rules.specs.Read.{transition_in}
 use Rattle.machines.specs.declared.memo.Head.{Head}
-use Rattle.machines.specs.declared.checked_read.NumberAt.{NumberAt}
+use Rattle.wire.specs.declared.answer.Number.{Number}
 use Rattle.machines.specs.ResolvedIn.{end_of}
 use Rattle.machines.specs.ResolveAt.{head_t}
 use Rattle.machines.specs.LayoutAt.{moves_at}
 
 -- its longest name and where that was read to, where its transitions begin, where the count of its regions stands
-abbrev pub head : NumberAt → ℕ → ℕ → Head
+abbrev pub head : Number → ℕ → ℕ → Head
 head h m r = record { head = h; moves = m; regions = r }
 
 -- that of the state at `at`

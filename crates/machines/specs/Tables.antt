@@ -3,7 +3,7 @@
 use Rattle.std.specs.Prelude.{ℕ, zero, suc, ◌+◌, ◌%◌, List, cond, length, get_or, set, ltb}
 use Rattle.wire.specs.Answer.{counted}
 use Rattle.wire.specs.Code.{onward}
-use Rattle.wire.specs.declared.answer.Skipped.TheVariants as sk
+use Rattle.std.specs.Prelude.{Ok}
 use Rattle.wire.specs.Bytes.{word_range}
 use Rattle.pack_rules.specs.Names.{Name}
 use Rattle.pack_rules.specs.Read.{optional_in, ports_in, state_at}
@@ -26,13 +26,13 @@ len_of s offsets i = get_or s (get_or offsets i 0) 0
 module _ (ns : List Name) (s : List ℕ) where
   -- from a machine's owner to its outputs, to its initial state, and from there past its states
   unfoldable pub outputs_in : ℕ → ℕ
-  outputs_in at = offset_of (onward (ports_in ns s) (onward (optional_in ns s) (sk.To at)))
+  outputs_in at = offset_of (onward (ports_in ns s) (onward (optional_in ns s) (Ok at)))
 
   unfoldable pub initial_in : ℕ → ℕ
-  initial_in at = offset_of (onward (ports_in ns s) (onward (ports_in ns s) (onward (ports_in ns s) (onward (optional_in ns s) (sk.To at)))))
+  initial_in at = offset_of (onward (ports_in ns s) (onward (ports_in ns s) (onward (ports_in ns s) (onward (optional_in ns s) (Ok at)))))
 
   unfoldable pub states_end : ℕ → ℕ
-  states_end at = with (number_in s at) λ i p. offset_of (onward (counted (state_at ns s) s) (sk.To p))
+  states_end at = with (number_in s at) λ i p. offset_of (onward (counted (state_at ns s) s) (Ok p))
 
   -- n machines from `at` on
   unfoldable pub placed_from : ℕ → ℕ → List ℕ → List ℕ

@@ -20,11 +20,10 @@ use crate::emit_region::{put_inner_locals, put_region_locals};
 use crate::layout::{between, pack_name};
 use crate::table::{entry, to_outputs};
 use pack::check::reached;
-use pack::parts::then_ports;
+use pack::parts::skip_ports;
 use pack::record::Pack;
-use wire::answer::Skipped;
 use wire::number::WORD_RANGE;
-use wire::writer::{Writer, capped, put_bytes};
+use wire::writer::{Writer, put_bytes};
 
 // --- What the machines of a pack bring to its nodes, counted. Three tables are filled before: for the machine i
 // `defs` says where it is drawn, `receivers` which node it goes to, and `regcounts` how many regions it has, the top one included.
@@ -58,7 +57,7 @@ pub fn after_ports(pack: &[u8], names: usize, at: usize) -> usize
     requires { length pack.now ≤ max_bytes }
     ensures { (ns : List Name) → length ns ≡ names → result ≡ end_of (ports_in ns pack.now at) }
 {
-    reached(then_ports(pack, names, Skipped::To(at)))
+    reached(skip_ports(pack, names, at))
 }
 
 // From a machine to its own locals.
@@ -272,7 +271,7 @@ pub fn span(receivers: &[usize], n: usize, k: usize, f: usize) -> usize
 pub fn table_from(layout: &[usize], f: usize) -> &[usize]
     ensures { result.now ≡ drop f layout.now }
 {
-    let b = capped(layout.len(), 0, f);
+    let b = f.min(layout.len());
     &layout[b..]
 }
 

@@ -7,6 +7,7 @@ ghost use Rattle.pack_rules.specs.Write.{Item};
 ghost use Rattle.pack.specs.Table.{tabled};
 ghost use Rattle.pack.specs.Intern.{render, table, unwritten};
 ghost use Rattle.pack_rules.specs.Outcome.{Answers, Gives, output_of, report_of, reported, returned};
+ghost use Rattle.pack.specs.Finish.{number_for, value_for};
 ghost use Rattle.pack.specs.Finish.{answered};
 ghost use Rattle.pack.specs.Verdict.{SectionsAt};
 ghost use Rattle.pack_rules.specs.Limits.{max_bytes};
@@ -29,8 +30,8 @@ use crate::report::{put_report, report_len};
 use crate::sections::put_sections;
 use crate::table::{place_machines, place_names};
 use crate::verdicts::judge_all;
-use pack::check::{Verdict, answer, read_pack};
-use pack::finish::{Outcome, copy_pack, finish, returned_word};
+use pack::check::read_pack;
+use pack::finish::{CallError, Outcome, copy_pack, finish, returned_word};
 use pack::intern::build_name_table;
 use pack::record::Pack;
 use pack::table::ROOM;
@@ -100,26 +101,20 @@ fn report_all(
     report: &mut [u8],
 ) -> Outcome
     requires { (length pack.now ≤ max_bytes) × Long layout.old rows.old qualified.old × (n ≤ word_range) × Reports pack.now offsets.now machines.now defs.now regcounts.now receivers.now names n × MemoSound pack.now names offsets.now memo.now }
-    ensures { (ns : List Name) → length ns ≡ names → (es : ℕ → List ℕ) → EntersAll ns pack.now offsets.now machines.now defs.now regcounts.now receivers.now n es → (output : List ℕ) → Answers (reported (length report.old) (two refused ++ bytes_t (of_refused receivers.now es) n 0)) result.number result.value output output report.old report.new }
+    ensures { (ns : List Name) → length ns ≡ names → (es : ℕ → List ℕ) → EntersAll ns pack.now offsets.now machines.now defs.now regcounts.now receivers.now n es → (output : List ℕ) → Answers (reported (length report.old) (two refused ++ bytes_t (of_refused receivers.now es) n 0)) (number_for result) (value_for result) output output report.old report.new }
 {
     let b = report_len(
         pack, names, offsets, machines, memo, layout, rows, qualified, defs, receivers, regcounts,
         n,
     );
     if report.len() < b {
-        return Outcome {
-            number: Outcome::REPORT_ROOM,
-            value: b as u64,
-        };
+        return Err(CallError::ReportRoom(b));
     }
     put_report(
         pack, names, offsets, machines, memo, layout, rows, qualified, defs, receivers, regcounts,
         n, refused, report,
     );
-    Outcome {
-        number: Outcome::REFUSED,
-        value: b as u64,
-    }
+    Err(CallError::Refused(b))
 }
 
 // The lowered pack, where nothing is refused. It is made in buffers of the call's own, and copied out where it fits.
@@ -139,7 +134,7 @@ fn write_all(
     output: &mut [u8],
 ) -> Outcome
     requires { (length pack.now ≤ max_bytes) × (n ≤ word_range) × Long layout.old rows.old qualified.old × RowsSound pack.now sections.names memo.now }
-    ensures { (ns : List Name) → length ns ≡ sections.names → (old : List ℕ) → old ≡ tabled (table (slice_of pack.now 2 (sections.enums - 2))) → (eqs ens : ℕ → List Item) → AllWrite old (equations_at ns pack.now offsets.now machines.now) defs.now n eqs → AllWrite old (enums_at ns pack.now offsets.now machines.now) defs.now n ens → Gives (answered (length output.old) (slice_of pack.now 2 (sections.enums - 2)) (render old (sections_t ns pack.now defs.now receivers.now regcounts.now offsets.now n eqs ens sections) unwritten)) result.number result.value output.old output.new }
+    ensures { (ns : List Name) → length ns ≡ sections.names → (old : List ℕ) → old ≡ tabled (table (slice_of pack.now 2 (sections.enums - 2))) → (eqs ens : ℕ → List Item) → AllWrite old (equations_at ns pack.now offsets.now machines.now) defs.now n eqs → AllWrite old (enums_at ns pack.now offsets.now machines.now) defs.now n ens → Gives (answered (length output.old) (slice_of pack.now 2 (sections.enums - 2)) (render old (sections_t ns pack.now defs.now receivers.now regcounts.now offsets.now n eqs ens sections) unwritten)) (number_for result) (value_for result) output.old output.new }
 {
     let mut out = [0u8; Pack::BYTES];
     let mut made = [0u8; ROOM];
@@ -184,7 +179,7 @@ fn write_out_of_line(
     output: &mut [u8],
 ) -> Outcome
     requires { (length pack.now ≤ max_bytes) × (n ≤ word_range) × Long layout.old rows.old qualified.old × RowsSound pack.now sections.names memo.now }
-    ensures { (ns : List Name) → length ns ≡ sections.names → (old : List ℕ) → old ≡ tabled (table (slice_of pack.now 2 (sections.enums - 2))) → (eqs ens : ℕ → List Item) → AllWrite old (equations_at ns pack.now offsets.now machines.now) defs.now n eqs → AllWrite old (enums_at ns pack.now offsets.now machines.now) defs.now n ens → Gives (answered (length output.old) (slice_of pack.now 2 (sections.enums - 2)) (render old (sections_t ns pack.now defs.now receivers.now regcounts.now offsets.now n eqs ens sections) unwritten)) result.number result.value output.old output.new }
+    ensures { (ns : List Name) → length ns ≡ sections.names → (old : List ℕ) → old ≡ tabled (table (slice_of pack.now 2 (sections.enums - 2))) → (eqs ens : ℕ → List Item) → AllWrite old (equations_at ns pack.now offsets.now machines.now) defs.now n eqs → AllWrite old (enums_at ns pack.now offsets.now machines.now) defs.now n ens → Gives (answered (length output.old) (slice_of pack.now 2 (sections.enums - 2)) (render old (sections_t ns pack.now defs.now receivers.now regcounts.now offsets.now n eqs ens sections) unwritten)) (number_for result) (value_for result) output.old output.new }
 {
     if Pack::BYTES < pack.len() {
         let r = write_out_of_line(
@@ -202,10 +197,7 @@ fn write_out_of_line(
             n,
             output,
         );
-        return Outcome {
-            number: r.number,
-            value: 0,
-        };
+        return r.map(|_| 0);
     }
     write_all(
         pack, sections, offsets, machines, memo, layout, rows, qualified, defs, receivers,
@@ -231,7 +223,7 @@ fn lower_filled(
     report: &mut [u8],
 ) -> Outcome
     requires { (length pack.now ≤ max_bytes) × Long layout.old rows.old qualified.old × Empty offsets.old machines.old nodes.old defs.old receivers.old regcounts.old × OpenedAs pack.now sections × Blank memo.old }
-    ensures { (p : Package) → SectionsAt pack.now sections p → Answers (lower_package_machines (length output.old) (length report.old) p) result.number result.value output.old output.new report.old report.new }
+    ensures { (p : Package) → SectionsAt pack.now sections p → Answers (lower_package_machines (length output.old) (length report.old) p) (number_for result) (value_for result) output.old output.new report.old report.new }
 {
     let names = sections.names;
     let m = number(pack, sections.machines);
@@ -256,7 +248,7 @@ fn lower_filled(
 // a machine is bounded by the limit of its states.
 fn lower_with_scratch(pack: &[u8], sections: Pack, output: &mut [u8], report: &mut [u8]) -> Outcome
     requires { (length pack.now ≤ max_bytes) × OpenedAs pack.now sections }
-    ensures { (p : Package) → SectionsAt pack.now sections p → Answers (lower_package_machines (length output.old) (length report.old) p) result.number result.value output.old output.new report.old report.new }
+    ensures { (p : Package) → SectionsAt pack.now sections p → Answers (lower_package_machines (length output.old) (length report.old) p) (number_for result) (value_for result) output.old output.new report.old report.new }
 {
     let mut offsets = [0u16; 32768];
     let mut to = [0u16; 32768];
@@ -290,14 +282,11 @@ fn lower_with_scratch(pack: &[u8], sections: Pack, output: &mut [u8], report: &m
 // stand on the stack at once. No pack is longer than the check allows.
 fn lower_out_of_line(pack: &[u8], sections: Pack, output: &mut [u8], report: &mut [u8]) -> Outcome
     requires { (length pack.now ≤ max_bytes) × OpenedAs pack.now sections }
-    ensures { (p : Package) → SectionsAt pack.now sections p → Answers (lower_package_machines (length output.old) (length report.old) p) result.number result.value output.old output.new report.old report.new }
+    ensures { (p : Package) → SectionsAt pack.now sections p → Answers (lower_package_machines (length output.old) (length report.old) p) (number_for result) (value_for result) output.old output.new report.old report.new }
 {
     if Pack::BYTES < pack.len() {
         let r = lower_out_of_line(&pack[..Pack::BYTES], sections, output, report);
-        return Outcome {
-            number: r.number,
-            value: 0,
-        };
+        return r.map(|_| 0);
     }
     lower_with_scratch(pack, sections, output, report)
 }
@@ -305,7 +294,7 @@ fn lower_out_of_line(pack: &[u8], sections: Pack, output: &mut [u8], report: &mu
 // A pack that was opened. One without machines stays as it is, and needs no scratch.
 fn lower_checked(pack: &[u8], sections: Pack, output: &mut [u8], report: &mut [u8]) -> Outcome
     requires { (length pack.now ≤ max_bytes) × OpenedAs pack.now sections }
-    ensures { Answers (lower_machines pack.now (length output.old) (length report.old)) result.number result.value output.old output.new report.old report.new }
+    ensures { Answers (lower_machines pack.now (length output.old) (length report.old)) (number_for result) (value_for result) output.old output.new report.old report.new }
 {
     let m = number(pack, sections.machines);
     let count = m.value;
@@ -317,15 +306,11 @@ fn lower_checked(pack: &[u8], sections: Pack, output: &mut [u8], report: &mut [u
 
 // Lowers the machines of a pack: the lowered pack in `output`, or a report of what is refused in `report`.
 pub fn lower_state_machines(pack: &[u8], output: &mut [u8], report: &mut [u8]) -> Outcome
-    ensures { Answers (lower_machines pack.now (length output.old) (length report.old)) result.number result.value output.old output.new report.old report.new }
+    ensures { Answers (lower_machines pack.now (length output.old) (length report.old)) (number_for result) (value_for result) output.old output.new report.old report.new }
 {
     let opened = read_pack(pack);
-    let k = opened.pack;
-    let v = opened.verdict;
-    let Verdict::Whole = v else {
-        return answer(v, pack.len());
-    };
-    lower_checked(pack, k, output, report)
+    opened.verdict?;
+    lower_checked(pack, opened.pack, output, report)
 }
 
 // The same with number and value in one word.

@@ -7,28 +7,20 @@ ghost use Rattle.pack_rules.specs.Limits.{max_bytes};
 ghost use Rattle.machines.specs.ResolvedIn.{end_of, over_in};
 ghost use Rattle.machines.specs.CheckedReads.{sure_of, first_some, number_in, region_in, machine_from};
 
-use pack::charts::then_state;
+use pack::charts::skip_state;
 use pack::check::reached;
-use pack::parts::{then_equation, then_equations, then_expr, then_port, then_transitions};
+use pack::exprs::skip_expr;
+use pack::parts::{skip_equation, skip_equations, skip_port, skip_transitions};
 use pack::record::Pack;
-use wire::answer::{Read, Skipped};
+use wire::answer::{Number, Read};
 use wire::number::{read_byte, read_u16};
 
-// A number, and the offset after it.
-#[derive(Clone, Copy)]
-pub struct NumberAt {
-    pub value: usize,
-    pub next: usize,
-}
-
 // What was read, 0 and 0 where reading stopped.
-pub fn read_or_zero(r: Read) -> NumberAt
+#[tactic(auto, unfolding(crate::specs::CheckedReads::sure_of))]
+pub fn read_or_zero(r: Read) -> Number
     ensures { result ≡ sure_of r }
 {
-    match r {
-        Read::Is { value, next } => NumberAt { value, next },
-        _ => NumberAt { value: 0, next: 0 },
-    }
+    r.unwrap_or(Number { value: 0, next: 0 })
 }
 
 // Whether both hold.
@@ -46,14 +38,14 @@ pub fn first_some(a: usize, b: usize) -> usize
 }
 
 // A count, or a name's index.
-pub fn number(pack: &[u8], at: usize) -> NumberAt
+pub fn number(pack: &[u8], at: usize) -> Number
     ensures { result ≡ number_in pack.now at }
 {
     read_or_zero(read_u16(pack, at))
 }
 
 // How many states a region has, after its initial state and its history flag.
-pub fn region(pack: &[u8], at: usize) -> NumberAt
+pub fn region(pack: &[u8], at: usize) -> Number
     ensures { result ≡ region_in pack.now at }
 {
     let i = number(pack, at);
@@ -62,7 +54,7 @@ pub fn region(pack: &[u8], at: usize) -> NumberAt
 }
 
 // How many states a machine has, after its initial state.
-pub fn machine(pack: &[u8], at: usize) -> NumberAt
+pub fn machine(pack: &[u8], at: usize) -> Number
     ensures { result ≡ machine_from pack.now at }
 {
     let i = number(pack, at);
@@ -74,7 +66,7 @@ pub fn after_expr(pack: &[u8], names: usize, at: usize) -> usize
     requires { length pack.now ≤ max_bytes }
     ensures { (ns : List Name) → length ns ≡ names → result ≡ end_of (expr_in ns pack.now at) }
 {
-    reached(then_expr(pack, names, Skipped::To(at)))
+    reached(skip_expr(pack, names, at))
 }
 
 // Past a port.
@@ -82,7 +74,7 @@ pub fn after_port(pack: &[u8], names: usize, at: usize) -> usize
     requires { length pack.now ≤ max_bytes }
     ensures { (ns : List Name) → length ns ≡ names → result ≡ end_of (port_in ns pack.now at) }
 {
-    reached(then_port(pack, names, Skipped::To(at)))
+    reached(skip_port(pack, names, at))
 }
 
 // Past an equation.
@@ -90,7 +82,7 @@ pub fn after_equation(pack: &[u8], names: usize, at: usize) -> usize
     requires { length pack.now ≤ max_bytes }
     ensures { (ns : List Name) → length ns ≡ names → result ≡ end_of (equation_in ns pack.now at) }
 {
-    reached(then_equation(pack, names, Skipped::To(at)))
+    reached(skip_equation(pack, names, at))
 }
 
 // Past equations, which stand after their count.
@@ -98,7 +90,7 @@ pub fn after_equations(pack: &[u8], names: usize, at: usize) -> usize
     requires { length pack.now ≤ max_bytes }
     ensures { (ns : List Name) → length ns ≡ names → result ≡ end_of (equations_in ns pack.now at) }
 {
-    reached(then_equations(pack, names, Skipped::To(at)))
+    reached(skip_equations(pack, names, at))
 }
 
 // Past transitions, which stand after their count.
@@ -106,7 +98,7 @@ pub fn after_transitions(pack: &[u8], names: usize, at: usize) -> usize
     requires { length pack.now ≤ max_bytes }
     ensures { (ns : List Name) → length ns ≡ names → result ≡ end_of (counted (transition_in ns pack.now) pack.now at) }
 {
-    reached(then_transitions(pack, names, Skipped::To(at)))
+    reached(skip_transitions(pack, names, at))
 }
 
 // A state with all that is drawn inside.
@@ -114,5 +106,5 @@ pub fn after_state(pack: &[u8], names: usize, at: usize) -> usize
     requires { length pack.now ≤ max_bytes }
     ensures { (ns : List Name) → length ns ≡ names → result ≡ over_in ns pack.now at }
 {
-    reached(then_state(pack, names, Pack::LEVELS - 1, Skipped::To(at)))
+    reached(skip_state(pack, names, Pack::LEVELS - 1, at))
 }

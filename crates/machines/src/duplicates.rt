@@ -8,7 +8,7 @@ ghost use Rattle.pack_rules.specs.Names.{member};
 ghost use Rattle.pack.specs.Intern.{table};
 ghost use Rattle.machines.specs.Duplicates.{duplicate_at};
 
-use pack::intern::{Found, find_name};
+use pack::intern::find_name;
 use pack::record::Pack;
 use pack::siphash::hash;
 use wire::writer::capped;
@@ -78,11 +78,7 @@ pub fn put_half(halves: &mut [u32], k: usize, m: u32)
 fn contains_name(t: &[u8], n: &[u8]) -> bool
     ensures { result ≡ member n.now (table t.now) }
 {
-    let f = find_name(t, n);
-    match f {
-        Found::At(_) => true,
-        Found::Missing(_) => false,
-    }
+    find_name(t, n).is_ok()
 }
 
 // The same where the marks of the table's k names are known, and m is the name's own.
@@ -130,7 +126,7 @@ fn first_duplicate(t: &[u8], lows: &mut [u32], highs: &mut [u32]) -> usize
 pub fn duplicate_name(qualified: &[u8], end: usize) -> usize
     ensures { result ≡ duplicate_at (take end qualified.now) }
 {
-    let e = capped(qualified.len(), 0, end);
+    let e = end.min(qualified.len());
     let mut lows = [0u32; Pack::STATES];
     let mut highs = [0u32; Pack::STATES];
     first_duplicate(&qualified[..e], &mut lows, &mut highs)

@@ -25,7 +25,7 @@ use crate::next_state_chain::build_next_state_chain;
 use crate::table::entry;
 use pack::intern::put_name;
 use pack::record::Pack;
-use wire::writer::{Writer, capped, put_byte, put_bytes, put_u16, stopped};
+use wire::writer::{Writer, put_byte, put_bytes, put_u16, stopped};
 
 // --- The fixed expressions of a region's equations: which state, held over, just entered, active.
 
@@ -393,7 +393,7 @@ fn put_state(
     if full {
         return stopped(writer);
     }
-    let end = capped(buf.len(), 0, v.at);
+    let end = v.at.min(buf.len());
     put_state_equation(old, id, &buf[..end], history, out, made, writer)
 }
 

@@ -542,7 +542,7 @@ pub fn is(a: usize, b: usize) -> bool
 pub fn part(pack: &[u8], a: usize, n: usize) -> &[u8]
     ensures { result.now ≡ slice_of pack.now a n }
 {
-    let b = capped(pack.len(), 0, a);
+    let b = a.min(pack.len());
     let e = capped(pack.len(), b, n);
     &pack[b..e]
 }

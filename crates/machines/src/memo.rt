@@ -6,12 +6,13 @@
 //   EMPTY             value: how many regions without states follow one another; x: the longest name of their initial states
 //   a state           p, its longest name, where its transitions begin, where it ends, where its regions' count stands
 // What is there is right (specs/MemoSound), and what is not is read: nothing depends on the table's being complete.
-ghost use Rattle.std.specs.Prelude.{◌≡◌, ◌%◌, ◌+◌, ◌-◌, ◌<◌, ◌≤◌, ℕ, List, length, IfSome};
+ghost use Rattle.std.specs.Prelude.{◌≡◌, ◌%◌, ◌+◌, ◌-◌, ◌<◌, ◌≤◌, ℕ, List, length, IfSome, Ok};
 ghost use Rattle.wire.specs.Bytes.{word_range};
 ghost use Rattle.machines.specs.Memo.{beside_in, kept_in, longest_in, moves_in, past_in, regions_in, row_mark, row_put, state_put, state_row};
-ghost use Rattle.wire.specs.Answer.{Answer, counted, many};
+ghost use Rattle.wire.specs.Answer.{Answer, below, counted, many};
+ghost use Rattle.wire.specs.Code.{onward};
 ghost use Rattle.pack_rules.specs.Names.{Name};
-ghost use Rattle.pack_rules.specs.Read.{OneRegion, equation_in, expr_in, region_at, state_at, state_with, transition_in};
+ghost use Rattle.pack_rules.specs.Read.{OneRegion, equation_in, expr_in, name_in, region_at, state_at, state_with, transition_in};
 ghost use Rattle.pack_rules.specs.Limits.{max_bytes, max_level};
 ghost use Rattle.machines.specs.ResolvedIn.{end_of, over_in};
 ghost use Rattle.machines.specs.LayoutAt.{moves_at, regions_at};
@@ -20,17 +21,18 @@ ghost use Rattle.machines.specs.UnknownTargets.{IsDrawn, drawn_state, target_d, 
 ghost use Rattle.machines.specs.StateHeads.{head_of};
 
 use crate::checked_read::{
-    NumberAt, after_equation, after_equations, after_expr, after_state, after_transitions, both,
+    after_equation, after_equations, after_expr, after_state, after_transitions, both,
     machine, number,
 };
 use crate::resolve::{empty_run_from, max, read_state_head};
 use crate::table::to_initial;
 use pack::cells::{cell, put_cell};
 use pack::check::reached;
-use pack::parts::{then_expr, then_name, then_optional};
+use pack::exprs::skip_expr;
+use pack::parts::{skip_index, skip_optional};
 use pack::record::Pack;
-use wire::answer::Skipped;
-use wire::number::{WORD_MAX, WORD_RANGE, then_below};
+use wire::answer::{Number, Skipped};
+use wire::number::{WORD_MAX, WORD_RANGE, read_below};
 
 // The kinds of things that have rows of two cells (specs/Memo).
 pub const EQUATION: usize = 1;
@@ -153,7 +155,7 @@ pub fn memo_put_state(memo: &mut [u16], p: usize, l: usize, m: usize, o: usize, 
 #[derive(Clone, Copy)]
 pub struct Inside {
     pub moves: usize,
-    pub regions: NumberAt,
+    pub regions: Number,
 }
 
 // Past the equation at `at`.
@@ -347,7 +349,7 @@ pub fn unknown_targets(pack: &[u8], names: usize, memo: &[u16], n: usize, f: usi
 // regions' count stands.
 #[derive(Clone, Copy)]
 struct Head {
-    head: NumberAt,
+    head: Number,
     moves: usize,
     regions: usize,
 }
@@ -385,9 +387,12 @@ fn memo_guard(pack: &[u8], names: usize, memo: &mut [u16], at: usize) -> usize
     ensures value { (ns : List Name) → length ns ≡ names → result ≡ end_of (transition_in ns pack.now at) }
     ensures by_index { (offsets : List ℕ) → MemoSound pack.now names offsets memo.old → MemoSound pack.now names offsets memo.new }
 {
-    let g = then_expr(pack, names, Skipped::To(at));
-    memo_put(memo, at, GUARD, 0, reached(g));
-    reached(then_name(pack, names, g))
+    let guard = skip_expr(pack, names, at);
+    memo_put(memo, at, GUARD, 0, reached(guard));
+    match guard {
+        Ok(p) => reached(skip_index(pack, names, p)),
+        Err(_) => 0,
+    }
 }
 
 // The guards of `count` transitions from `from` on; the offset after them, 0 where one does not read.
@@ -450,7 +455,7 @@ fn memo_head(pack: &[u8], names: usize, offsets: &[u16], memo: &mut [u16], at: u
 fn state_end(pack: &[u8], names: usize, at: usize, h: Head, p: usize) -> usize
     ensures { (ns : List Name) → length ns ≡ names → (offsets : List ℕ) (f : ℕ → Answer OneRegion) → h ≡ head_of ns pack.now offsets at → p ≡ end_of (counted f pack.now h.regions) → 0 < result → result ≡ end_of (state_with f ns pack.now at) }
 {
-    let n = reached(then_name(pack, names, Skipped::To(at)));
+    let n = reached(skip_index(pack, names, at));
     if n == 0 {
         return 0;
     }
@@ -463,19 +468,26 @@ fn state_end(pack: &[u8], names: usize, at: usize, h: Head, p: usize) -> usize
     if p == 0 {
         return 0;
     }
-    reached(then_optional(pack, names, Skipped::To(p)))
+    reached(skip_optional(pack, names, p))
+}
+
+// A region's initial state and its history flag.
+#[tactic(auto, unfolding(wire::specs::Code::onward, wire::specs::Code::next, wire::specs::Code::skips, wire::specs::Code::skip, wire::specs::Code::read_of))]
+fn skip_region_head(pack: &[u8], names: usize, at: usize) -> Skipped
+    ensures { (ns : List Name) → length ns ≡ names → result ≡ onward (below 2 pack.now) (onward (name_in ns pack.now) (Ok at)) }
+{
+    let initial = skip_index(pack, names, at)?;
+    Ok(read_below(pack, 2, initial)?.next)
 }
 
 // How many states the region at `at` has, and where they are: they end where it does. None at 0 where its head does not read.
-fn states_in(pack: &[u8], names: usize, at: usize) -> NumberAt
+fn states_in(pack: &[u8], names: usize, at: usize) -> Number
     ensures { (ns : List Name) → length ns ≡ names → (levels : ℕ) → (levels ≡ 0 → ⊥) → end_of (many (state_with (region_at (levels - 1) ns pack.now) ns pack.now) result.value result.next) ≡ end_of (region_at levels ns pack.now at) }
 {
-    let a = then_name(pack, names, Skipped::To(at));
-    let b = then_below(pack, 2, a);
-    let Skipped::To(p) = b else {
-        return NumberAt { value: 0, next: 0 };
-    };
-    number(pack, p)
+    match skip_region_head(pack, names, at) {
+        Ok(p) => number(pack, p),
+        Err(_) => Number { value: 0, next: 0 },
+    }
 }
 
 // Keeps how many of n regions from `at` on have no states, where these are several; how many follow the one at `at`. Where `known`

@@ -14,12 +14,13 @@ ghost use Rattle.machines.specs.MemoSound.{MemoSound, RowsSound};
 ghost use Rattle.wire.specs.Bytes.{word_range};
 ghost use Rattle.machines.specs.EmptyRegions.{AtOnce, EmptyRun, empty_at, opened_of, taken_of};
 
-use crate::checked_read::{NumberAt, both, machine, number, region};
+use crate::checked_read::{both, machine, number, region};
 use crate::layout::{RegionHead, region_head};
 use crate::memo::{EMPTY, guard_end, memo_at, memo_beside, memo_longest, memo_regions, moves_of};
 use crate::table::name_len;
 use pack::cells::cell;
 use pack::record::Pack;
+use wire::answer::Number;
 use wire::number::WORD_RANGE;
 
 // --- The machines on the way from the top machine to where a walk is. Eight suffice: each is a level further down.
@@ -108,12 +109,12 @@ pub fn len_at(pack: &[u8], offsets: &[u16], at: usize) -> usize
 }
 
 // A transition: its target's length.
-fn target_len(pack: &[u8], names: usize, offsets: &[u16], memo: &[u16], at: usize) -> NumberAt
+fn target_len(pack: &[u8], names: usize, offsets: &[u16], memo: &[u16], at: usize) -> Number
     requires { (length pack.now ≤ max_bytes) × RowsSound pack.now names memo.now }
     ensures { (ns : List Name) → length ns ≡ names → result ≡ target_t ns pack.now offsets.now at }
 {
     let i = number(pack, guard_end(pack, names, memo, at));
-    NumberAt {
+    Number {
         value: name_len(pack, offsets, i.value),
         next: i.next,
     }
@@ -127,7 +128,7 @@ pub fn read_state_head(
     memo: &[u16],
     at: usize,
     m: usize,
-) -> NumberAt
+) -> Number
     requires { (length pack.now ≤ max_bytes) × RowsSound pack.now names memo.now }
     ensures { (ns : List Name) → length ns ≡ names → m ≡ moves_at ns pack.now at → result ≡ head_t ns pack.now offsets.now at }
 {
@@ -140,17 +141,17 @@ pub fn read_state_head(
         a = max(a, x.value);
         p = x.next;
     }
-    NumberAt { value: a, next: p }
+    Number { value: a, next: p }
 }
 
 // The same, looked up where it is kept.
-pub fn state_head(pack: &[u8], names: usize, offsets: &[u16], memo: &[u16], at: usize) -> NumberAt
+pub fn state_head(pack: &[u8], names: usize, offsets: &[u16], memo: &[u16], at: usize) -> Number
     requires { (length pack.now ≤ max_bytes) × MemoSound pack.now names offsets.now memo.now }
     ensures { (ns : List Name) → length ns ≡ names → result ≡ head_t ns pack.now offsets.now at }
 {
     let r = memo_regions(memo, at);
     if 0 < r {
-        return NumberAt {
+        return Number {
             value: memo_longest(memo, at),
             next: r,
         };
@@ -177,7 +178,7 @@ pub struct SkippedRegions {
 }
 
 // Whether the region that begins at `at` and was read as g has no states.
-fn is_empty(at: usize, g: NumberAt) -> bool
+fn is_empty(at: usize, g: Number) -> bool
     ensures { result ≡ empty_at at g }
 {
     if g.next < 5 {

@@ -1,5 +1,7 @@
 // Tables by name index, made once: where a name stands, and where the machine of that name is.
-ghost use Rattle.std.specs.Prelude.{List, ◌≡◌, ◌≤◌, length, get_or, set};
+ghost use Rattle.std.specs.Prelude.{List, ◌≡◌, ◌≤◌, length, get_or, set, Ok};
+ghost use Rattle.wire.specs.Code.{onward};
+ghost use Rattle.pack_rules.specs.Read.{optional_in, ports_in};
 ghost use Rattle.pack_rules.specs.Names.{Name};
 ghost use Rattle.pack_rules.specs.Limits.{max_bytes};
 ghost use Rattle.machines.specs.MemoSound.{RowsSound};
@@ -9,7 +11,7 @@ use crate::checked_read::number;
 use crate::memo::past_states;
 use pack::cells::{byte_at, cell, put_cell};
 use pack::check::reached;
-use pack::parts::{then_optional, then_ports};
+use pack::parts::{skip_optional, skip_ports};
 use wire::answer::Skipped;
 
 // The entry i, 0 past the end.
@@ -58,13 +60,33 @@ pub fn name_len(pack: &[u8], offsets: &[u16], i: usize) -> usize
     byte_at(pack, at)
 }
 
+// A machine's owner and its inputs.
+#[tactic(auto, unfolding(wire::specs::Code::onward, wire::specs::Code::next, wire::specs::Code::skips))]
+fn skip_inputs(pack: &[u8], names: usize, at: usize) -> Skipped
+    requires { length pack.now ≤ max_bytes }
+    ensures { (ns : List Name) → length ns ≡ names → result ≡ onward (ports_in ns pack.now) (onward (optional_in ns pack.now) (Ok at)) }
+{
+    let owner = skip_optional(pack, names, at)?;
+    skip_ports(pack, names, owner)
+}
+
+// A machine's owner and all its ports.
+#[tactic(auto, unfolding(wire::specs::Code::onward, wire::specs::Code::next, wire::specs::Code::skips))]
+fn skip_interface(pack: &[u8], names: usize, at: usize) -> Skipped
+    requires { length pack.now ≤ max_bytes }
+    ensures { (ns : List Name) → length ns ≡ names → result ≡ onward (ports_in ns pack.now) (onward (ports_in ns pack.now) (onward (ports_in ns pack.now) (onward (optional_in ns pack.now) (Ok at)))) }
+{
+    let inputs = skip_inputs(pack, names, at)?;
+    let outputs = skip_ports(pack, names, inputs)?;
+    skip_ports(pack, names, outputs)
+}
+
 // From a machine's owner, past its inputs: where its outputs are.
 pub fn to_outputs(pack: &[u8], names: usize, at: usize) -> usize
     requires { length pack.now ≤ max_bytes }
     ensures { (ns : List Name) → length ns ≡ names → result ≡ outputs_in ns pack.now at }
 {
-    let o = then_optional(pack, names, Skipped::To(at));
-    reached(then_ports(pack, names, o))
+    reached(skip_inputs(pack, names, at))
 }
 
 // From a machine's owner, past its ports: where its initial state is.
@@ -72,11 +94,7 @@ pub fn to_initial(pack: &[u8], names: usize, at: usize) -> usize
     requires { length pack.now ≤ max_bytes }
     ensures { (ns : List Name) → length ns ≡ names → result ≡ initial_in ns pack.now at }
 {
-    let o = then_optional(pack, names, Skipped::To(at));
-    let a = then_ports(pack, names, o);
-    let b = then_ports(pack, names, a);
-    let c = then_ports(pack, names, b);
-    reached(c)
+    reached(skip_interface(pack, names, at))
 }
 
 // From a machine's initial state, past its states.

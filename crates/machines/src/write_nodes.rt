@@ -3,7 +3,8 @@
 //   locals      how many, those that stand, and those that machines bring (`added`)
 //   equations   how many, those that stand, and those that machines bring (`emit_machine`)
 // What machines bring comes in their order. A machine without owner brings its own locals and equations to the node that it begins.
-ghost use Rattle.std.specs.Prelude.{List, ◌++◌, ◌≡◌, ◌-◌, ◌<◌, ◌≤◌, ℕ, length};
+ghost use Rattle.std.specs.Prelude.{List, ◌++◌, ◌≡◌, ◌-◌, ◌<◌, ◌≤◌, ℕ, length, Ok};
+ghost use Rattle.wire.specs.Code.{onward};
 ghost use Rattle.wire.specs.Bytes.{word_range};
 ghost use Rattle.pack_rules.specs.Names.{Name};
 ghost use Rattle.pack_rules.specs.Limits.{max_bytes};
@@ -11,6 +12,7 @@ ghost use Rattle.machines.specs.AddedAt.{each_t, node_equations_in, node_locals_
 ghost use Rattle.wire.specs.Writer.{state_of};
 ghost use Rattle.pack.specs.Intern.{render};
 ghost use Rattle.machines.specs.NodeHeads.{new_head_t, node_locals_t, old_head_t};
+ghost use Rattle.pack_rules.specs.Read.{ports_in};
 ghost use Rattle.pack_rules.specs.Write.{Item};
 ghost use Rattle.machines.specs.MemoSound.{RowsSound};
 ghost use Rattle.machines.specs.EmitMachineAt.{AllWrite, Long, equations_at};
@@ -25,12 +27,22 @@ use crate::emit_machine::put_all_equations;
 use crate::layout::between;
 use crate::table::entry;
 use pack::check::reached;
-use pack::parts::then_ports;
+use pack::parts::skip_ports;
 use wire::answer::Skipped;
 use wire::number::read_byte;
 use wire::writer::{Writer, put_byte, put_bytes, put_u16};
 
 // --- The nodes of a pack as they stand: where their parts are, and how many equations they have.
+
+// A node's inputs and outputs.
+#[tactic(auto, unfolding(wire::specs::Code::onward, wire::specs::Code::next, wire::specs::Code::skips))]
+fn skip_two_lists(pack: &[u8], names: usize, at: usize) -> Skipped
+    requires { length pack.now ≤ max_bytes }
+    ensures { (ns : List Name) → length ns ≡ names → result ≡ onward (ports_in ns pack.now) (onward (ports_in ns pack.now) (Ok at)) }
+{
+    let inputs = skip_ports(pack, names, at)?;
+    skip_ports(pack, names, inputs)
+}
 
 // From a node to its locals.
 pub fn to_node_locals(pack: &[u8], names: usize, at: usize) -> usize
@@ -39,9 +51,7 @@ pub fn to_node_locals(pack: &[u8], names: usize, at: usize) -> usize
 {
     let i = number(pack, at);
     let k = read_or_zero(read_byte(pack, i.next));
-    let a = then_ports(pack, names, Skipped::To(k.next));
-    let b = then_ports(pack, names, a);
-    reached(b)
+    reached(skip_two_lists(pack, names, k.next))
 }
 
 // From a node to its equations.

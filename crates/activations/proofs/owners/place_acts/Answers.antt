@@ -1,7 +1,7 @@
 use native.Mathlib.Omega.{arith}
 use mathlib.Core.Path.{refl, ap}
 use lib.ListN.{length}
-use Rattle.machines.specs.declared.checked_read.NumberAt.{NumberAt}
+use Rattle.wire.specs.declared.answer.Number.{Number}
 use Rattle.activations.specs.Places.{act_end}
 use Rattle.activations.specs.OwnersAt.{draw_t}
 use Rattle.machines.proofs.CheckedReadLaws.{number_small}
@@ -22,4 +22,4 @@ pub shape_of-acts : goal.shape_of-acts
 shape_of-acts c = c.loop-m.invariant.0
 
 pub returns : goal.returns
-returns c = record { count = (number_small _ _ _ (λ i. omega (arith, c.type_inv.pack i)) c.number-c.ensures, ap (λ (y : NumberAt). y.value) c.number-c.ensures); placed = λ ns e. acts-placed ns _ _ _ _ _ _ _ c.number-c.ensures (goes_end _ _ _ _ _ _ _ c.loop-m-test.false (c.loop-m.invariant.2 ns e)) }
+returns c = record { count = (number_small _ _ _ (λ i. omega (arith, c.type_inv.pack i)) c.number-c.ensures, ap (λ (y : Number). y.value) c.number-c.ensures); placed = λ ns e. acts-placed ns _ _ _ _ _ _ _ c.number-c.ensures (goes_end _ _ _ _ _ _ _ c.loop-m-test.false (c.loop-m.invariant.2 ns e)) }

@@ -1,7 +1,7 @@
 use Prim.Native.Nat.{◌-◌, ◌%◌}
 use native.Mathlib.Omega.{arith}
 use mathlib.Core.Path.{refl, ap}
-use Rattle.machines.specs.declared.checked_read.NumberAt.{NumberAt}
+use Rattle.wire.specs.declared.answer.Number.{Number}
 use Rattle.machines.proofs.OwnerLaws.{fill_done, fill_more, fill_start, node_end_lem, nth-more, nth-start}
 use Rattle.machines.proofs.CheckedReadLaws.{number_small}
 use Rattle.machines.proofs.TableLaws.{put-length}
@@ -18,4 +18,4 @@ pub shape_of-nodes : goal.shape_of-nodes
 shape_of-nodes c = c.loop-k.invariant.0
 
 pub returns : goal.returns
-returns c = record { count = (number_small _ _ _ (λ i. omega (arith, c.type_inv.pack i)) c.number-c.ensures, ap (λ (y : NumberAt). y.value) c.number-c.ensures); placed = λ ns e. nodes-placed ns _ _ _ _ _ c.number-c.ensures (fill_done _ _ _ _ _ c.loop-k-test.false (c.loop-k.invariant.1 ns e).1) }
+returns c = record { count = (number_small _ _ _ (λ i. omega (arith, c.type_inv.pack i)) c.number-c.ensures, ap (λ (y : Number). y.value) c.number-c.ensures); placed = λ ns e. nodes-placed ns _ _ _ _ _ c.number-c.ensures (fill_done _ _ _ _ _ c.loop-k-test.false (c.loop-k.invariant.1 ns e).1) }

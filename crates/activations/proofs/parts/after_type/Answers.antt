@@ -3,4 +3,4 @@ use Rattle.machines.proofs.CheckedReadLaws.{end_is}
 use Rattle.activations.proofs.parts.after_type.Goals as goal
 
 pub returns : goal.returns
-returns c = λ ns e. end_is (type_in ns _) _ _ _ (c.then_type.ensures ns e) c.reached.ensures
+returns c = λ ns e. end_is (type_in ns _) _ _ _ (c.skip_type.ensures.by_names ns e) c.reached.ensures

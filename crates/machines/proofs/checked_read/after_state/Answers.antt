@@ -5,4 +5,4 @@ use Rattle.machines.proofs.checked_read.after_state.Goals as goal
 
 pub returns : goal.returns
 unfolding over_in state_at
-returns c = λ ns e. end_is (state_at ns _) _ _ _ (c.then_state.ensures ns e) c.reached.ensures
+returns c = λ ns e. end_is (state_at ns _) _ _ _ (c.skip_state.ensures ns e) c.reached.ensures

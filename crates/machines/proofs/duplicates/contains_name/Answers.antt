@@ -1,8 +1,6 @@
-use Rattle.machines.proofs.DuplicateLaws.{found_at, found-missing}
+use Rattle.std.proofs.Common.{◌∙◌}
+use Rattle.machines.proofs.DuplicateLaws.{found-is}
 use Rattle.machines.proofs.duplicates.contains_name.Goals as goal
 
-pub returns-in-At : goal.returns-in-At
-returns-in-At c = found_at _ _ _ _ c.find_name-f.ensures c.in-At.is
-
-pub returns-in-Missing : goal.returns-in-Missing
-returns-in-Missing c = found-missing _ _ _ _ c.find_name-f.ensures c.in-Missing.is
+pub returns : goal.returns
+returns c = c.is_ok.ensures.value ∙ found-is _ _ _ c.find_name.ensures
