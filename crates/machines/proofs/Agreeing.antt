@@ -1,5 +1,5 @@
 -- Resolving on bytes comes to what resolving the tree that is read there comes to.
-use Prim.Native.Nat.{ℕ, ◌+◌, ◌-◌, ◌<◌, ◌≤◌, zero, suc}
+use Prim.Native.Nat.{ℕ, ◌+◌, ◌-◌, ◌<◌, ◌≤◌, zero, suc, max}
 use native.Mathlib.Omega.{arith}
 use mathlib.Core.List.{List, [], ◌∷◌}
 use mathlib.Core.Bool.{Bool, true, false, cond, and-true}
@@ -24,7 +24,7 @@ use Rattle.machine_rules.specs.Resolve.{Target, Walk, machine_of, open_level, re
 use Rattle.machines.specs.CheckedReads.{machine_from, number_in, region_in, with}
 use Rattle.machines.specs.Tables.{len_of}
 use Rattle.machines.specs.RefineStack.{pushed_of}
-use Rattle.machines.specs.ResolveAt.{enter_w, go_on, head_t, len_at, max_of, qualify_of, refine_w, region_w, rounds, state_w, walk}
+use Rattle.machines.specs.ResolveAt.{enter_w, go_on, head_t, len_at, qualify_of, refine_w, region_w, rounds, state_w, walk}
 use Rattle.machines.specs.ResolveAgrees.{Same, Why, WithinNames, fit_r, fit_s, goes, stops, why_of}
 use Rattle.machines.proofs.Reading.{many-cut, many-end, many_more, many-over, optional-none, optional-some, region-none, region-value, state-value}
 use Rattle.machines.proofs.ResolvedAtOffset.{Found}
@@ -71,12 +71,12 @@ module _ (ns : List Name) (s offsets to : List ℕ) (top : Name) (ms : List Mach
       let i : len_at s offsets at ≡ length x.initial = len-at ns s offsets right at x.initial b.head.to-history b.head.initial in
       let u = low l refl f levels b.k b.b path p b.xs d.0 c 0 (omega arith) (omega arith) (less-known ns l path p kn) b.inside in
       same_by ns top (fit_r a) q _ _ _ _ refl
-      (ap (λ y. go_on y (λ q d w. rounds (region_w ns s offsets to (W (suc l)) p) n q d (max_of a w))) (then_to (region_in s at) b.k b.b _ (region-to ns s at x.initial x.history b.k b.b b.head))
+      (ap (λ y. go_on y (λ q d w. rounds (region_w ns s offsets to (W (suc l)) p) n q d (max a w))) (then_to (region_in s at) b.k b.b _ (region-to ns s at x.initial x.history b.k b.b b.head))
       ∙ go_on-assoc (W (suc l) p b.k b.b c) _ _)
       (same-onward ns top (fit_s 0) d.0 (fit_r a) q (resolve_s top (R f path) l x.states c) (W (suc l) p b.k b.b c) _ _
       (same_by ns top (fit_s 0) d.0 _ _ _ _ (ap (λ y. resolve_s top (R f path) l y c) (sym b.same)) refl u)
-      (λ us e w law. same_map ns top (fit_r (max_of a (max_of (len_at s offsets at) w))) (fit_r a) q (resolve_r top (R f path) (suc l) (regions_of rs) e) _ (λ vs. r_cons x.initial x.history us vs)
-      (regions-same (suc l) low f (suc levels) n d.0 path p rs q e (max_of a (max_of (len_at s offsets at) w)) fu fw kn d.2)
+      (λ us e w law. same_map ns top (fit_r (max a (max (len_at s offsets at) w))) (fit_r a) q (resolve_r top (R f path) (suc l) (regions_of rs) e) _ (λ vs. r_cons x.initial x.history us vs)
+      (regions-same (suc l) low f (suc levels) n d.0 path p rs q e (max a (max (len_at s offsets at) w)) fu fw kn d.2)
       (λ vs z g k. region-law k a (len_at s offsets at) w z x.initial x.history us vs i (law k) (g k))))
 
   -- where the refinement x of the state i leads, with l levels left
@@ -101,12 +101,12 @@ module _ (ns : List Name) (s offsets to : List ℕ) (top : Name) (ms : List Mach
   enter-same : (l : ℕ) → Below l → (f : ℕ) (path : List Name) (p : RefineStack) (i x : ℕ) (qs : ResolvedRegions) (e c h b : ℕ) → l ≤ f → Knows ns l path p → i < length ns → x < length ns → (x ≡ absent → ⊥)
       → ((k : ℕ) → fit_r h k qs ≡ leb (k + b) max_name)
       → Same ns top (fit_r h) e (walk_on (R f path l (name_at ns i) (name_at ns x) c) (λ t k. with_target top (R f path) (name_at ns i) qs t k))
-      (go_on (enter_w s offsets to p i x) (λ o k f. go_on (W l (pushed_of p x) k o c) (λ q d w. qualify_of (len_of s offsets i) (max_of f w) b e d)))
+      (go_on (enter_w s offsets to p i x) (λ o k f. go_on (W l (pushed_of p x) k o c) (λ q d w. qualify_of (len_of s offsets i) (max f w) b e d)))
   unfolding refine_at walk open_level walk_on go_on
   enter-same l low zero path p i x qs e c h b fu kn is xs xn law =
       enter-both ResolvedRegions (fit_r h) e path p l i x c _ _ _ kn is xs xn (λ d g named.
       let z : l ≡ 0 = omega arith in
-      same_by ns top (fit_r h) e _ _ _ _ refl (ap (λ y. go_on (W y (pushed_of p x) g.k g.b c) (λ q d w. qualify_of (len_of s offsets i) (max_of (len_at s offsets (get_or to x 0)) w) b e d)) z) (stops refl (large-why ns top)))
+      same_by ns top (fit_r h) e _ _ _ _ refl (ap (λ y. go_on (W y (pushed_of p x) g.k g.b c) (λ q d w. qualify_of (len_of s offsets i) (max (len_at s offsets (get_or to x 0)) w) b e d)) z) (stops refl (large-why ns top)))
   enter-same zero low (suc f) path p i x qs e c h b fu kn is xs xn law =
       enter-both ResolvedRegions (fit_r h) e path p zero i x c _ _ _ kn is xs xn (λ d g named. stops refl (large-why ns top))
   enter-same (suc l) low (suc f) path p i x qs e c h b fu kn is xs xn law =
@@ -126,12 +126,12 @@ module _ (ns : List Name) (s offsets to : List ℕ) (top : Name) (ms : List Mach
       goes {a = b} refl (number-to s at absent e _ (optional-none ns s at e r) ∙ refl) law
   refine-same l low f path p i nm at (some n) e qs c h b fu kn is named r law =
       let a = optional-some ns s at n e r in
-      let v : with (number_in s at) (λ m e. cond (eqb m absent) (wk.Went e c b) (go_on (enter_w s offsets to p i m) (λ o k f. go_on (W l (pushed_of p m) k o c) (λ q d w. qualify_of (len_of s offsets i) (max_of f w) b e d))))
-      ≡ go_on (enter_w s offsets to p i a.i) (λ o k f. go_on (W l (pushed_of p a.i) k o c) (λ q d w. qualify_of (len_of s offsets i) (max_of f w) b e d)) =
+      let v : with (number_in s at) (λ m e. cond (eqb m absent) (wk.Went e c b) (go_on (enter_w s offsets to p i m) (λ o k f. go_on (W l (pushed_of p m) k o c) (λ q d w. qualify_of (len_of s offsets i) (max f w) b e d))))
+      ≡ go_on (enter_w s offsets to p i a.i) (λ o k f. go_on (W l (pushed_of p a.i) k o c) (λ q d w. qualify_of (len_of s offsets i) (max f w) b e d)) =
       number-to s at a.i e _ a.is ∙ rw (ne_eqb a.i absent a.present) refl in
       same_by ns top (fit_r h) e _ _ _ _ refl v
-      (subst (λ y. Same ns top (fit_r h) e (walk_on (R f path l y n c) (λ t k. with_target top (R f path) y qs t k)) (go_on (enter_w s offsets to p i a.i) (λ o k f. go_on (W l (pushed_of p a.i) k o c) (λ q d w. qualify_of (len_of s offsets i) (max_of f w) b e d)))) named
-      (subst (λ y. Same ns top (fit_r h) e (walk_on (R f path l (name_at ns i) y c) (λ t k. with_target top (R f path) (name_at ns i) qs t k)) (go_on (enter_w s offsets to p i a.i) (λ o k f. go_on (W l (pushed_of p a.i) k o c) (λ q d w. qualify_of (len_of s offsets i) (max_of f w) b e d)))) a.named
+      (subst (λ y. Same ns top (fit_r h) e (walk_on (R f path l y n c) (λ t k. with_target top (R f path) y qs t k)) (go_on (enter_w s offsets to p i a.i) (λ o k f. go_on (W l (pushed_of p a.i) k o c) (λ q d w. qualify_of (len_of s offsets i) (max f w) b e d)))) named
+      (subst (λ y. Same ns top (fit_r h) e (walk_on (R f path l (name_at ns i) y c) (λ t k. with_target top (R f path) (name_at ns i) qs t k)) (go_on (enter_w s offsets to p i a.i) (λ o k f. go_on (W l (pushed_of p a.i) k o c) (λ q d w. qualify_of (len_of s offsets i) (max f w) b e d)))) a.named
       (enter-same l low f path p i a.i qs e c h b fu kn is a.small a.present law)))
 
   -- the states
@@ -147,16 +147,16 @@ module _ (ns : List Name) (s offsets to : List ℕ) (top : Name) (ms : List Mach
       let g = head-is ns s offsets right at x.name x.equations x.transitions b.k b.b b.head in
       arrive_same ns top (R f path) (fit_s a) q c _ _ _
       (same_by ns top (fit_s a) q _ _ _ _ refl
-      (ap (λ y. go_on y (λ q d w. rounds (state_w ns s offsets to (W l) p) n q d (max_of a w)))
+      (ap (λ y. go_on y (λ q d w. rounds (state_w ns s offsets to (W l) p) n q d (max a w)))
       (then_to (head_t ns s offsets at) g.a b.head.to-regions _ g.head ∙ number-to s b.head.to-regions b.k b.b _ b.head.regions)
       ∙ go_on-assoc (rounds (region_w ns s offsets to (W l) p) b.k b.b (c + 1) g.a) _ _)
       (same-onward ns top (fit_r g.a) b.m (fit_s a) q (resolve_r top (R f path) l x.regions (c + 1)) (rounds (region_w ns s offsets to (W l) p) b.k b.b (c + 1) g.a) _ _
       (same_by ns top (fit_r g.a) b.m _ _ _ _ (ap (λ y. resolve_r top (R f path) l y (c + 1)) (sym b.same)) refl (regions-same l low f levels b.k b.b path p b.rs b.m (c + 1) g.a fu fw kn b.inline))
-      (λ qs e v law. same_by ns top (fit_s a) q _ _ _ _ refl (ap (λ y. go_on y (λ q d w. rounds (state_w ns s offsets to (W l) p) n q d (max_of a w))) (number-to s at g.i g.o (λ i x. refine_w ns s offsets to (W l) p i b.m e v) g.is))
+      (λ qs e v law. same_by ns top (fit_s a) q _ _ _ _ refl (ap (λ y. go_on y (λ q d w. rounds (state_w ns s offsets to (W l) p) n q d (max a w))) (number-to s at g.i g.o (λ i x. refine_w ns s offsets to (W l) p i b.m e v) g.is))
       (same-onward ns top (fit_r g.a) d.0 (fit_s a) q (with_refine top (R f path) l x.name x.refines qs e) (refine_w ns s offsets to (W l) p g.i b.m e v) _ _
       (refine-same l low f path p g.i x.name b.m x.refines d.0 qs e g.a v fu kn g.small g.named b.last law)
-      (λ us m w fits. same_map ns top (fit_s (max_of a w)) (fit_s a) q (resolve_s top (R f path) l (drawn_of xs) m) _ (λ vs. s_cons x.name x.equations x.transitions us vs)
-      (states-same l low f levels n d.0 path p xs q m (max_of a w) fu fw kn d.2)
+      (λ us m w fits. same_map ns top (fit_s (max a w)) (fit_s a) q (resolve_s top (R f path) l (drawn_of xs) m) _ (λ vs. s_cons x.name x.equations x.transitions us vs)
+      (states-same l low f levels n d.0 path p xs q m (max a w) fu fw kn d.2)
       (λ vs y h k. state-law k a g.a w y x.name x.equations x.transitions us vs (g.law k) (fits k) (h k)))))))
 
   pub agreeing : (l : ℕ) → Agreeing l

@@ -8,7 +8,7 @@ use mathlib.Core.Path.{◌≡◌, refl, sym, ap, subst, ◌∙◌}
 use lib.ListN.{length, get_or, set, length-set}
 use lib.Seq.{get_or-set_other, get_or-set_same}
 use lib.Dec.{eqb, ltb}
-use borrow.Author.Tests.{eqb-true, eqb-false, le-ltb, lt-ltb}
+use borrow.Author.Tests.{eqb-true, eqb-false}
 use Rattle.pack_rules.specs.Names.{Name}
 use Rattle.machines.specs.declared.cover.OnlyLeft.{OnlyLeft}
 use Rattle.wire.specs.declared.answer.Number.{Number}
@@ -126,27 +126,6 @@ told_more s names memo hints u out at m given h l f g e d =
         h.own ns n p o b k (sym (other (768 + p / 10) (λ x. r (omega (arith, x)))) ∙ c)
 
 -- what the code puts into a row
-pub rest-far : (t : List ℕ) (p n q : ℕ) → 65536 ≤ p → t ≡ hint_put t p n q
-unfolding hint_put
-rest-far t p n q h = rw (le-ltb p 65536 h)
-
-pub rest-many : (t : List ℕ) (p n q : ℕ) → p < 65536 → 65536 ≤ n → t ≡ hint_put t p n q
-unfolding hint_put
-rest-many t p n q g h = rw (lt-ltb p 65536 g, le-ltb n 65536 h)
-
-pub rest-late : (t : List ℕ) (p n q : ℕ) → p < 65536 → n < 65536 → 65536 ≤ q → t ≡ hint_put t p n q
-unfolding hint_put
-rest-late t p n q g h w = rw (lt-ltb p 65536 g, lt-ltb n 65536 h, le-ltb q 65536 w)
-
-pub rest_put : (t u v w : List ℕ) (p n q : ℕ) → p < 65536 → n < 65536 → q < 65536
-    → u ≡ set t (3 * (p / 10 % 256)) (p % 65536) → v ≡ set u (3 * (p / 10 % 256) + 1) (q % 65536) → w ≡ set v (3 * (p / 10 % 256) + 2) (n % 65536) → w ≡ hint_put t p n q
-unfolding hint_put hint_row
-rest_put t u v w p n q f g h x y z =
-    rw (lt-ltb p 65536 f, lt-ltb n 65536 g, lt-ltb q 65536 h)
-    (z
-    ∙ (λ i. set (y i) (3 * (p / 10 % 256) + 2) (mod-eq_of_lt g i))
-    ∙ (λ i. set (set (x i) (3 * (p / 10 % 256) + 1) (mod-eq_of_lt h i)) (3 * (p / 10 % 256) + 2) n)
-    ∙ (λ i. set (set (set t (3 * (p / 10 % 256)) (mod-eq_of_lt f i)) (3 * (p / 10 % 256) + 1) q) (3 * (p / 10 % 256) + 2) n))
 
 rest-cases : (P : List ℕ → Type 0) (t : List ℕ) (p n q : ℕ) → P t → P (set (set (set t (hint_row p) p) (hint_row p + 1) q) (hint_row p + 2) n) → P (hint_put t p n q)
 unfolding hint_put

@@ -3,8 +3,8 @@ use Prim.Native.Nat.{ℕ, zero, suc, ◌+◌, ◌*◌, ◌/◌, ◌%◌, ◌-◌
 use native.Mathlib.Nat.{div-eq_of_lt, mod-eq_of_lt, mul-add-div_right, mul-add-mod_self_right}
 use native.Mathlib.Omega.{arith}
 use mathlib.Core.List.{List, [], ◌∷◌}
-use mathlib.Core.Bool.{Bool, true, false, cond, ◌||◌, true≢false}
-use mathlib.Core.Logic.{⊎_elim}
+use mathlib.Core.Bool.{Bool, true, false, cond, ◌||◌, ◌&&◌, true≢false}
+use mathlib.Core.Logic.{◌⊎◌, inl, inr, ⊎_elim}
 use mathlib.Core.Path.{◌≡◌, refl, sym, ap, subst, ◌∙◌}
 use lib.ListN.{get_or, set}
 use lib.Dec.{eqb}
@@ -149,6 +149,14 @@ number_small s at c by e = subst (λ (x : Number). x.value < 65536) (sym e) (go 
 -- so a table of 16-bit words holds it as it is
 pub number_put : (s : List ℕ) (at : ℕ) (c : Number) (t u : List ℕ) (i : ℕ) → ((j : ℕ) → get_or s j 0 < 256) → c ≡ number_in s at → u ≡ set t i (c.value % 65536) → u ≡ set t i c.value
 number_put s at c t u i by e h = h ∙ ap (set t i) (mod-eq_of_lt (number_small s at c by e))
+
+-- two tests, of which the second is made only where the first holds
+pub both_hold : {a b : ℕ} {y : Bool} → a ≡ b → y ≡ true → true ≡ (eqb a b && y)
+both_hold h k = rw (eq-eqb _ _ h) (sym k)
+
+pub not_both : {a b c d : ℕ} → ((a ≡ b) × (c ≡ d → ⊥)) ⊎ (a ≡ b → ⊥) → false ≡ (eqb a b && eqb c d)
+not_both (inl h) = rw (eq-eqb _ _ h.0) (sym (ne_eqb _ _ h.1))
+not_both (inr h) = rw (ne_eqb _ _ h)
 
 -- what holds of the one that was looked at last holds of the same one again
 pub same_again : (P : ℕ → Type 0) (last : Option ℕ) (x : ℕ) → true ≡ option_eq eqb last (Some x) → IfSome last P → P x

@@ -1,15 +1,15 @@
 -- Laws for the code that passes over regions without states at once.
-use Prim.Native.Nat.{ℕ, zero, suc, ◌+◌, ◌*◌, ◌-◌, ◌/◌, ◌<◌, ◌≤◌}
+use Prim.Native.Nat.{ℕ, zero, suc, ◌+◌, ◌*◌, ◌-◌, ◌/◌, ◌<◌, ◌≤◌, max}
 use native.Mathlib.Omega.{arith}
 use mathlib.Core.List.{List, [], ◌∷◌}
 use mathlib.Core.Bool.{Bool, true, false, ◌&&◌, and-eq-true_iff}
 use mathlib.Core.Logic.{⊎_elim}
 use mathlib.Core.Path.{◌≡◌, refl, sym, ap, subst, ◌∙◌}
 use lib.ListN.{length}
-use lib.Dec.{eqb, ltb}
+use lib.Dec.{eqb}
 use types.Run.{OneOf}
 use denote.Enum.Declared.{tag_of}
-use borrow.Author.Tests.{eq-eqb, ne_eqb, le-ltb, lt-ltb, eqb-true, eqb-false, ltb-true, ltb-false}
+use borrow.Author.Tests.{eq-eqb, ne_eqb, le-ltb, lt-ltb, eqb-true, eqb-false}
 use Rattle.pack_rules.specs.Names.{Name}
 use Rattle.machines.specs.contracts.resolve.Resolved as Walked-enum
 use Rattle.machines.specs.declared.resolve.SkippedRegions.{SkippedRegions}
@@ -20,7 +20,7 @@ use Rattle.wire.specs.declared.answer.Number.{Number}
 use Rattle.machines.specs.declared.resolve.Resolved.{Resolved}
 use Rattle.machines.specs.declared.resolve.Resolved.TheVariants as wk
 use Rattle.machines.specs.CheckedReads.{num, region_in, with}
-use Rattle.machines.specs.ResolveAt.{go_on, len_at, max_of, region_w, rounds, walk}
+use Rattle.machines.specs.ResolveAt.{go_on, len_at, region_w, rounds, walk}
 use Rattle.machines.specs.LayoutAt.{Board, board, fed, inner, layout_region, moved_to, opening, passed, region_b, region_from, tally}
 use Rattle.machines.specs.Memo.{beside_in, kept_in, mark_in, of_empty}
 use Rattle.machines.specs.EmptyRegions.{AtOnce, EmptyRun, empty_at, empty_d, longest_d, opened_of, taken, taken_of}
@@ -28,46 +28,18 @@ use Rattle.machines.specs.MemoSound.{MemoSound, RowsSound}
 use Rattle.machines.proofs.CheckedReadLaws.{on}
 use Rattle.machines.proofs.MemoSoundLaws.{row_kept}
 use Rattle.machines.proofs.LayoutLaws.{inner-went, region-left, region-on as Laid-on}
-use Rattle.machines.proofs.ResolveLaws.{most-less, most-not, region-on, rounds-stopped, rounds-went, stopped, went_on}
+use Rattle.machines.proofs.ResolveLaws.{region-on, rounds-stopped, rounds-went, stopped, went_on}
 
--- the larger of two lengths
-max-right : (a b : ℕ) → a < b → max_of a b ≡ b
-max-right a b h = sym (most-less a b h)
+larger_none : (a : ℕ) → max a 0 ≡ a
+larger_none a = omega arith
 
-max-left : (a b : ℕ) → b ≤ a → max_of a b ≡ a
-max-left a b h = sym (most-not a b h)
-
-max_none : (a : ℕ) → max_of a 0 ≡ a
-max_none a = max-left a 0 (omega arith)
-
-max-first : (a : ℕ) → max_of 0 a ≡ a
-max-first zero = max-left 0 0 (omega arith)
-max-first (suc a) = max-right 0 (suc a) (omega arith)
-
-max_assoc : (a b c : ℕ) → max_of (max_of a b) c ≡ max_of a (max_of b c)
-max_assoc a b c = go (ltb a b) (ltb b c) refl refl
-  where
-    go : (x y : Bool) → ltb a b ≡ x → ltb b c ≡ y → max_of (max_of a b) c ≡ max_of a (max_of b c)
-    go true true e f =
-        let g = ltb-true a b e in let h = ltb-true b c f in
-        ap (λ (z : ℕ). max_of z c) (max-right a b g) ∙ max-right b c h ∙ sym (ap (max_of a) (max-right b c h) ∙ max-right a c (omega (arith, g, h)))
-    go true false e f =
-        let g = ltb-true a b e in let h = ltb-false b c f in
-        ap (λ (z : ℕ). max_of z c) (max-right a b g) ∙ max-left b c h ∙ sym (ap (max_of a) (max-left b c h) ∙ max-right a b g)
-    go false true e f =
-        let g = ltb-false a b e in let h = ltb-true b c f in
-        ap (λ (z : ℕ). max_of z c) (max-left a b g) ∙ sym (ap (max_of a) (max-right b c h))
-    go false false e f =
-        let g = ltb-false a b e in let h = ltb-false b c f in
-        ap (λ (z : ℕ). max_of z c) (max-left a b g) ∙ max-left a c (omega (arith, g, h)) ∙ sym (ap (max_of a) (max-left b c h) ∙ max-left a b g)
-
-longest-from : (s offsets : List ℕ) (k o a : ℕ) → longest_d s offsets k o a ≡ max_of a (longest_d s offsets k o 0)
+longest-from : (s offsets : List ℕ) (k o a : ℕ) → longest_d s offsets k o a ≡ max a (longest_d s offsets k o 0)
 unfolding longest_d
-longest-from s offsets zero o a = sym (max_none a)
+longest-from s offsets zero o a = omega arith
 longest-from s offsets (suc k) o a =
-    longest-from s offsets k (o + 5) (max_of a (len_at s offsets o))
-    ∙ max_assoc a (len_at s offsets o) (longest_d s offsets k (o + 5) 0)
-    ∙ ap (max_of a) (sym (longest-from s offsets k (o + 5) (max_of 0 (len_at s offsets o)) ∙ ap (λ (x : ℕ). max_of x (longest_d s offsets k (o + 5) 0)) (max-first (len_at s offsets o))))
+    let x = longest-from s offsets k (o + 5) (max a (len_at s offsets o)) in
+    let y = longest-from s offsets k (o + 5) (max 0 (len_at s offsets o)) in
+    omega arith
 
 -- one region without states, and its offsets
 pub empty-is : (at : ℕ) (g : Number) (x y r : Bool) → 5 ≤ g.next → x ≡ eqb g.value 0 → y ≡ eqb (g.next - 5) at → r ≡ (x && y) → r ≡ empty_at at g
@@ -98,14 +70,14 @@ pub seen_none : (s offsets : List ℕ) (from : ℕ) → SeenBefore s offsets fro
 unfolding SeenBefore
 seen_none s offsets from r = let v : r ≡ 0 + r = omega arith in (λ e. subst (λ (y : ℕ). empty_d s y from ≡ true) v e, ap (λ (y : ℕ). longest_d s offsets y from 0) v)
 
-pub seen_more : (s offsets : List ℕ) (from k l p m n : ℕ) (g : Number) (b : Bool) → g ≡ region_in s p → b ≡ empty_at p g → b ≡ true → m ≡ len_at s offsets p → n ≡ max_of l m → SeenBefore s offsets from k l p → SeenBefore s offsets from (k + 1) n g.next
+pub seen_more : (s offsets : List ℕ) (from k l p m n : ℕ) (g : Number) (b : Bool) → g ≡ region_in s p → b ≡ empty_at p g → b ≡ true → m ≡ len_at s offsets p → n ≡ max l m → SeenBefore s offsets from k l p → SeenBefore s offsets from (k + 1) n g.next
 unfolding SeenBefore empty_d longest_d
 seen_more s offsets from k l p m n g b a c d e f h r =
     let w = empty-parts p g (sym c ∙ d) in
     let v : k + suc r ≡ k + 1 + r = omega arith in
     let i = h (suc r) in (
       λ x. subst (λ (y : ℕ). empty_d s y from ≡ true) v (i.0 (rw (sym (ap (empty_at p) a) ∙ sym c ∙ d) (subst (λ (y : ℕ). empty_d s r y ≡ true) w.1 x))),
-      (λ j. longest_d s offsets r (w.1 j) ((f ∙ ap (max_of l) e) j)) ∙ i.1 ∙ ap (λ (y : ℕ). longest_d s offsets y from 0) v,
+      (λ j. longest_d s offsets r (w.1 j) ((f ∙ ap (max l) e) j)) ∙ i.1 ∙ ap (λ (y : ℕ). longest_d s offsets y from 0) v,
     )
 
 pub seen_all : (s offsets : List ℕ) (from n k l p : ℕ) → k ≤ n → SeenBefore s offsets from k l p → EmptyRun s offsets n from (record { count = k; longest = l })
@@ -184,7 +156,7 @@ module _ (ns : List Name) (s offsets to : List ℕ) (l : ℕ) (p : RefineStack) 
   unfolding with region_w walk rounds go_on
   one-passed o c e =
       let w = empty-parts o (region_in s o) e in
-      (λ i. go_on (walk ns s offsets to (suc l) p (w.0 i) (w.1 i) c) (λ q d x. wk.Went q d (max_of (len_at s offsets o) x))) ∙ ap (wk.Went (o + 5) c) (max_none (len_at s offsets o))
+      (λ i. go_on (walk ns s offsets to (suc l) p (w.0 i) (w.1 i) c) (λ q d x. wk.Went q d (max (len_at s offsets o) x))) ∙ ap (wk.Went (o + 5) c) (larger_none (len_at s offsets o))
 
   run-rounds : (k n o c a : ℕ) → k ≤ n → empty_d s k o ≡ true
       → rounds (region_w ns s offsets to (walk ns s offsets to (suc l)) p) n o c a ≡ rounds (region_w ns s offsets to (walk ns s offsets to (suc l)) p) (n - k) (o + 5 * k) c (longest_d s offsets k o a)
@@ -195,24 +167,24 @@ module _ (ns : List Name) (s offsets to : List ℕ) (l : ℕ) (p : RefineStack) 
       let w = (and-eq-true_iff (empty_at o (region_in s o)) (empty_d s k (o + 5))).0 e in
       let u : n - k ≡ suc n - suc k = omega arith in
       let v : o + 5 + 5 * k ≡ o + 5 * suc k = omega arith in
-      ap (λ (x : Resolved). go_on x (λ q d y. rounds (region_w ns s offsets to (walk ns s offsets to (suc l)) p) n q d (max_of a y))) (one-passed o c w.0)
-      ∙ run-rounds k n (o + 5) c (max_of a (len_at s offsets o)) (omega (arith, f)) w.1
-      ∙ (λ i. rounds (region_w ns s offsets to (walk ns s offsets to (suc l)) p) (u i) (v i) c (longest_d s offsets k (o + 5) (max_of a (len_at s offsets o))))
+      ap (λ (x : Resolved). go_on x (λ q d y. rounds (region_w ns s offsets to (walk ns s offsets to (suc l)) p) n q d (max a y))) (one-passed o c w.0)
+      ∙ run-rounds k n (o + 5) c (max a (len_at s offsets o)) (omega (arith, f)) w.1
+      ∙ (λ i. rounds (region_w ns s offsets to (walk ns s offsets to (suc l)) p) (u i) (v i) c (longest_d s offsets k (o + 5) (max a (len_at s offsets o))))
 
 -- the loop over regions, several at a time: one step more, and one that stopped
 module _ (ns : List Name) (s : List ℕ) (names : ℕ) (offsets to t : List ℕ) (same : length ns ≡ names) (right : MemoSound s names offsets t) where
-  several : (l : ℕ) (p : RefineStack) (n k o c a q d w b : ℕ) (g : SkippedRegions) (e : Resolved) → 1 < k → AtOnce t n o k → g ≡ taken_of s offsets t k o → e ≡ walk ns s offsets to l p g.states g.next c → e ≡ wk.Went q d w → b ≡ max_of a (max_of g.longest w)
+  several : (l : ℕ) (p : RefineStack) (n k o c a q d w b : ℕ) (g : SkippedRegions) (e : Resolved) → 1 < k → AtOnce t n o k → g ≡ taken_of s offsets t k o → e ≡ walk ns s offsets to l p g.states g.next c → e ≡ wk.Went q d w → b ≡ max a (max g.longest w)
       → rounds (region_w ns s offsets to (walk ns s offsets to l) p) n o c a ≡ rounds (region_w ns s offsets to (walk ns s offsets to l) p) (n - k) q d b
   unfolding walk rounds Goes next_of states_of longest_of
   several zero p n k o c a q d w b g e m h x y z v = absurd (subst Goes (sym z ∙ y) tt)
   several (suc l) p n k o c a q d w b g e m h x y z v =
       let f = x ∙ sym (taken_more s offsets t k o (beside_in t o) (omega (arith, m)) refl) in
       let r : wk.Went q d w ≡ wk.Went (o + 5 * k) c 0 = sym z ∙ y ∙ (λ i. walk ns s offsets to (suc l) p (f i).states (f i).next c) in
-      let i : longest_d s offsets k o a ≡ b = longest-from s offsets k o a ∙ sym (v ∙ (λ j. max_of a (max_of ((ap (λ (x : SkippedRegions). x.longest) f ∙ initials-kept s names offsets t right o k (h.kept m) (omega (arith, m))) j) (ap longest_of r j))) ∙ ap (max_of a) (max_none (longest_d s offsets k o 0))) in
+      let i : longest_d s offsets k o a ≡ b = longest-from s offsets k o a ∙ sym (v ∙ (λ j. max a (max ((ap (λ (x : SkippedRegions). x.longest) f ∙ initials-kept s names offsets t right o k (h.kept m) (omega (arith, m))) j) (ap longest_of r j))) ∙ ap (max a) (larger_none (longest_d s offsets k o 0))) in
       run-rounds ns s offsets to l p k n o c a h.few (empties-kept ns s names t same right.ends o k (h.kept m) (omega (arith, m)))
       ∙ (λ j. rounds (region_w ns s offsets to (walk ns s offsets to (suc l)) p) (n - k) (ap next_of (sym r) j) (ap states_of (sym r) j) (i j))
 
-  pub taken-went : (l : ℕ) (p : RefineStack) (n k o c a q d w b x : ℕ) (g : SkippedRegions) (e z : Resolved) → AtOnce t n o k → g ≡ taken_of s offsets t k o → e ≡ walk ns s offsets to l p g.states g.next c → e ≡ wk.Went q d w → x ≡ max_of g.longest w → b ≡ max_of a x
+  pub taken-went : (l : ℕ) (p : RefineStack) (n k o c a q d w b x : ℕ) (g : SkippedRegions) (e z : Resolved) → AtOnce t n o k → g ≡ taken_of s offsets t k o → e ≡ walk ns s offsets to l p g.states g.next c → e ≡ wk.Went q d w → x ≡ max g.longest w → b ≡ max a x
       → rounds (region_w ns s offsets to (walk ns s offsets to l) p) n o c a ≡ z → rounds (region_w ns s offsets to (walk ns s offsets to l) p) (n - k) q d b ≡ z
   taken-went l p n k o c a q d w b x g e z h f y v i j r = go (eqb k 1) refl
     where
@@ -222,10 +194,10 @@ module _ (ns : List Name) (s : List ℕ) (names : ℕ) (offsets to t : List ℕ)
           let made = f ∙ sym (taken-one s offsets t k o (len_at s offsets o) (region_in s o) (omega (arith, one)) refl refl) in
           ap (λ (y : ℕ). rounds (region_w ns s offsets to (walk ns s offsets to l) p) (n - y) q d b) one
           ∙ rounds-went (region_w ns s offsets to (walk ns s offsets to l) p) n o c a q d x b (wk.Went q d x) z (omega (arith, h.some, h.few)) refl
-          (region-on ns s offsets to (walk ns s offsets to l) p o c (num g.states g.next) (wk.Went q d x) (λ m. num (made m).states (made m).next) (went_on e _ _ _ q d w v y (ap (wk.Went q d) (i ∙ ap (λ (y : SkippedRegions). max_of y.longest w) made)))) j r
+          (region-on ns s offsets to (walk ns s offsets to l) p o c (num g.states g.next) (wk.Went q d x) (λ m. num (made m).states (made m).next) (went_on e _ _ _ q d w v y (ap (wk.Went q d) (i ∙ ap (λ (y : SkippedRegions). max y.longest w) made)))) j r
       go false u =
           let many : 1 < k = omega (arith, h.some, eqb-false k 1 u) in
-          sym (several l p n k o c a q d w b g e many h f y v (j ∙ ap (max_of a) i)) ∙ r
+          sym (several l p n k o c a q d w b g e many h f y v (j ∙ ap (max a) i)) ∙ r
 
   pub taken-stopped : (l : ℕ) (p : RefineStack) (n k o c a : ℕ) (g : SkippedRegions) (e z : Resolved) → AtOnce t n o k → g ≡ taken_of s offsets t k o → e ≡ walk ns s offsets to l p g.states g.next c → OneOf (1 ∷ 2 ∷ 3 ∷ []) (tag_of Walked-enum.the_type e)
       → rounds (region_w ns s offsets to (walk ns s offsets to l) p) n o c a ≡ z → e ≡ z

@@ -31,7 +31,7 @@ use Rattle.machines.specs.ResolvedIn.{StandsS, end_of}
 use Rattle.machines.specs.CheckedReads.{byte_in, machine_from, number_in, region_in, sure_of, turns, with}
 use Rattle.machines.specs.Tables.{initial_in, len_of, machines_placed, names_placed, next_name, placed_from, states_end}
 use Rattle.machines.specs.RefineStack.{on_of, pushed_of, start_of}
-use Rattle.machines.specs.ResolveAt.{enter_w, go_on, head_t, len_at, machine_w, max_of, qualify_of, refine_w, region_w, rounds, state_w, target_t, walk}
+use Rattle.machines.specs.ResolveAt.{enter_w, go_on, head_t, len_at, machine_w, qualify_of, refine_w, region_w, rounds, state_w, target_t, walk}
 use Rattle.machines.proofs.Reading.{MachineRead}
 use Rattle.machines.proofs.NamesPlaced.{names-placed, section-read}
 use Rattle.machines.proofs.MachinesPlaced.{machines-placed}
@@ -71,7 +71,7 @@ tables =
 
 -- the walk on these bytes, computed
 walks : machine_w ns s (names_placed s 5 2 0 zeros) (machines_placed ns s 16 zeros) 0 31 ≡ wk.Went 45 2 3
-unfolding machine_w walk state_w refine_w region_w rounds go_on qualify_of enter_w len_at len_of head_t target_t turns max_of on_of pushed_of start_of machine_from region_in number_in byte_in with sure_of read_of end_of names_placed next_name machines_placed placed_from initial_in states_end offset_of onward next skips skip machine_in counted many name_in optional_in optional ports_in port_in type_in first_type type_of type_over plain_types type_at type_head type_fields type_arity state_at state_with region_at drawn_of regions_of equations_in equation_in names_in expr_in expr_at expr_head expr_fields expr_rows expr_arity expr_of exprs_of expr_over bin_ops nth literal literal_of flag_of transition_in name_at trees index below guard bind map_a byte u16
+unfolding machine_w walk state_w refine_w region_w rounds go_on qualify_of enter_w len_at len_of head_t target_t turns on_of pushed_of start_of machine_from region_in number_in byte_in with sure_of read_of end_of names_placed next_name machines_placed placed_from initial_in states_end offset_of onward next skips skip machine_in counted many name_in optional_in optional ports_in port_in type_in first_type type_of type_over plain_types type_at type_head type_fields type_arity state_at state_with region_at drawn_of regions_of equations_in equation_in names_in expr_in expr_at expr_head expr_fields expr_rows expr_arity expr_of exprs_of expr_over bin_ops nth literal literal_of flag_of transition_in name_at trees index below guard bind map_a byte u16
 walks = refl
 
 unfoldable read-M : MachineRead ns s 18 M 45

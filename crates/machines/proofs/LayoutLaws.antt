@@ -1,6 +1,5 @@
 -- Laws for the code that lays a machine out, step by step.
 use Prim.Native.Nat.{ℕ, zero, suc, ◌+◌, ◌-◌, ◌<◌, ◌≤◌}
-use native.Mathlib.Nat.{min-eq_left, min-eq_right}
 use native.Mathlib.Omega.{arith}
 use mathlib.Core.List.{List}
 use mathlib.Core.Bool.{Bool, true, false, ◌&&◌}
@@ -19,13 +18,6 @@ use Rattle.machines.specs.LayoutAt.{Board, board, close_region, close_state, ent
 use Rattle.machines.proofs.CheckedReadLaws.{chosen, left_out, no, on, yes}
 
 -- counts
-pub sum-full : (a b : ℕ) → 4294967296 ≤ a + b → 4294967296 ≡ sum a b
-unfolding sum
-sum-full a b h = sym (min-eq_right h)
-
-pub sum-small : (a b : ℕ) → a + b ≤ 4294967296 → a + b ≡ sum a b
-unfolding sum
-sum-small a b h = sym (min-eq_left h)
 
 pub tally-same : (k w v : ℕ) → w ≡ v → k ≡ tally k w v
 unfolding tally
@@ -34,19 +26,6 @@ tally-same k w v e = rw (eq-eqb w v e)
 pub tally-more : (k w v r : ℕ) → (w ≡ v → ⊥) → r ≡ sum k 1 → r ≡ tally k w v
 unfolding tally
 tally-more k w v r n e = rw (ne_eqb w v n) e
-
-pub holed-none : (g : Bool) (n : ℕ) → n ≡ 0 → true ≡ holed g n
-unfolding holed
-holed-none g n e = rw e
-
-pub holed-some : (g : Bool) (n : ℕ) → (n ≡ 0 → ⊥) → g ≡ holed g n
-unfolding holed
-holed-some g zero e = absurd (e refl)
-holed-some g (suc n) e = refl
-
-pub moved-is : (q : ℕ) (c : LayoutPos) → layout_t q c.words c.regions c.letters c.hole ≡ moved_to q c
-unfolding moved_to
-moved-is q c = refl
 
 -- words
 pub state-ends : (t u v : List ℕ) (p q k : ℕ) → u ≡ set t (p + 4) q → v ≡ set u (p + 5) k → v ≡ state_ends t p q k

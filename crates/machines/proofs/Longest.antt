@@ -1,5 +1,5 @@
 -- The longest name of a walk is within 255: lengths are bytes, and qualified ones are tested.
-use Prim.Native.Nat.{ℕ, zero, suc, ◌+◌, ◌≤◌}
+use Prim.Native.Nat.{ℕ, zero, suc, ◌+◌, ◌≤◌, max}
 use native.Mathlib.Omega.{arith}
 use mathlib.Core.List.{List}
 use mathlib.Core.Bool.{Bool, true, false, cond}
@@ -17,7 +17,7 @@ use Rattle.machines.specs.declared.resolve.Resolved.TheVariants as wk
 use Rattle.machines.specs.CheckedReads.{machine_from, number_in, region_in, turns, with}
 use Rattle.machines.specs.Tables.{len_of}
 use Rattle.machines.specs.RefineStack.{pushed_of, start_of}
-use Rattle.machines.specs.ResolveAt.{enter_w, go_on, head_t, len_at, machine_w, max_of, qualify_of, refine_w, region_w, rounds, state_w, target_t, walk}
+use Rattle.machines.specs.ResolveAt.{enter_w, go_on, head_t, len_at, machine_w, qualify_of, refine_w, region_w, rounds, state_w, target_t, walk}
 
 unfoldable Within : Resolved → Type 0
 Within (wk.Went q c a) = a ≤ 255
@@ -33,13 +33,8 @@ went-within : (q c a : ℕ) → a ≤ 255 → Within (wk.Went q c a)
 unfolding Within
 went-within q c a h = h
 
-max-within : (a b : ℕ) → a ≤ 255 → b ≤ 255 → max_of a b ≤ 255
-unfolding max_of
-max-within a b h k = go (ltb a b)
-  where
-    go : (t : Bool) → cond t b a ≤ 255
-    go true = k
-    go false = h
+max-within : (a b : ℕ) → a ≤ 255 → b ≤ 255 → max a b ≤ 255
+max-within a b h k = omega arith
 
 cond-within : (b : Bool) (v w : Resolved) → (b ≡ true → Within v) → Within w → Within (cond b v w)
 cond-within true v w h k = h refl
@@ -62,18 +57,18 @@ onward-within wk.Large k j = tt
 rounds-within : (r : ℕ → ℕ → Resolved) → ((at c : ℕ) → Within (r at c)) → (n at c a : ℕ) → a ≤ 255 → Within (rounds r n at c a)
 unfolding rounds
 rounds-within r h zero at c a k = went-within at c a k
-rounds-within r h (suc n) at c a k = on-within (r at c) _ (h at c) (λ q d w j. rounds-within r h n q d (max_of a w) (max-within a w k j))
+rounds-within r h (suc n) at c a k = on-within (r at c) _ (h at c) (λ q d w j. rounds-within r h n q d (max a w) (max-within a w k j))
 
 qualify-within : (i w a e d : ℕ) → a ≤ 255 → Within (qualify_of i w a e d)
 unfolding qualify_of
 qualify-within i w a e d h =
-    cond-within (leb (i + 1 + w) 255) (wk.Went e d (max_of a (i + 1 + w))) wk.Large
-    (λ k. went-within e d (max_of a (i + 1 + w)) (max-within a (i + 1 + w) h (leb-true (i + 1 + w) 255 k))) large-within
+    cond-within (leb (i + 1 + w) 255) (wk.Went e d (max a (i + 1 + w))) wk.Large
+    (λ k. went-within e d (max a (i + 1 + w)) (max-within a (i + 1 + w) h (leb-true (i + 1 + w) 255 k))) large-within
 
-turns-within : (r : ℕ → Number) → ((at : ℕ) → (r at).value ≤ 255) → (n at a : ℕ) → a ≤ 255 → (turns r max_of n at a).value ≤ 255
+turns-within : (r : ℕ → Number) → ((at : ℕ) → (r at).value ≤ 255) → (n at a : ℕ) → a ≤ 255 → (turns r max n at a).value ≤ 255
 unfolding turns with
 turns-within r h zero at a k = k
-turns-within r h (suc n) at a k = turns-within r h n (r at).next (max_of a (r at).value) (max-within a (r at).value k (h at))
+turns-within r h (suc n) at a k = turns-within r h n (r at).next (max a (r at).value) (max-within a (r at).value k (h at))
 
 module _ (ns : List Name) (s offsets : List ℕ) (bytes : Bytes s) where
   len-within : (i : ℕ) → len_of s offsets i ≤ 255
@@ -98,14 +93,14 @@ module _ (ns : List Name) (s offsets : List ℕ) (bytes : Bytes s) where
       unfolding region_w with
       region-within p at c =
           on-within (rec p (region_in s at).value (region_in s at).next c) _ (ih p (region_in s at).value (region_in s at).next c)
-          (λ q d w h. went-within q d (max_of (len_at s offsets at) w) (max-within (len_at s offsets at) w (at-within at) h))
+          (λ q d w h. went-within q d (max (len_at s offsets at) w) (max-within (len_at s offsets at) w (at-within at) h))
 
       refine-within : (p : RefineStack) (i at c a : ℕ) → a ≤ 255 → Within (refine_w ns s offsets to rec p i at c a)
       unfolding refine_w with
       refine-within p i at c a h =
           cond-within (eqb (number_in s at).value absent) (wk.Went (number_in s at).next c a) _ (λ k. went-within (number_in s at).next c a h)
           (onward-within (enter_w s offsets to p i (number_in s at).value) _ (λ b k f.
-          onward-within (rec (pushed_of p (number_in s at).value) k b c) _ (λ q d w. qualify-within (len_of s offsets i) (max_of f w) a (number_in s at).next d h)))
+          onward-within (rec (pushed_of p (number_in s at).value) k b c) _ (λ q d w. qualify-within (len_of s offsets i) (max f w) a (number_in s at).next d h)))
 
       state-within : (p : RefineStack) (at c : ℕ) → Within (state_w ns s offsets to rec p at c)
       unfolding state_w with

@@ -28,24 +28,6 @@ pub beside-is : (t : List ℕ) (p m r : ℕ) → m ≡ get_or t (2 * (p / 5)) 0 
 unfolding beside_in mark_in
 beside-is t p m r h g = g ∙ ap (λ (x : ℕ). x / 32) h
 
-pub row-far : (t : List ℕ) (p m v : ℕ) → 65536 ≤ p → t ≡ row_put t p m v
-unfolding row_put
-row-far t p m v h = rw (le-ltb p 65536 h)
-
-pub row-wide : (t : List ℕ) (p m v : ℕ) → p < 65536 → 65536 ≤ m → t ≡ row_put t p m v
-unfolding row_put
-row-wide t p m v g h = rw (lt-ltb p 65536 g, le-ltb m 65536 h)
-
-pub row-large : (t : List ℕ) (p m v : ℕ) → p < 65536 → m < 65536 → 65536 ≤ v → t ≡ row_put t p m v
-unfolding row_put
-row-large t p m v g h w = rw (lt-ltb p 65536 g, lt-ltb m 65536 h, le-ltb v 65536 w)
-
-pub row_is : (t u w : List ℕ) (p m v : ℕ) → p < 65536 → m < 65536 → v < 65536 → u ≡ set t (2 * (p / 5)) (m % 65536) → w ≡ set u (2 * (p / 5) + 1) (v % 65536) → w ≡ row_put t p m v
-unfolding row_put
-row_is t u w p m v f g h x y =
-    rw (lt-ltb p 65536 f, lt-ltb m 65536 g, lt-ltb v 65536 h)
-    (y ∙ (λ i. set (x i) (2 * (p / 5) + 1) (mod-eq_of_lt h i)) ∙ (λ i. set (set t (2 * (p / 5)) (mod-eq_of_lt g i)) (2 * (p / 5) + 1) v))
-
 pub mark-is : (t u : List ℕ) (p k x v : ℕ) → u ≡ row_put t p (p % 5 + k + 32 * x) v → u ≡ row_put t p (row_mark p k x) v
 unfolding row_mark
 mark-is t u p k x v h = h

@@ -2,11 +2,8 @@
 use Prim.Native.Nat.{ℕ, ◌+◌, ◌*◌, ◌-◌, ◌/◌, ◌%◌, ◌<◌, ◌≤◌}
 use native.Mathlib.Omega.{arith}
 use mathlib.Core.List.{List}
-use mathlib.Core.Bool.{Bool, false, true}
 use mathlib.Core.Path.{◌≡◌, refl, sym, ap, subst, ◌∙◌}
 use lib.ListN.{length}
-use lib.Dec.{ltb}
-use borrow.Author.Tests.{ltb-true, ltb-false}
 use Rattle.wire.specs.Answer.{counted}
 use Rattle.pack_rules.specs.Names.{Name}
 use Rattle.pack_rules.specs.Read.{equation_in, equations_in, expr_in, transition_in}
@@ -15,7 +12,7 @@ use Rattle.machines.specs.declared.memo.UnknownTarget.{UnknownTarget}
 use Rattle.wire.specs.declared.answer.Number.{Number}
 use Rattle.machines.specs.ResolvedIn.{end_of, over_in}
 use Rattle.machines.specs.CheckedReads.{num, number_in}
-use Rattle.machines.specs.ResolveAt.{head_t, max_of}
+use Rattle.machines.specs.ResolveAt.{head_t}
 use Rattle.machines.specs.LayoutAt.{moves_at, regions_at}
 use Rattle.machines.specs.UnknownTargets.{unknown_target_d, unknown_targets}
 use Rattle.machines.specs.EmptyRegions.{EmptyRun, longest_d}
@@ -164,15 +161,6 @@ state-put t u at h m o r e q s names offsets k d =
       heads = λ ns n. states-more (λ p l m o r. num l r ≡ head_t ns s offsets p) t at h.value m o r (k.heads ns n) (ap (λ (x : ℕ). num h.value x) (sym e) ∙ d.head ns n);
       empties = rows-state (λ p m v. m % 32 ≡ p % 5 + of_empty → m / 32 ≡ longest_d s offsets v p 0) t at h.value m o r k.empties;
     })
-
--- both are as small as the larger one
-pub most-both : (a b c n : ℕ) → c ≡ max_of a b → c < n → (a < n) × (b < n)
-unfolding max_of
-most-both a b c n e l = go (ltb a b) refl
-  where
-    go : (d : Bool) → ltb a b ≡ d → (a < n) × (b < n)
-    go true g = let f : c ≡ b = e ∙ rw g in (omega (arith, ltb-true a b g, f, l), omega (arith, f, l))
-    go false g = let f : c ≡ a = e ∙ rw g in (omega (arith, f, l), omega (arith, ltb-false a b g, f, l))
 
 -- a table of zeros is right
 pub blank-right : (s : List ℕ) (names : ℕ) (offsets t : List ℕ) → Blank t → MemoSound s names offsets t

@@ -1,5 +1,5 @@
 -- Laws for the code that resolves on bytes, step by step.
-use Prim.Native.Nat.{ℕ, zero, suc, ◌+◌, ◌-◌, ◌<◌, ◌≤◌}
+use Prim.Native.Nat.{ℕ, zero, suc, ◌+◌, ◌-◌, ◌<◌, ◌≤◌, max}
 use native.Mathlib.Omega.{arith}
 use mathlib.Core.List.{List, [], ◌∷◌}
 use mathlib.Core.Bool.{Bool, true, false, ◌||◌}
@@ -21,7 +21,7 @@ use Rattle.machines.specs.ResolvedIn.{end_of}
 use Rattle.machines.specs.CheckedReads.{machine_from, num, number_in, region_in, turns, with}
 use Rattle.machines.specs.Tables.{len_of}
 use Rattle.machines.specs.RefineStack.{on_of, pushed_of, start_of}
-use Rattle.machines.specs.ResolveAt.{enter_w, go_on, head_t, len_at, machine_w, max_of, qualify_of, refine_w, region_w, rounds, state_w, target_t, walk}
+use Rattle.machines.specs.ResolveAt.{enter_w, go_on, head_t, len_at, machine_w, qualify_of, refine_w, region_w, rounds, state_w, target_t, walk}
 use Rattle.machines.proofs.CheckedReadLaws.{no, on, yes}
 
 -- the path
@@ -37,14 +37,6 @@ on-is p m h g f e d c b a x1 x2 x3 x4 x5 x6 x7 x8 =
     x8 ∙ ap (◌||◌ (eqb m p.a)) (x7 ∙ ap (◌||◌ (eqb m p.b)) (x6 ∙ ap (◌||◌ (eqb m p.c)) (x5 ∙ ap (◌||◌ (eqb m p.d)) (x4 ∙ ap (◌||◌ (eqb m p.e)) (x3 ∙ ap (◌||◌ (eqb m p.f)) (x2 ∙ ap (◌||◌ (eqb m p.g)) x1))))))
 
 -- lengths
-pub most-less : (a b : ℕ) → a < b → b ≡ max_of a b
-unfolding max_of
-most-less a b h = rw (lt-ltb a b h)
-
-pub most-not : (a b : ℕ) → b ≤ a → a ≡ max_of a b
-unfolding max_of
-most-not a b h = rw (le-ltb a b h)
-
 pub len-at-is : (s offsets : List ℕ) (at x : ℕ) (i : Number) → i ≡ number_in s at → x ≡ len_of s offsets i.value → x ≡ len_at s offsets at
 unfolding len_at
 len-at-is s offsets at x i e f = on i _ _ x e f
@@ -53,7 +45,7 @@ pub qualify-large : (i w a e d : ℕ) → 255 < i + 1 + w → wk.Large ≡ quali
 unfolding qualify_of
 qualify-large i w a e d h = rw (lt-leb (i + 1 + w) 255 h)
 
-pub qualify-fits : (i w a e d b : ℕ) → i + 1 + w ≤ 255 → b ≡ max_of a (i + 1 + w) → wk.Went e d b ≡ qualify_of i w a e d
+pub qualify-fits : (i w a e d b : ℕ) → i + 1 + w ≤ 255 → b ≡ max a (i + 1 + w) → wk.Went e d b ≡ qualify_of i w a e d
 unfolding qualify_of
 qualify-fits i w a e d b h x = rw (le-leb (i + 1 + w) 255 h) (ap (wk.Went e d) x)
 
@@ -73,17 +65,17 @@ pub stopped : (r x : Resolved) (k : ℕ → ℕ → ℕ → Resolved) → OneOf 
 stopped r x k h e = stops r k h ∙ ap (λ (y : Resolved). go_on y k) e
 
 -- the loop: one more, one that stopped, the end
-pub rounds-went : (k : ℕ → ℕ → Resolved) (n at c a q d w b : ℕ) (e z : Resolved) → 0 < n → e ≡ wk.Went q d w → e ≡ k at c → b ≡ max_of a w → rounds k n at c a ≡ z → rounds k (n - 1) q d b ≡ z
+pub rounds-went : (k : ℕ → ℕ → Resolved) (n at c a q d w b : ℕ) (e z : Resolved) → 0 < n → e ≡ wk.Went q d w → e ≡ k at c → b ≡ max a w → rounds k n at c a ≡ z → rounds k (n - 1) q d b ≡ z
 unfolding rounds go_on
 rounds-went k zero at c a q d w b e z l g h x y = absurd (omega arith)
-rounds-went k (suc n) at c a q d w b e z l g h x y = let i : suc n - 1 ≡ n = omega arith in rw (i, x) (ap (λ v. go_on v (λ q d w. rounds k n q d (max_of a w))) (sym g ∙ h) ∙ y)
+rounds-went k (suc n) at c a q d w b e z l g h x y = let i : suc n - 1 ≡ n = omega arith in rw (i, x) (ap (λ v. go_on v (λ q d w. rounds k n q d (max a w))) (sym g ∙ h) ∙ y)
 
 pub rounds-done : (k : ℕ → ℕ → Resolved) (n at c a : ℕ) (z : Resolved) → n ≤ 0 → rounds k n at c a ≡ z → wk.Went at c a ≡ z
 unfolding rounds
 rounds-done k zero at c a z l y = y
 rounds-done k (suc n) at c a z l y = absurd (omega arith)
 
-rounds-step : (k : ℕ → ℕ → Resolved) (n at c a : ℕ) → 0 < n → rounds k n at c a ≡ go_on (k at c) (λ q d w. rounds k (n - 1) q d (max_of a w))
+rounds-step : (k : ℕ → ℕ → Resolved) (n at c a : ℕ) → 0 < n → rounds k n at c a ≡ go_on (k at c) (λ q d w. rounds k (n - 1) q d (max a w))
 unfolding rounds
 rounds-step k zero at c a l = absurd (omega arith)
 rounds-step k (suc n) at c a l = let i : suc n - 1 ≡ n = omega arith in rw i refl
@@ -112,12 +104,12 @@ module _ (ns : List Name) (s offsets : List ℕ) where
   unfolding target_t
   target_is at x p i f g h = on i _ _ _ (g ∙ ap (number_in s) f) (ap (λ y. num y i.next) h)
 
-  pub head-is : (at l p : ℕ) (i t r : Number) → i ≡ number_in s at → p ≡ end_of (equations_in ns s i.next) → t ≡ number_in s p → l ≡ len_of s offsets i.value → r ≡ turns (target_t ns s offsets) max_of t.value t.next l → r ≡ head_t ns s offsets at
+  pub head-is : (at l p : ℕ) (i t r : Number) → i ≡ number_in s at → p ≡ end_of (equations_in ns s i.next) → t ≡ number_in s p → l ≡ len_of s offsets i.value → r ≡ turns (target_t ns s offsets) max t.value t.next l → r ≡ head_t ns s offsets at
   unfolding head_t
-  head-is at l p i t r x y z w v = on i _ _ r x (on t _ _ r (z ∙ ap (number_in s) y) (v ∙ ap (turns (target_t ns s offsets) max_of t.value t.next) w))
+  head-is at l p i t r x y z w v = on i _ _ r x (on t _ _ r (z ∙ ap (number_in s) y) (v ∙ ap (turns (target_t ns s offsets) max t.value t.next) w))
 
   module _ (to : List ℕ) where
-    pub region-on : (rec : RefineStack → ℕ → ℕ → ℕ → Resolved) (p : RefineStack) (at c : ℕ) (g : Number) (r : Resolved) → g ≡ region_in s at → r ≡ go_on (rec p g.value g.next c) (λ q d w. wk.Went q d (max_of (len_at s offsets at) w)) → r ≡ region_w ns s offsets to rec p at c
+    pub region-on : (rec : RefineStack → ℕ → ℕ → ℕ → Resolved) (p : RefineStack) (at c : ℕ) (g : Number) (r : Resolved) → g ≡ region_in s at → r ≡ go_on (rec p g.value g.next c) (λ q d w. wk.Went q d (max (len_at s offsets at) w)) → r ≡ region_w ns s offsets to rec p at c
     unfolding region_w
     region-on rec p at c g r x y = on g _ _ r x y
 
@@ -126,7 +118,7 @@ module _ (ns : List Name) (s offsets : List ℕ) where
     refine-plain rec p i at c a f x e = on f _ _ _ x (yes f.value 65535 _ _ _ e refl)
 
     pub refine-into : (rec : RefineStack → ℕ → ℕ → ℕ → Resolved) (p : RefineStack) (i at c a : ℕ) (f : Number) (r : Resolved) → f ≡ number_in s at → (f.value ≡ 65535 → ⊥)
-        → r ≡ go_on (enter_w s offsets to p i f.value) (λ b k l. go_on (rec (pushed_of p f.value) k b c) (λ q d w. qualify_of (len_of s offsets i) (max_of l w) a f.next d)) → r ≡ refine_w ns s offsets to rec p i at c a
+        → r ≡ go_on (enter_w s offsets to p i f.value) (λ b k l. go_on (rec (pushed_of p f.value) k b c) (λ q d w. qualify_of (len_of s offsets i) (max l w) a f.next d)) → r ≡ refine_w ns s offsets to rec p i at c a
     unfolding refine_w
     refine-into rec p i at c a f r x e y = on f _ _ _ x (no f.value 65535 _ _ _ e y)
 

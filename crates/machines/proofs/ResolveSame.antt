@@ -1,5 +1,5 @@
 -- Steps that a walk over bytes and the resolving of a tree make together.
-use Prim.Native.Nat.{ℕ, ◌+◌, ◌<◌, zero, suc}
+use Prim.Native.Nat.{ℕ, ◌+◌, ◌<◌, zero, suc, max}
 use native.Mathlib.Omega.{arith}
 use mathlib.Core.List.{List, [], ◌∷◌, ◌++◌}
 use mathlib.Core.Bool.{Bool, true, false, cond, ◌&&◌, ◌||◌, and-true, and_assoc}
@@ -28,7 +28,7 @@ use Rattle.machines.specs.ResolvedIn.{StateAt}
 use Rattle.machines.specs.CheckedReads.{num, number_in, turns, with}
 use Rattle.machines.specs.Tables.{len_of}
 use Rattle.machines.specs.RefineStack.{on_of, pushed_of, start_of}
-use Rattle.machines.specs.ResolveAt.{go_on, head_t, len_at, max_of, qualify_of, target_t}
+use Rattle.machines.specs.ResolveAt.{go_on, head_t, len_at, qualify_of, target_t}
 use Rattle.machines.specs.ResolveAgrees.{Same, Why, WithinNames, fit_r, fit_s, goes, stops, why_of}
 use Rattle.machines.proofs.Reading.{name-number}
 use Rattle.machines.proofs.CheckedReadLaws.{end-to, number-to, then_to}
@@ -154,7 +154,7 @@ module _ (ns : List Name) (s offsets : List ℕ) (right : (i : ℕ) → i < leng
 
   -- the names of a state
   gather-targets : (n at a : ℕ) (ts : List Transition) (q : ℕ) → many (transition_in ns s) n at ≡ value ts q
-      → (b : ℕ) × (turns (target_t ns s offsets) max_of n at a ≡ num b q) × ((p : ℕ) → (leb (p + a) max_name && short_targets p ts) ≡ leb (p + b) max_name)
+      → (b : ℕ) × (turns (target_t ns s offsets) max n at a ≡ num b q) × ((p : ℕ) → (leb (p + a) max_name && short_targets p ts) ≡ leb (p + b) max_name)
   unfolding many turns short_targets target_t transition_in short_name
   gather-targets zero at a ts q e =
       let i : [] ≡ ts = cc in let j : at ≡ q = cc in
@@ -168,7 +168,7 @@ module _ (ns : List Name) (s offsets : List ℕ) (right : (i : ℕ) → i < leng
       let i : b.0 ∷ d.0 ≡ ts = cc d.3 in
       let j : d.1 ≡ q = cc d.3 in
       let l : len_of s offsets w.i ≡ length b.0.target = right w.i w.small ∙ ap length w.named ∙ ap (λ (t : Transition). length t.target) m.2 in
-      let u = gather-targets n b.1 (max_of a (len_of s offsets w.i)) d.0 d.1 d.2 in (
+      let u = gather-targets n b.1 (max a (len_of s offsets w.i)) d.0 d.1 d.2 in (
         u.0,
         then_to (target_t ns s offsets at) (len_of s offsets w.i) b.1 _
             (ap (λ y. with (number_in s y) (λ i q. num (len_of s offsets i) q)) (end-to (expr_in ns s at) g.0 g.1 g.2) ∙ number-to s g.1 w.i b.1 _ w.is)
@@ -207,21 +207,21 @@ head-is ns s offsets right at nm es ts k b h =
       small = i.small;
       named = i.named;
       head = number-to s at i.i h.to-equations _ i.is
-          ∙ ap (λ y. with (number_in s y) (λ n r. turns (target_t ns s offsets) max_of n r (len_of s offsets i.i))) (end-to (equations_in ns s h.to-equations) es h.to-transitions h.equations)
+          ∙ ap (λ y. with (number_in s y) (λ n r. turns (target_t ns s offsets) max n r (len_of s offsets i.i))) (end-to (equations_in ns s h.to-equations) es h.to-transitions h.equations)
           ∙ number-to s h.to-transitions d.0 d.1 _ d.2 ∙ g.1;
       law = λ p. ap (λ y. leb (p + y) max_name && short_targets p ts) (sym l) ∙ g.2 p;
     }
 
 -- a state's name and `_` in front
 pub qualify-same : (ns : List Name) (top : Name) (refine : ℕ → Name → Name → ℕ → Walk Target) (nm init : Name) (qs : ResolvedRegions) (ss : ResolvedStates) (c e h b l f w : ℕ) → l ≡ length nm → f ≡ length init
-    → ((p : ℕ) → fit_r h p qs ≡ leb (p + b) max_name) → ((p : ℕ) → fit_s 0 p ss ≡ leb (p + w) max_name) → Same ns top (fit_r h) e (with_target top refine nm qs (as_target init ss) c) (qualify_of l (max_of f w) b e c)
+    → ((p : ℕ) → fit_r h p qs ≡ leb (p + b) max_name) → ((p : ℕ) → fit_s 0 p ss ≡ leb (p + w) max_name) → Same ns top (fit_r h) e (with_target top refine nm qs (as_target init ss) c) (qualify_of l (max f w) b e c)
 unfolding with_target as_target qualify_of fit_r fit_s short_name
 qualify-same ns top refine nm init qs ss c e h b l f w x y lq ls =
-    let t : (k : ℕ) → leb (k + max_of f w) max_name ≡ (leb (k + length init) max_name && short_s k ss) =
+    let t : (k : ℕ) → leb (k + max f w) max_name ≡ (leb (k + length init) max_name && short_s k ss) =
     λ k. short-max k f w ∙ ap (λ z. leb (k + f) max_name && z) (sym (ls k)) ∙ absorb k f (short_s k ss) ∙ ap (λ z. leb (k + z) max_name && short_s k ss) y in
-    let g : (p : ℕ) → fit_r h p (append_region qs ((nm ++ (95 ∷ [])) ++ init) (prefix_s (nm ++ (95 ∷ [])) ss)) ≡ leb (p + max_of b (l + 1 + max_of f w)) max_name = λ p.
+    let g : (p : ℕ) → fit_r h p (append_region qs ((nm ++ (95 ∷ [])) ++ init) (prefix_s (nm ++ (95 ∷ [])) ss)) ≡ leb (p + max b (l + 1 + max f w)) max_name = λ p.
     let o : length (nm ++ (95 ∷ [])) ≡ l + 1 = length-append nm (95 ∷ []) ∙ ap (λ k. k + 1) (sym x) in
-    let u : p + (l + 1) + max_of f w ≡ p + (l + 1 + max_of f w) = omega arith in
+    let u : p + (l + 1) + max f w ≡ p + (l + 1 + max f w) = omega arith in
     ap (λ z. leb (p + h) max_name && z) (short-snoc p qs ((nm ++ (95 ∷ [])) ++ init) (prefix_s (nm ++ (95 ∷ [])) ss))
     ∙ sym (and_assoc (leb (p + h) max_name) (short_r p qs) (short_name p ((nm ++ (95 ∷ [])) ++ init) && short_s p (prefix_s (nm ++ (95 ∷ [])) ss)))
     ∙ ap (λ z. z && (short_name p ((nm ++ (95 ∷ [])) ++ init) && short_s p (prefix_s (nm ++ (95 ∷ [])) ss))) (lq p)
@@ -230,12 +230,12 @@ qualify-same ns top refine nm init qs ss c e h b l f w x y lq ls =
     ∙ ap (λ z. leb (p + b) max_name && (short_name (p + z) init && short_s (p + z) ss)) o
     ∙ ap (λ z. leb (p + b) max_name && z) (sym (t (p + (l + 1))))
     ∙ ap (λ z. leb (p + b) max_name && leb z max_name) u
-    ∙ sym (short-max p b (l + 1 + max_of f w)) in
-    let k : leb (l + 1 + max_of f w) max_name ≡ (leb (length nm + 1 + length init) max_name && short_s (length nm + 1) ss) =
+    ∙ sym (short-max p b (l + 1 + max f w)) in
+    let k : leb (l + 1 + max f w) max_name ≡ (leb (length nm + 1 + length init) max_name && short_s (length nm + 1) ss) =
     t (l + 1) ∙ ap (λ z. leb (z + 1 + length init) max_name && short_s (z + 1) ss) x in
     rw k (go (leb (length nm + 1 + length init) max_name && short_s (length nm + 1) ss) g)
   where
-    go : (z : Bool) → ((p : ℕ) → fit_r h p (append_region qs ((nm ++ (95 ∷ [])) ++ init) (prefix_s (nm ++ (95 ∷ [])) ss)) ≡ leb (p + max_of b (l + 1 + max_of f w)) max_name)
-        → Same ns top (fit_r h) e (cond z (went (append_region qs ((nm ++ (95 ∷ [])) ++ init) (prefix_s (nm ++ (95 ∷ [])) ss)) c) (stop (too_large top))) (cond z (wk.Went e c (max_of b (l + 1 + max_of f w))) wk.Large)
+    go : (z : Bool) → ((p : ℕ) → fit_r h p (append_region qs ((nm ++ (95 ∷ [])) ++ init) (prefix_s (nm ++ (95 ∷ [])) ss)) ≡ leb (p + max b (l + 1 + max f w)) max_name)
+        → Same ns top (fit_r h) e (cond z (went (append_region qs ((nm ++ (95 ∷ [])) ++ init) (prefix_s (nm ++ (95 ∷ [])) ss)) c) (stop (too_large top))) (cond z (wk.Went e c (max b (l + 1 + max f w))) wk.Large)
     go true g = goes refl refl g
     go false g = stops refl (large-why ns top)

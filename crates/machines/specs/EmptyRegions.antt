@@ -1,13 +1,13 @@
 -- Internal: nothing here has to be believed; laws tie it to what docs/TRUSTED.md lists.
 -- Regions without states that follow one another, which visits pass over at once.
-use Rattle.std.specs.Prelude.{ℕ, zero, suc, ◌+◌, ◌*◌, ◌<◌, ◌≤◌, List, Bool, true, cond, ◌&&◌, ◌≡◌, eqb, ltb}
+use Rattle.std.specs.Prelude.{ℕ, zero, suc, ◌+◌, ◌*◌, ◌<◌, ◌≤◌, List, Bool, true, cond, ◌&&◌, ◌≡◌, eqb, ltb, max}
 use Rattle.wire.specs.Bytes.{word_range}
 use Rattle.machines.specs.declared.resolve.EmptyRegions.{EmptyRegions}
 use Rattle.machines.specs.declared.resolve.SkippedRegions.{SkippedRegions}
 use Rattle.machines.specs.declared.layout.RegionHead.{RegionHead}
 use Rattle.wire.specs.declared.answer.Number.{Number}
 use Rattle.machines.specs.CheckedReads.{region_in, with}
-use Rattle.machines.specs.ResolveAt.{len_at, max_of}
+use Rattle.machines.specs.ResolveAt.{len_at}
 use Rattle.machines.specs.LayoutAt.{opening, region_from}
 use Rattle.machines.specs.Memo.{beside_in, kept_in, of_empty}
 
@@ -23,7 +23,7 @@ empty_d s (suc n) at = empty_at at (region_in s at) && empty_d s n (at + 5)
 -- the longest name of their initial states, or a
 unfoldable pub longest_d : List ℕ → List ℕ → ℕ → ℕ → ℕ → ℕ
 longest_d s offsets zero at a = a
-longest_d s offsets (suc n) at a = longest_d s offsets n (at + 5) (max_of a (len_at s offsets at))
+longest_d s offsets (suc n) at a = longest_d s offsets n (at + 5) (max a (len_at s offsets at))
 
 -- what was seen of n regions from `at` on: so many have no states
 pub record EmptyRun (s offsets : List ℕ) (n at : ℕ) (r : EmptyRegions) : Type 0 where

@@ -1,6 +1,6 @@
 -- Internal: nothing here has to be believed; laws tie it to what docs/TRUSTED.md lists.
 -- Resolving on bytes: what the code does, structural on the levels left. No tree is made.
-use Rattle.std.specs.Prelude.{ℕ, zero, suc, ◌+◌, List, cond, get_or, eqb, leb, ltb}
+use Rattle.std.specs.Prelude.{ℕ, zero, suc, ◌+◌, List, cond, get_or, eqb, leb, ltb, max}
 use Rattle.pack_rules.specs.Limits.{absent, max_level, max_name, max_states}
 use Rattle.pack_rules.specs.Names.{Name}
 use Rattle.pack_rules.specs.Read.{equations_in, expr_in}
@@ -13,10 +13,6 @@ use Rattle.machines.specs.CheckedReads.{machine_from, num, number_in, region_in,
 use Rattle.machines.specs.Tables.{len_of}
 use Rattle.machines.specs.RefineStack.{on_of, pushed_of, start_of}
 
--- the larger of two numbers
-unfoldable pub max_of : ℕ → ℕ → ℕ
-max_of a b = cond (ltb a b) b a
-
 -- what follows a walk that went through; one that stopped stays so
 unfoldable pub go_on : Resolved → (ℕ → ℕ → ℕ → Resolved) → Resolved
 go_on (wk.Went q c a) k = k q c a
@@ -27,11 +23,11 @@ go_on wk.Large k = wk.Large
 -- n things from `at` on, after c states and with the longest name so far
 unfoldable pub rounds : (ℕ → ℕ → Resolved) → ℕ → ℕ → ℕ → ℕ → Resolved
 rounds r zero at c a = wk.Went at c a
-rounds r (suc n) at c a = go_on (r at c) λ q d w. rounds r n q d (max_of a w)
+rounds r (suc n) at c a = go_on (r at c) λ q d w. rounds r n q d (max a w)
 
 -- a sub-machine's longest name, of w bytes, with a state's name of i bytes and `_` in front
 unfoldable pub qualify_of : ℕ → ℕ → ℕ → ℕ → ℕ → Resolved
-qualify_of i w a e d = cond (leb (i + 1 + w) max_name) (wk.Went e d (max_of a (i + 1 + w))) wk.Large
+qualify_of i w a e d = cond (leb (i + 1 + w) max_name) (wk.Went e d (max a (i + 1 + w))) wk.Large
 
 -- bytes, and where the names stand
 module _ (s offsets : List ℕ) where
@@ -53,20 +49,20 @@ module _ (ns : List Name) (s offsets : List ℕ) where
   -- a state's name, equations and transitions: the longest name
   unfoldable pub head_t : ℕ → Number
   head_t at =
-      with (number_in s at) λ i p. with (number_in s (end_of (equations_in ns s p))) λ n r. turns target_t max_of n r (len_of s offsets i)
+      with (number_in s at) λ i p. with (number_in s (end_of (equations_in ns s p))) λ n r. turns target_t max n r (len_of s offsets i)
 
   -- and where the initial state of the machine of a name is
   module _ (to : List ℕ) where
     -- the inline region at `at`, after c states: its states, and its initial state's name with theirs
     unfoldable pub region_w : (RefineStack → ℕ → ℕ → ℕ → Resolved) → RefineStack → ℕ → ℕ → Resolved
-    region_w rec p at c = with (region_in s at) λ k b. go_on (rec p k b c) λ q d w. wk.Went q d (max_of (len_at s offsets at) w)
+    region_w rec p at c = with (region_in s at) λ k b. go_on (rec p k b c) λ q d w. wk.Went q d (max (len_at s offsets at) w)
 
     -- the refinement that stands at `at`, of the state i
     unfoldable pub refine_w : (RefineStack → ℕ → ℕ → ℕ → Resolved) → RefineStack → ℕ → ℕ → ℕ → ℕ → Resolved
     refine_w rec p i at c a =
         with (number_in s at) λ m e.
         cond (eqb m absent) (wk.Went e c a)
-        (go_on (enter_w s offsets to p i m) λ b k f. go_on (rec (pushed_of p m) k b c) λ q d w. qualify_of (len_of s offsets i) (max_of f w) a e d)
+        (go_on (enter_w s offsets to p i m) λ b k f. go_on (rec (pushed_of p m) k b c) λ q d w. qualify_of (len_of s offsets i) (max f w) a e d)
 
     -- the state at `at`, after c states: its head, its inline regions, then its refinement; a 513th state is too many
     unfoldable pub state_w : (RefineStack → ℕ → ℕ → ℕ → Resolved) → RefineStack → ℕ → ℕ → Resolved

@@ -12,7 +12,7 @@ ghost use Rattle.machines.specs.Memo.{regions_in};
 ghost use Rattle.machines.specs.CoverAt.{gives_t, miss_t, own_t, uncovered_t};
 ghost use Rattle.machines.specs.AssignsMemo.{AssignsSound, HintOf, assigns_mark, hint_put};
 
-use crate::checked_read::{both, first_some, number};
+use crate::checked_read::{first_some, number};
 use crate::layout::{first, inner, layout_word};
 use crate::memo::{end_of, memo_regions};
 use crate::table::entry;
@@ -46,7 +46,7 @@ fn assigns_only(pack: &[u8], names: usize, memo: &[u16], out: usize, at: usize) 
     let i = number(pack, k.next);
     let next = end_of(pack, names, memo, at);
     OnlyLeft {
-        yes: both(k.value == 1, i.value == out),
+        yes: k.value == 1 && i.value == out,
         next,
     }
 }

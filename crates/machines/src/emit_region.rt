@@ -19,7 +19,7 @@ ghost use Rattle.machines.specs.Locals.{active_port, inner_locals, state_port};
 ghost use Rattle.pack_rules.specs.Names.{Name};
 ghost use Rattle.pack_rules.specs.Limits.{max_bytes};
 
-use crate::layout::{first, is, layout_word, letters};
+use crate::layout::{first, layout_word, letters};
 use crate::made_names::{Var, put_enum_name, put_qualified, put_var};
 use crate::next_state_chain::build_next_state_chain;
 use crate::table::entry;
@@ -357,7 +357,7 @@ fn put_active(
     let up = layout_word(layout, q, 8);
     let p = layout_word(layout, q, 7);
     let n = letters(layout, qualified, p);
-    let top = is(up, 0);
+    let top = up == 0;
     put_active_equation(old, id, top, up, n, out, made, writer)
 }
 
@@ -377,7 +377,7 @@ fn put_state(
 {
     let x = entry(layout, q);
     let id = layout_word(layout, q, 5);
-    let history = is(layout_word(layout, q, 1), 1);
+    let history = layout_word(layout, q, 1) == 1;
     let mut buf = [0u8; Pack::NAME];
     let v = put_qualified(
         &mut buf,

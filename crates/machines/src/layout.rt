@@ -17,7 +17,7 @@ ghost use Rattle.machines.specs.MemoSound.{RowsSound};
 ghost use Rattle.machines.specs.Layout.{holed, slice_of};
 ghost use Rattle.machines.specs.EmitAt.{letters_at, pack_name};
 
-use crate::checked_read::{both, number, read_or_zero};
+use crate::checked_read::{number, read_or_zero};
 use crate::memo::inside_of;
 use crate::resolve::{open_regions, run_length};
 use crate::table::{name_len, put};
@@ -232,29 +232,19 @@ struct Entered {
 }
 
 // A sum that stops at 2³².
+#[tactic(auto, unfolding(crate::specs::LayoutAt::sum))]
 fn saturating_add(a: usize, b: usize) -> usize
     ensures { result ≡ sum_of a b }
 {
-    if 4294967296 <= a {
-        return 4294967296;
-    }
-    if 4294967296 - a <= b {
-        return 4294967296;
-    }
-    a + b
+    a.saturating_add(b).min(4294967296)
 }
 
 // The tables filled as far as before, the pack read up to `next`.
+#[tactic(auto, unfolding(crate::specs::LayoutAt::moved_to))]
 fn at_offset(c: LayoutPos, next: usize) -> LayoutPos
     ensures { result ≡ moved_to next c }
 {
-    LayoutPos {
-        next,
-        words: c.words,
-        regions: c.regions,
-        letters: c.letters,
-        hole: c.hole,
-    }
+    LayoutPos { next, ..c }
 }
 
 // One region more where words were added.
@@ -307,10 +297,11 @@ fn close_state(layout: &mut [usize], p: usize, k: usize, q: usize, c: LayoutPos)
 }
 
 // Whether a region without states was met, once one of n states is opened.
+#[tactic(auto, unfolding(crate::specs::Layout::holed))]
 fn has_empty_region(n: usize, hole: bool) -> bool
     ensures { result ≡ holed hole n }
 {
-    if n == 0 { true } else { hole }
+    n == 0 || hole
 }
 
 // The words of a region, and its word by its id.
@@ -436,7 +427,7 @@ fn layout_region(
     if levels == 0 {
         return at_offset(c, 0);
     }
-    if both(h.states == 0, c.hole) {
+    if h.states == 0 && c.hole {
         return at_offset(c, h.next);
     }
     let mut e = open_region(layout, rows, st, up, a, m, h, c);

@@ -21,10 +21,10 @@ ghost use Rattle.machines.specs.UnknownTargets.{IsDrawn, drawn_state, target_d, 
 ghost use Rattle.machines.specs.StateHeads.{head_of};
 
 use crate::checked_read::{
-    after_equation, after_equations, after_expr, after_state, after_transitions, both,
-    machine, number,
+    after_equation, after_equations, after_expr, after_state, after_transitions, machine,
+    number,
 };
-use crate::resolve::{empty_run_from, max, read_state_head};
+use crate::resolve::{empty_run_from, read_state_head};
 use crate::table::to_initial;
 use pack::cells::{cell, put_cell};
 use pack::check::reached;
@@ -67,16 +67,11 @@ pub fn memo_beside(memo: &[u16], p: usize) -> usize
 }
 
 // A row of the mark m and the value v, where all fits a cell.
+#[tactic(auto, unfolding(crate::specs::Memo::row_put))]
 fn put_row(memo: &mut [u16], p: usize, m: usize, v: usize)
     ensures { memo.new ≡ row_put memo.old p m v }
 {
-    if WORD_RANGE <= p {
-        return;
-    }
-    if WORD_RANGE <= m {
-        return;
-    }
-    if WORD_RANGE <= v {
+    if WORD_RANGE <= p || WORD_RANGE <= m || WORD_RANGE <= v {
         return;
     }
     let b = 2 * (p / 5);
@@ -423,10 +418,7 @@ fn memo_state(memo: &mut [u16], at: usize, h: Head, o: usize)
     if l.next != h.regions {
         return;
     }
-    let a = max(at, l.value);
-    let b = max(h.moves, h.regions);
-    let c = max(a, b);
-    if WORD_RANGE <= max(c, o) {
+    if WORD_RANGE <= at.max(l.value).max(h.moves).max(h.regions).max(o) {
         return;
     }
     memo_put_state(memo, at, l.value, h.moves, o, h.regions);
@@ -456,16 +448,7 @@ fn state_end(pack: &[u8], names: usize, at: usize, h: Head, p: usize) -> usize
     ensures { (ns : List Name) → length ns ≡ names → (offsets : List ℕ) (f : ℕ → Answer OneRegion) → h ≡ head_of ns pack.now offsets at → p ≡ end_of (counted f pack.now h.regions) → 0 < result → result ≡ end_of (state_with f ns pack.now at) }
 {
     let n = reached(skip_index(pack, names, at));
-    if n == 0 {
-        return 0;
-    }
-    if h.moves == 0 {
-        return 0;
-    }
-    if h.regions == 0 {
-        return 0;
-    }
-    if p == 0 {
+    if n == 0 || h.moves == 0 || h.regions == 0 || p == 0 {
         return 0;
     }
     reached(skip_optional(pack, names, p))
@@ -538,7 +521,7 @@ fn memo_unknown_targets(pack: &[u8], names: usize, offsets: &[u16], memo: &mut [
         return;
     }
     let r = unknown_targets(pack, names, memo, c.value, from);
-    if WORD_MAX <= max(r.fine, r.name) {
+    if WORD_MAX <= r.fine.max(r.name) {
         return;
     }
     memo_put(memo, from - 5, UNKNOWN_TARGET, r.fine, r.name + 1);

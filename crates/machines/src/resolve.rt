@@ -8,13 +8,13 @@ ghost use Rattle.std.specs.Prelude.{◌≡◌, ◌||◌, eqb, List, ◌<◌, ◌
 ghost use Rattle.machines.specs.RefineStack.{on_of, pushed_of, start_of};
 ghost use Rattle.pack_rules.specs.Names.{Name};
 ghost use Rattle.pack_rules.specs.Limits.{max_bytes};
-ghost use Rattle.machines.specs.ResolveAt.{enter_w, head_t, len_at, machine_w, max_of, qualify_of, state_w, target_t, walk as walk_in};
+ghost use Rattle.machines.specs.ResolveAt.{enter_w, head_t, len_at, machine_w, qualify_of, state_w, target_t, walk as walk_in};
 ghost use Rattle.machines.specs.LayoutAt.{moves_at};
 ghost use Rattle.machines.specs.MemoSound.{MemoSound, RowsSound};
 ghost use Rattle.wire.specs.Bytes.{word_range};
 ghost use Rattle.machines.specs.EmptyRegions.{AtOnce, EmptyRun, empty_at, opened_of, taken_of};
 
-use crate::checked_read::{both, machine, number, region};
+use crate::checked_read::{machine, number, region};
 use crate::layout::{RegionHead, region_head};
 use crate::memo::{EMPTY, guard_end, memo_at, memo_beside, memo_longest, memo_regions, moves_of};
 use crate::table::name_len;
@@ -93,13 +93,6 @@ pub fn contains(p: RefineStack, m: usize) -> bool
 
 // --- What resolving needs of a state's head: its longest name, and where its regions are.
 
-// The larger of two numbers.
-pub fn max(a: usize, b: usize) -> usize
-    ensures { result ≡ max_of a b }
-{
-    if a < b { b } else { a }
-}
-
 // The length of the name whose index stands at `at`.
 pub fn len_at(pack: &[u8], offsets: &[u16], at: usize) -> usize
     ensures { result ≡ len_at pack.now offsets.now at }
@@ -138,7 +131,7 @@ pub fn read_state_head(
     let mut a = name_len(pack, offsets, i.value);
     for _ in 0..t.value {
         let x = target_len(pack, names, offsets, memo, p);
-        a = max(a, x.value);
+        a = a.max(x.value);
         p = x.next;
     }
     Number { value: a, next: p }
@@ -184,7 +177,7 @@ fn is_empty(at: usize, g: Number) -> bool
     if g.next < 5 {
         return false;
     }
-    both(g.value == 0, g.next - 5 == at)
+    g.value == 0 && g.next - 5 == at
 }
 
 // How many of n regions from `from` on have no states, before the first that has some.
@@ -198,7 +191,7 @@ pub fn empty_run_from(pack: &[u8], offsets: &[u16], n: usize, from: usize) -> Em
         if !is_empty(p, g) {
             return EmptyRegions { count, longest };
         }
-        longest = max(longest, len_at(pack, offsets, p));
+        longest = longest.max(len_at(pack, offsets, p));
         p = g.next;
     }
     EmptyRegions { count: n, longest }
@@ -305,7 +298,7 @@ fn qualified_len(i: usize, w: usize, a: usize, next: usize, states: usize) -> Re
     if Pack::NAME - 1 - i < w {
         return Resolved::Large;
     }
-    Resolved::Went(next, states, max(a, i + 1 + w))
+    Resolved::Went(next, states, a.max(i + 1 + w))
 }
 
 // One state: it is counted, then its regions, then its refinement.
@@ -342,7 +335,7 @@ fn resolve_state(
         let Resolved::Went(next, states, longest) = e else {
             return e;
         };
-        a = max(a, max(g.longest, longest));
+        a = a.max(g.longest.max(longest));
         n -= k;
         o = next;
         c = states;
@@ -361,7 +354,7 @@ fn resolve_state(
     let Resolved::Went(_, j, w) = y else {
         return y;
     };
-    qualified_len(name_len(pack, offsets, i.value), max(v, w), a, f.next, j)
+    qualified_len(name_len(pack, offsets, i.value), v.max(w), a, f.next, j)
 }
 
 // So many states, with so many levels left: with none they may not open.
@@ -386,13 +379,13 @@ fn resolve_states(
     }
     let mut o = at;
     let mut c = done;
-    let mut a = 0;
+    let mut a: usize = 0;
     for _ in 0..count {
         let e = resolve_state(pack, names, offsets, machines, memo, levels - 1, p, o, c);
         let Resolved::Went(next, states, longest) = e else {
             return e;
         };
-        a = max(a, longest);
+        a = a.max(longest);
         o = next;
         c = states;
     }

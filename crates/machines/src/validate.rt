@@ -9,7 +9,7 @@ ghost use Rattle.machines.specs.MemoSound.{RowsSound};
 ghost use Rattle.machines.specs.ValidateAt.{AllRecalled, Has, OneRecalled, checked_region, checked_state, has_t, is_state_t, onward as onward_of, recall_t as foretold_of, row_drawn, rows_drawn, targets_t, unknown};
 
 use crate::checked_read::number;
-use crate::layout::{first, inner, is, layout_word};
+use crate::layout::{first, inner, layout_word};
 use crate::memo::{UNKNOWN_TARGET, guard_end, memo_at, memo_beside, moves_of, past_of};
 use crate::table::entry;
 
@@ -30,11 +30,7 @@ fn row_drawn(pack: &[u8], names: usize, memo: &[u16], layout: &[usize], p: usize
     requires { (length pack.now ≤ max_bytes) × RowsSound pack.now names memo.now }
     ensures { (ns : List Name) → length ns ≡ names → result ≡ row_drawn ns pack.now layout.now p at }
 {
-    if entry(layout, p) == at {
-        let m = moves_of(pack, names, memo, at);
-        return is(layout_word(layout, p, 1), m);
-    }
-    false
+    entry(layout, p) == at && layout_word(layout, p, 1) == moves_of(pack, names, memo, at)
 }
 
 // Whether `count` rows from the word `from` on are those of the states drawn one after the other from f on.

@@ -10,7 +10,7 @@ ghost use Rattle.machines.specs.CoverAt.{uncovered_t};
 ghost use Rattle.machines.specs.AssignsMemo.{AssignsSound};
 ghost use Rattle.machines.specs.ValueAt.{side_t, side_bytes, entered_t, in_state_t, value_t, output_t, port_outputs_t};
 
-use crate::checked_read::{after_expr, after_port, both, number};
+use crate::checked_read::{after_expr, after_port, number};
 use crate::cover::{ASSIGNS_MEMO, require_cover_region};
 use crate::layout::{between, first, inner, layout_word};
 use crate::memo::end_of;
@@ -30,7 +30,7 @@ fn own_rhs(pack: &[u8], names: usize, memo: &[u16], x: usize, at: usize) -> usiz
     for _ in 0..c.value {
         let k = number(pack, p);
         let l = number(pack, k.next);
-        if both(k.value == 1, l.value == x) {
+        if k.value == 1 && l.value == x {
             return l.next;
         }
         p = end_of(pack, names, memo, p);

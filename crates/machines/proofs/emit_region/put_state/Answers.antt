@@ -1,6 +1,6 @@
 use native.Mathlib.Omega.{arith}
 use mathlib.Core.List.{[]}
-use mathlib.Core.Path.{ap, ◌∙◌}
+use mathlib.Core.Path.{refl, ap, ◌∙◌}
 use lib.ListN.{length-take}
 use Rattle.wire.specs.Writer.{puts}
 use Rattle.machines.proofs.RegionLaws.{built-over, built-text, state-over, state-some}
@@ -13,4 +13,4 @@ pub slice_bounds-put_state_equation-end : goal.slice_bounds-put_state_equation-e
 slice_bounds-put_state_equation-end c = simp length-take (omega arith)
 
 pub returns : goal.returns
-returns c = c.put_state_equation.ensures ∙ state-some _ _ _ _ _ _ _ _ _ _ _ _ c.layout_word-id.ensures c.entry-x.ensures c.layout_word.ensures c.is-history.ensures (built-text _ _ _ (c.put_qualified-v.ensures [] ∙ ap (puts _) (c.start.ensures _ [])) _ c.if-full.false c.min-end.ensures)
+returns c = c.put_state_equation.ensures ∙ state-some _ _ _ _ _ _ _ _ _ _ _ _ c.layout_word-id.ensures c.entry-x.ensures c.layout_word-history.ensures refl (built-text _ _ _ (c.put_qualified-v.ensures [] ∙ ap (puts _) (c.start.ensures _ [])) _ c.if-full.false c.min-end.ensures)

@@ -1,15 +1,19 @@
 use Rattle.machines.proofs.Remaining.{none_left, one_less, some_left}
 use Rattle.machines.proofs.EmptyLaws.{once-near, opened-on}
+use mathlib.Core.Path.{refl, sym}
+use borrow.Author.Tests.{eq-eqb, ne_eqb}
+use Rattle.machines.proofs.CheckedReadLaws.{both_hold}
 use Rattle.machines.proofs.LayoutLaws.{close-region, inner-done, refine-into, refine-plain, region-left, region-none, region-some, state-on, times-done, times-went}
 use mathlib.Core.Path.{◌∙◌}
 use native.Mathlib.Omega.{arith}
+use Rattle.machines.proofs.layout.+layout_region_layout_state.Goals.{layout_region-else-h-eq0-via-then-h-eq0+else-c, layout_region-else-h-eq0-via-else-h-eq0}
 use Rattle.machines.proofs.layout.+layout_region_layout_state.Goals as goal
 
 pub layout_region-returns-then-levels-eq0 : goal.layout_region-returns-then-levels-eq0
 layout_region-returns-then-levels-eq0 t c = λ ns e. region-none ns _ _ _ _ _ _ _ _ _ _ _ _ _ _ c.if-levels-eq0.true c.at_offset.ensures
 
-pub layout_region-returns-then-both : goal.layout_region-returns-then-both
-layout_region-returns-then-both t c = λ ns e. region-left ns _ _ _ _ _ _ _ _ _ _ _ _ _ _ _ c.if-levels-eq0.false c.both.ensures c.if-both.true c.at_offset-then-both.ensures
+pub layout_region-returns-then-c : goal.layout_region-returns-then-c
+layout_region-returns-then-c t c = λ ns e. region-left ns _ _ _ _ _ _ _ _ _ _ _ _ _ _ _ c.if-levels-eq0.false (both_hold c.if-h-eq0.true c.if-c.true) refl c.at_offset-then-c.ensures
 
 pub layout_region-overflow_sub-levels : goal.layout_region-overflow_sub-levels
 layout_region-overflow_sub-levels t c = omega (arith, c.if-levels-eq0.false)
@@ -21,7 +25,7 @@ pub layout_region-loop-preserved : goal.layout_region-loop-preserved
 layout_region-loop-preserved t c = λ ns e. rw one_less (times-went _ _ _ _ _ (some_left c.loop-test.true) (c.layout_state-e.ensures ns e) (c.loop.invariant ns e))
 
 pub layout_region-returns : goal.layout_region-returns
-layout_region-returns t c = λ ns e. region-some ns _ _ _ _ _ _ _ _ _ _ _ _ _ _ c.if-levels-eq0.false c.both.ensures c.if-both.false (c.open_region-e.ensures c.args.qualified.now) (times-done _ _ _ _ (none_left c.loop-test.false) (c.loop.invariant ns e)) (close-region _ _ _ _ _ _ c.put_word.ensures)
+layout_region-returns t c = λ ns e. region-some ns _ _ _ _ _ _ _ _ _ _ _ _ _ _ c.if-levels-eq0.false (elim c.else-h-eq0.branch [ layout_region-else-h-eq0-via-then-h-eq0+else-c w ↦ rw (eq-eqb _ _ w.if-h-eq0.true) (sym w.if-c.false) | layout_region-else-h-eq0-via-else-h-eq0 w ↦ rw (ne_eqb _ _ w.if-h-eq0.false) ]) refl (c.open_region-e.ensures c.args.qualified.now) (times-done _ _ _ _ (none_left c.loop-test.false) (c.loop.invariant ns e)) (close-region _ _ _ _ _ _ c.put_word.ensures)
 
 pub layout_state-open_state-b-requires : goal.layout_state-open_state-b-requires
 layout_state-open_state-b-requires t c = c.requires
