@@ -1,5 +1,5 @@
 -- Laws for the code that looks for calls of `last` that are misused, step by step.
-use Prim.Native.Nat.{ℕ, zero, suc, ◌-◌, ◌<◌, ◌≤◌}
+use Prim.Native.Nat.{ℕ, zero, suc, ◌≤◌}
 use native.Mathlib.Omega.{arith}
 use mathlib.Core.List.{List}
 use mathlib.Core.Bool.{Bool, true, false, ◌||◌}
@@ -58,16 +58,16 @@ branches-is ns s f at c r e g = on c _ _ r e g
 
 -- a loop that looks for one
 module _ (f : ℕ → Bool) (next : ℕ → ℕ) where
-  pub any-hit : (n p : ℕ) (x z : Bool) → 0 < n → x ≡ f p → x ≡ true → any_t f next n p ≡ z → true ≡ z
+  pub any-hit : (n p : ℕ) (x z : Bool) {rest : ℕ} → n ≡ suc rest → x ≡ f p → x ≡ true → any_t f next n p ≡ z → true ≡ z
   unfolding any_t
   any-hit zero p x z l e g h = absurd (omega arith)
-  any-hit (suc n) p x z l e g h = ap (λ y. y || any_t f next n (next p)) (sym g ∙ e) ∙ h
+  any-hit (suc n) p x z {rest} l e g h = ap (λ y. y || any_t f next n (next p)) (sym g ∙ e) ∙ h
 
-  pub any-on : (n p q : ℕ) (x z : Bool) → 0 < n → x ≡ f p → x ≡ false → q ≡ next p → any_t f next n p ≡ z → any_t f next (n - 1) q ≡ z
+  pub any-on : (n p q : ℕ) (x z : Bool) {rest : ℕ} → n ≡ suc rest → x ≡ f p → x ≡ false → q ≡ next p → any_t f next n p ≡ z → any_t f next rest q ≡ z
   unfolding any_t
   any-on zero p q x z l e g k h = absurd (omega arith)
-  any-on (suc n) p q x z l e g k h =
-      let i : suc n - 1 ≡ n = omega arith in
+  any-on (suc n) p q x z {rest} l e g k h =
+      let i : rest ≡ n = omega arith in
       ap (λ y. any_t f next y q) i ∙ ap (any_t f next n) k ∙ ap (λ y. y || any_t f next n (next p)) (sym g ∙ e) ∙ h
 
   pub any-end : (n p : ℕ) (z : Bool) → n ≤ 0 → any_t f next n p ≡ z → false ≡ z

@@ -1,5 +1,5 @@
 -- Laws for the code that finds the parts of activations, step by step.
-use Prim.Native.Nat.{ℕ, zero, suc, ◌-◌, ◌<◌, ◌≤◌}
+use Prim.Native.Nat.{ℕ, zero, suc, ◌≤◌}
 use native.Mathlib.Omega.{arith}
 use mathlib.Core.List.{List}
 use mathlib.Core.Path.{◌≡◌, refl, sym, ap, ◌∙◌}
@@ -24,9 +24,9 @@ along-step : (next : ℕ → ℕ) (n p : ℕ) → along next (suc n) p ≡ along
 unfolding along
 along-step next n p = refl
 
-pub along-more : (next : ℕ → ℕ) (n p q z : ℕ) → 0 < n → q ≡ next p → along next n p ≡ z → along next (n - 1) q ≡ z
+pub along-more : (next : ℕ → ℕ) (n p q z : ℕ) {rest : ℕ} → n ≡ suc rest → q ≡ next p → along next n p ≡ z → along next rest q ≡ z
 along-more next zero p q z l e f = absurd (omega arith)
-along-more next (suc n) p q z l e f = let i : suc n - 1 ≡ n = omega arith in rw (i, e) (sym (along-step next n p) ∙ f)
+along-more next (suc n) p q z {rest} l e f = let i : rest ≡ n = omega arith in rw (i, e) (sym (along-step next n p) ∙ f)
 
 pub along-end : (next : ℕ → ℕ) (n p z : ℕ) → n ≤ 0 → along next n p ≡ z → p ≡ z
 unfolding along
@@ -39,10 +39,10 @@ module _ {S : Type 0} (f : ℕ → S → S) (next : ℕ → ℕ) where
   unfolding each_of
   each_step n p x = refl
 
-  pub each_more : (n p q : ℕ) (x y z : S) → 0 < n → q ≡ next p → y ≡ f p x → each_of f next n p x ≡ z → each_of f next (n - 1) q y ≡ z
+  pub each_more : (n p q : ℕ) (x y z : S) {rest : ℕ} → n ≡ suc rest → q ≡ next p → y ≡ f p x → each_of f next n p x ≡ z → each_of f next rest q y ≡ z
   each_more zero p q x y z l e g h = absurd (omega arith)
-  each_more (suc n) p q x y z l e g h =
-      let i : suc n - 1 ≡ n = omega arith in
+  each_more (suc n) p q x y z {rest} l e g h =
+      let i : rest ≡ n = omega arith in
       ap (λ k. each_of f next k q y) i ∙ (λ j. each_of f next n (e j) (g j)) ∙ sym (each_step n p x) ∙ h
 
   pub each-end : (n p : ℕ) (x z : S) → n ≤ 0 → each_of f next n p x ≡ z → x ≡ z

@@ -71,11 +71,9 @@ pub fn after_branches(pack: &[u8], names: usize, at: usize) -> usize
     ensures { (ns : List Name) → length ns ≡ names → result ≡ branches_end ns pack.now at }
 {
     let c = number(pack, at);
-    let mut n = c.value;
     let mut p = c.next;
-    while 0 < n {
+    for _ in 0..c.value {
         p = after_branch(pack, names, p);
-        n = n - 1;
     }
     p
 }
