@@ -8,11 +8,10 @@ use Rattle.pack_rules.specs.Names.{Name}
 use Rattle.machines.specs.declared.checked_read.NumberAt.{NumberAt}
 use Rattle.machines.specs.CheckedReads.{number_in}
 use Rattle.machines.proofs.CheckedReadLaws.{on}
-use Rattle.activations.specs.declared.parts.Act.{Act}
 use Rattle.activations.specs.ExprNodes.{is_bad}
 use Rattle.activations.specs.Places.{any_t, body_in, branch_end, equation_end, right_side_in}
 use Rattle.activations.specs.Walks.{or_step, walked}
-use Rattle.activations.specs.BadLastsAt.{any_bad_last_t, any_branch_t, body_has_bad_last_t, condition_has_bad_last_t, equation_has_bad_last_t, has_bad_last_t, scope_has_bad_last_t}
+use Rattle.activations.specs.BadLastsAt.{any_branch_t, body_has_bad_last_t, condition_has_bad_last_t, equation_has_bad_last_t, has_bad_last_t, scope_has_bad_last_t}
 use Rattle.activations.proofs.Moving.{ended}
 
 module _ (ns : List Name) (s : List ℕ) (last : ℕ) where
@@ -39,18 +38,6 @@ module _ (ns : List Name) (s : List ℕ) (last : ℕ) where
   pub body-misused : (at e : ℕ) (r : Bool) → e ≡ body_in ns s at → r ≡ scope_has_bad_last_t ns s last e → r ≡ body_has_bad_last_t ns s last at
   unfolding body_has_bad_last_t
   body-misused at e r f g = g ∙ ap (scope_has_bad_last_t ns s last) f
-
-  pub all_first : (a : Act) (x : Bool) → x ≡ any_branch_t ns s (condition_has_bad_last_t ns s last) a.branches → x ≡ true → true ≡ any_bad_last_t ns s last a
-  unfolding any_bad_last_t
-  all_first a x e f = ap (λ y. y || (any_branch_t ns s (body_has_bad_last_t ns s last) a.branches || scope_has_bad_last_t ns s last a.other)) (sym f ∙ e)
-
-  pub all-second : (a : Act) (x y : Bool) → x ≡ any_branch_t ns s (condition_has_bad_last_t ns s last) a.branches → x ≡ false → y ≡ any_branch_t ns s (body_has_bad_last_t ns s last) a.branches → y ≡ true → true ≡ any_bad_last_t ns s last a
-  unfolding any_bad_last_t
-  all-second a x y e f g h = (λ i. (sym f ∙ e) i || ((sym h ∙ g) i || scope_has_bad_last_t ns s last a.other))
-
-  pub all-third : (a : Act) (x y r : Bool) → x ≡ any_branch_t ns s (condition_has_bad_last_t ns s last) a.branches → x ≡ false → y ≡ any_branch_t ns s (body_has_bad_last_t ns s last) a.branches → y ≡ false → r ≡ scope_has_bad_last_t ns s last a.other → r ≡ any_bad_last_t ns s last a
-  unfolding any_bad_last_t
-  all-third a x y r e f g h k = (λ i. (sym f ∙ e) i || ((sym h ∙ g) i || k i))
 
 pub branches-is : (ns : List Name) (s : List ℕ) (f : ℕ → Bool) (at : ℕ) (c : NumberAt) (r : Bool) → c ≡ number_in s at → r ≡ any_t f (branch_end ns s) c.value c.next → r ≡ any_branch_t ns s f at
 unfolding any_branch_t

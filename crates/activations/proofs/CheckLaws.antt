@@ -21,21 +21,6 @@ use Rattle.activations.specs.BadLastsAt.{any_bad_last_t, any_branch_t}
 use Rattle.activations.specs.Passes.{pass_t}
 use Rattle.activations.specs.ChecksAt.{assign_branches_t, assign_scope_t, assign_t, assigned_t, checks_t, has_empty_left_t, in_scopes_t, nameless_t, or_else_t, over_equation, refused_t, repeated_in, repeated_t, scope_has_empty_left_t, scope_name_t, unassigned_t}
 
--- a single left name that all scopes before assign, and any other equation
-module _ (s : List ℕ) where
-  pub assign-hit : (k p : ℕ) (l x : NumberAt) (m : ℕ) (t u : List ℕ) → l ≡ number_in s p → x ≡ number_in s l.next → m ≡ get_or t x.value 0 → l.value ≡ 1 → m ≡ k → u ≡ set t x.value ((k + 1) % 65536) → u ≡ assign_t s k p t
-  unfolding assign_t put_t
-  assign-hit k p l x m t u e f g h i j =
-      on l _ _ _ e (on x _ _ _ f (rw (eq-eqb l.value 1 h, eq-eqb (get_or t x.value 0) k (sym g ∙ i)) (j ∙ let v : k + 1 ≡ suc k = omega arith in ap (λ y. set t x.value (y % 65536)) v)))
-
-  pub assign-other : (k p : ℕ) (l x : NumberAt) (t : List ℕ) → l ≡ number_in s p → x ≡ number_in s l.next → (l.value ≡ 1 → ⊥) → t ≡ assign_t s k p t
-  unfolding assign_t
-  assign-other k p l x t e f h = on l _ _ _ e (on x _ _ _ f (rw (ne_eqb l.value 1 h)))
-
-  pub assign-miss : (k p : ℕ) (l x : NumberAt) (m : ℕ) (t : List ℕ) → l ≡ number_in s p → x ≡ number_in s l.next → m ≡ get_or t x.value 0 → l.value ≡ 1 → (m ≡ k → ⊥) → t ≡ assign_t s k p t
-  unfolding assign_t
-  assign-miss k p l x m t e f g h i = on l _ _ _ e (on x _ _ _ f (rw (eq-eqb l.value 1 h, ne_eqb (get_or t x.value 0) k (λ y. i (g ∙ y)))))
-
 module _ (ns : List Name) (s : List ℕ) where
   -- the loop over branches' names: one that stood before, one more, the end
   pub repeated-hit : (n p : ℕ) (i : NumberAt) (m : ℕ) (t : List ℕ) (z : ℕ) {rest : ℕ} → n ≡ suc rest → i ≡ number_in s p → m ≡ get_or t i.value 0 → (m ≡ 0 → ⊥) → repeated_t ns s n p t ≡ z → i.value ≡ z

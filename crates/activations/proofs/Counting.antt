@@ -14,10 +14,7 @@ use Rattle.pack.proofs.Written.{render-full}
 use Rattle.machines.specs.AddedAt.{each_t}
 use Rattle.machines.proofs.RowLaws.{full_is}
 
--- all at the start, one less after each, none at the end
-pub left_all : (n : ℕ) → n - 0 ≡ n
-left_all n = omega arith
-
+-- one less after each, none at the end
 pub left_one : {n i : ℕ} → i < n → n - i ≡ suc (n - (i + 1))
 left_one l = omega arith
 

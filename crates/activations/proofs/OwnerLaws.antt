@@ -51,8 +51,5 @@ pub draw-length : (names : ℕ) (s nodes : List ℕ) (n i p : ℕ) (acts : List 
 unfolding draw_t with
 draw-length names s nodes n i p acts = judged-length _ i _ 0 ∙ put-length _ (6656 + i) _ ∙ put-length acts i p
 
-pub draw-kept : (names : ℕ) (s nodes : List ℕ) (n i p : ℕ) (acts t z : List ℕ) → t ≡ draw_t names s nodes n i p acts → length acts ≡ length z → length t ≡ length z
-draw-kept names s nodes n i p acts t z e h = ap length e ∙ draw-length names s nodes n i p acts ∙ h
-
 pub draw-by : (ns : List Name) (names : ℕ) (s nodes : List ℕ) (n i p : ℕ) (acts t : List ℕ) → length ns ≡ names → t ≡ draw_t names s nodes n i p acts → t ≡ draw_t (length ns) s nodes n i p acts
 draw-by ns names s nodes n i p acts t e h = h ∙ ap (λ y. draw_t y s nodes n i p acts) (sym e)
