@@ -1,5 +1,5 @@
 -- What activations bring to a node, one after the other: the node with all of it, and how it is written.
-use Prim.Native.Nat.{ℕ, suc, ◌+◌, ◌-◌, ◌<◌, ◌≤◌}
+use Prim.Native.Nat.{ℕ, suc, ◌+◌, ◌<◌, ◌≤◌}
 use native.Mathlib.Omega.{arith}
 use mathlib.Core.List.{List, [], ◌∷◌, ◌++◌, append-nil}
 use mathlib.Core.Bool.{Bool, true, false, cond}
@@ -17,12 +17,11 @@ use Rattle.pack_rules.specs.Read.{activation_in}
 use Rattle.pack_rules.specs.Write.{Item, each, equation_items, port_items}
 use Rattle.pack.specs.Intern.{render}
 use Rattle.pack.proofs.Interns.{render-append}
-use Rattle.pack.proofs.Written.{render-full}
 use Rattle.machines.specs.EmitAt.{pack_name}
 use Rattle.machine_rules.specs.Machines.{extend}
 use Rattle.machines.specs.Sections.{node_names}
 use Rattle.machines.proofs.LocalLaws.{each_append}
-use Rattle.machines.proofs.RowLaws.{full_is}
+use Rattle.activations.proofs.Counting.{stopped}
 use Rattle.machines.proofs.Shares.{extend-extend}
 use Rattle.activations.specs.declared.pack_info.PackInfo.{PackInfo}
 use Rattle.activations.specs.declared.parts.Act.{Act}
@@ -140,18 +139,6 @@ module _ (ns : List Name) (es : List Enum) (old s offsets : List ℕ) (b : PackI
       (e ∙ ap (λ (y : List ℕ). act_equations_t ns old s b offsets y x.hold.held x.rows x.hold.env x.outs act (conditions_of A.name A.branches) z) named)
       (subst (λ (y : List ℕ). LeftAs locals later' (act_locals_t ns s old b.made y offsets x.hold.env x.outs b.last x.hold.held x.rows act (quiet later))) named f)
 
--- how many activations are left to write, where a full writer stops
-pub record Ahead (count i c : ℕ) (stop : Bool) : Type 0 where
-  pub some : 0 < c → i + c ≡ count
-  pub none : c ≤ 0 → stop ≡ false → i ≡ count
-
-pub ahead-start : (count : ℕ) (stop : Bool) → Ahead count 0 count stop
-ahead-start count stop = record { some = λ l. omega arith; none = λ l e. omega arith }
-
-pub ahead-next : (count i c c' : ℕ) (stop stop' : Bool) → Ahead count i c stop → 0 < c → c' ≡ cond stop' 0 (c - 1) → Ahead count (i + 1) c' stop'
-ahead-next count i c c' stop true A l e = record { some = λ h. absurd (omega arith); none = λ h f. absurd (let z : ◌≡◌ {A = ℕ} 1 0 = ap (λ (b : Bool). cond b 1 0) f in omega arith) }
-ahead-next count i c c' stop false A l e = let z = A.some l in record { some = λ h. omega arith; none = λ h f. omega arith }
-
 -- the activations As, of which rows are written that go to the node m of the place k; what is brought is written by `items`
 module _ (ns : List Name) (s old : List ℕ) (es : List Enum) (N : List Node) (As : List Activation) (few : length As ≤ 6656) (k : ℕ) (m : Node) (acts : List ℕ) (D : Drawn ns s es N As acts) (M : AllMade es N As k m)
     {X : Type 0} (f : Lowered → List X) (items : X → List Item) where
@@ -245,14 +232,12 @@ module _ (ns : List Name) (s old : List ℕ) (es : List Enum) (N : List Node) (A
   unfolding brought
   all_done i e y = ap (λ (xs : List Activation). brought es names f k xs y) (ap (λ (j : ℕ). drop j As) e ∙ drop-length As)
 
-  -- at the end, or where the writer is full
-  pub written-done : (count i c : ℕ) (out made : List ℕ) (v : Writer) (later : List ℕ) (z₀ : State) → length As ≡ count → Ahead count i c v.full → c ≤ 0 → Written i later z₀ (state_of out made v)
-      → state_of out made v ≡ render old (each items (brought es (node_names N) f k As m)) z₀
+  -- at the end, and where the writer is full
+  pub written-done : (count i : ℕ) (z : State) (later : List ℕ) (z₀ : State) → length As ≡ count → count ≤ i → i ≤ count → Written i later z₀ z
+      → z ≡ render old (each items (brought es (node_names N) f k As m)) z₀
   unfolding each render
-  written-done count i c out made v later z₀ L A l W = go v.full refl
-    where
-      go : (b : Bool) → v.full ≡ b → state_of out made v ≡ render old (each items (brought es names f k As m)) z₀
-      go true e =
-          let g = full_is out made v e in
-          g ∙ sym (render-full old (each items (brought es names f k (drop i As) (node_after i)))) ∙ sym (ap (render old (each items (brought es names f k (drop i As) (node_after i)))) g) ∙ W.rest
-      go false e = sym (ap (λ (xs : List X). render old (each items xs) (state_of out made v)) (all_done i (A.none l e ∙ sym L) (node_after i))) ∙ W.rest
+  written-done count i z later z₀ L a b W = sym (ap (λ (xs : List X). render old (each items xs) z) (all_done i (omega arith) (node_after i))) ∙ W.rest
+
+  pub written-stop : (i : ℕ) (out made : List ℕ) (v : Writer) (later : List ℕ) (z₀ : State) → v.full ≡ true → Written i later z₀ (state_of out made v)
+      → state_of out made v ≡ render old (each items (brought es (node_names N) f k As m)) z₀
+  written-stop i out made v later z₀ e W = stopped old (each items (brought es (node_names N) f k (drop i As) (node_after i))) out made v _ e W.rest

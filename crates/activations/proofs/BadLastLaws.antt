@@ -1,5 +1,5 @@
 -- Laws for the code that looks for calls of `last` that are misused, step by step.
-use Prim.Native.Nat.{ℕ, zero, suc, ◌-◌, ◌<◌, ◌≤◌}
+use Prim.Native.Nat.{ℕ, zero, suc, ◌≤◌}
 use native.Mathlib.Omega.{arith}
 use mathlib.Core.List.{List}
 use mathlib.Core.Bool.{Bool, true, false, ◌||◌}
@@ -8,11 +8,10 @@ use Rattle.pack_rules.specs.Names.{Name}
 use Rattle.wire.specs.declared.answer.Number.{Number}
 use Rattle.machines.specs.CheckedReads.{number_in}
 use Rattle.machines.proofs.CheckedReadLaws.{on}
-use Rattle.activations.specs.declared.parts.Act.{Act}
 use Rattle.activations.specs.ExprNodes.{is_bad}
 use Rattle.activations.specs.Places.{any_t, body_in, branch_end, equation_end, right_side_in}
 use Rattle.activations.specs.Walks.{or_step, walked}
-use Rattle.activations.specs.BadLastsAt.{any_bad_last_t, any_branch_t, body_has_bad_last_t, condition_has_bad_last_t, equation_has_bad_last_t, has_bad_last_t, scope_has_bad_last_t}
+use Rattle.activations.specs.BadLastsAt.{any_branch_t, body_has_bad_last_t, condition_has_bad_last_t, equation_has_bad_last_t, has_bad_last_t, scope_has_bad_last_t}
 use Rattle.activations.proofs.Moving.{ended}
 
 module _ (ns : List Name) (s : List ℕ) (last : ℕ) where
@@ -40,34 +39,22 @@ module _ (ns : List Name) (s : List ℕ) (last : ℕ) where
   unfolding body_has_bad_last_t
   body-misused at e r f g = g ∙ ap (scope_has_bad_last_t ns s last) f
 
-  pub all_first : (a : Act) (x : Bool) → x ≡ any_branch_t ns s (condition_has_bad_last_t ns s last) a.branches → x ≡ true → true ≡ any_bad_last_t ns s last a
-  unfolding any_bad_last_t
-  all_first a x e f = ap (λ y. y || (any_branch_t ns s (body_has_bad_last_t ns s last) a.branches || scope_has_bad_last_t ns s last a.other)) (sym f ∙ e)
-
-  pub all-second : (a : Act) (x y : Bool) → x ≡ any_branch_t ns s (condition_has_bad_last_t ns s last) a.branches → x ≡ false → y ≡ any_branch_t ns s (body_has_bad_last_t ns s last) a.branches → y ≡ true → true ≡ any_bad_last_t ns s last a
-  unfolding any_bad_last_t
-  all-second a x y e f g h = (λ i. (sym f ∙ e) i || ((sym h ∙ g) i || scope_has_bad_last_t ns s last a.other))
-
-  pub all-third : (a : Act) (x y r : Bool) → x ≡ any_branch_t ns s (condition_has_bad_last_t ns s last) a.branches → x ≡ false → y ≡ any_branch_t ns s (body_has_bad_last_t ns s last) a.branches → y ≡ false → r ≡ scope_has_bad_last_t ns s last a.other → r ≡ any_bad_last_t ns s last a
-  unfolding any_bad_last_t
-  all-third a x y r e f g h k = (λ i. (sym f ∙ e) i || ((sym h ∙ g) i || k i))
-
 pub branches-is : (ns : List Name) (s : List ℕ) (f : ℕ → Bool) (at : ℕ) (c : Number) (r : Bool) → c ≡ number_in s at → r ≡ any_t f (branch_end ns s) c.value c.next → r ≡ any_branch_t ns s f at
 unfolding any_branch_t
 branches-is ns s f at c r e g = on c _ _ r e g
 
 -- a loop that looks for one
 module _ (f : ℕ → Bool) (next : ℕ → ℕ) where
-  pub any-hit : (n p : ℕ) (x z : Bool) → 0 < n → x ≡ f p → x ≡ true → any_t f next n p ≡ z → true ≡ z
+  pub any-hit : (n p : ℕ) (x z : Bool) {rest : ℕ} → n ≡ suc rest → x ≡ f p → x ≡ true → any_t f next n p ≡ z → true ≡ z
   unfolding any_t
   any-hit zero p x z l e g h = absurd (omega arith)
-  any-hit (suc n) p x z l e g h = ap (λ y. y || any_t f next n (next p)) (sym g ∙ e) ∙ h
+  any-hit (suc n) p x z {rest} l e g h = ap (λ y. y || any_t f next n (next p)) (sym g ∙ e) ∙ h
 
-  pub any-on : (n p q : ℕ) (x z : Bool) → 0 < n → x ≡ f p → x ≡ false → q ≡ next p → any_t f next n p ≡ z → any_t f next (n - 1) q ≡ z
+  pub any-on : (n p q : ℕ) (x z : Bool) {rest : ℕ} → n ≡ suc rest → x ≡ f p → x ≡ false → q ≡ next p → any_t f next n p ≡ z → any_t f next rest q ≡ z
   unfolding any_t
   any-on zero p q x z l e g k h = absurd (omega arith)
-  any-on (suc n) p q x z l e g k h =
-      let i : suc n - 1 ≡ n = omega arith in
+  any-on (suc n) p q x z {rest} l e g k h =
+      let i : rest ≡ n = omega arith in
       ap (λ y. any_t f next y q) i ∙ ap (any_t f next n) k ∙ ap (λ y. y || any_t f next n (next p)) (sym g ∙ e) ∙ h
 
   pub any-end : (n p : ℕ) (z : Bool) → n ≤ 0 → any_t f next n p ≡ z → false ≡ z

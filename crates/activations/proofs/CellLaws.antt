@@ -1,55 +1,50 @@
 -- Laws for tables of 16-bit words.
-use Prim.Native.Nat.{ℕ, zero, suc, ◌+◌, ◌-◌, ◌%◌, ◌<◌, ◌≤◌, min}
+use Prim.Native.Nat.{ℕ, zero, suc, ◌+◌, ◌-◌, ◌<◌, ◌≤◌, min}
 use native.Mathlib.Omega.{arith}
 use mathlib.Core.List.{List}
 use mathlib.Core.Logic.{⊎_elim}
-use mathlib.Core.Path.{◌≡◌, refl, sym, ap, ◌∙◌}
-use lib.ListN.{length, get_or, set, get_or-eq_default}
-use lib.Seq.{set_out}
+use mathlib.Core.Path.{◌≡◌, refl, sym, ◌∙◌}
+use lib.ListN.{length, get_or, set, get_or-eq_default, take, drop, replicate, length-append, length-drop}
+use lib.Seq.{get_or-set_other}
+use Rattle.std.proofs.lemmas.List.{same_lists, places, get_or_default, length-replicate}
+use mathlib.Core.List.{◌++◌}
 use Rattle.wire.proofs.Writers.{lt-or-le}
 use Rattle.machines.specs.OwnersAt.{fill_t}
-use Rattle.machines.proofs.OwnerLaws.{fill_done, fill_start}
-use Rattle.activations.specs.Cells.{clear_t, copy_t, put_t}
+use Rattle.machines.proofs.TablesFilled.{fill-at, fill-length}
+use Rattle.activations.specs.Cells.{clear_t, copy_t}
 
-pub put_is : (t : List ℕ) (i v : ℕ) → set t i (v % 65536) ≡ put_t t i v
-unfolding put_t
-put_is t i v = refl
+-- what is filled, cell by cell
+module _ (f : ℕ → ℕ) where
+  fill-after : (n i : ℕ) (t : List ℕ) (j : ℕ) → i + n ≤ j → get_or (fill_t f n i t) j 0 ≡ get_or t j 0
+  unfolding fill_t
+  fill-after zero i t j h = refl
+  fill-after (suc n) i t j h = fill-after n (suc i) (set t i (f i)) j (omega arith) ∙ get_or-set_other t i j (f i) 0 (λ e. omega arith)
 
-pub put-out : (t : List ℕ) (i v : ℕ) → length t ≤ i → t ≡ put_t t i v
-unfolding put_t
-put-out t i v h = sym (set_out t i (v % 65536) h)
+  filled_is : (n : ℕ) (t u : List ℕ) → length u ≡ length t → ((j : ℕ) → j < length t → j < n → get_or u j 0 ≡ f j) → ((j : ℕ) → n ≤ j → get_or u j 0 ≡ get_or t j 0) → u ≡ fill_t f n 0 t
+  filled_is n t u e g h =
+      same_lists u (fill_t f n 0 t) (e ∙ sym (fill-length f n 0 t)) (λ k d l.
+      let m : k < length (fill_t f n 0 t) = omega (arith, fill-length f n 0 t) in
+      get_or_default u k d 0 l
+      ∙ ⊎_elim
+      (λ (b : k < n). g k (omega arith) b ∙ sym (fill-at f n 0 t k (omega arith) (omega arith) (omega arith)))
+      (λ b. h k b ∙ sym (fill-after n 0 t k (omega arith)))
+      (lt-or-le k n)
+      ∙ get_or_default (fill_t f n 0 t) k 0 d m)
 
--- past the table's end nothing is put
-fill-out : (f : ℕ → ℕ) (n i : ℕ) (t : List ℕ) → length t ≤ i → fill_t f n i t ≡ t
-unfolding fill_t
-fill-out f zero i t h = refl
-fill-out f (suc n) i t h = ap (fill_t f n (suc i)) (set_out t i (f i) h) ∙ fill-out f n (suc i) t (omega arith)
-
--- where the functions are one from i on
-fill-same : (f g : ℕ → ℕ) (n i : ℕ) (t : List ℕ) → ((j : ℕ) → i ≤ j → f j ≡ g j) → fill_t f n i t ≡ fill_t g n i t
-unfolding fill_t
-fill-same f g zero i t h = refl
-fill-same f g (suc n) i t h = ap (λ y. fill_t f n (suc i) (set t i y)) (h i (omega arith)) ∙ fill-same f g n (suc i) (set t i (g i)) (λ j l. h j (omega arith))
-
--- as a loop puts them, up to n or the table's end
-pub filled-up : (f : ℕ → ℕ) (n m i : ℕ) (t z : List ℕ) → m ≡ min (0 + n) (length t) → m ≤ i → fill_t f (n - i) i t ≡ z → t ≡ z
-filled-up f n m i t z e l h = ⊎_elim
-    (λ g. sym (fill-out f (n - i) i t (omega arith)) ∙ h)
-    (λ g. fill_done f n i t z g h)
-    (lt-or-le i n)
-
-pub cleared : (n : ℕ) (t z : List ℕ) → t ≡ fill_t (λ j. 0) (n - 0) 0 z → t ≡ clear_t n z
+pub cleared : (n e : ℕ) (t z : List ℕ) → e ≡ min n (length t) → z ≡ replicate e 0 → z ++ drop e t ≡ clear_t n t
 unfolding clear_t
-cleared n t z e = e ∙ fill_start (λ j. 0) n z
+cleared n e t z m c = filled_is (λ i. 0) n t (z ++ drop e t)
+    (rw c (omega (arith, length-append (replicate e 0) (drop e t), length-drop e t, length-replicate {A = ℕ})))
+    (λ j l b. rw c (grind (arith, places)))
+    (λ j b. rw c (grind (arith, places)))
 
 -- where the other table ends the rest is zero
-pub copied : (from : List ℕ) (n m k i : ℕ) (t u z : List ℕ) → m ≡ min (0 + n) (length t) → k ≡ min (0 + m) (length from) → i ≤ k → k ≤ i → fill_t (λ j. get_or from j 0) (n - i) i t ≡ fill_t (λ j. get_or from j 0) n 0 z
-    → u ≡ fill_t (λ j. 0) (n - k) k t → u ≡ copy_t from n z
+pub copied : (from to z y : List ℕ) (n e k : ℕ) → e ≡ min n (length to) → k ≡ min e (length from) → y ≡ take k from → z ≡ replicate (e - k) 0
+    → take k (y ++ drop k to) ++ (z ++ drop (e - k) (drop k (y ++ drop k to))) ≡ copy_t from n to
 unfolding copy_t
-copied from n m k i t u z e f l h g d =
-    let x : i ≡ k = omega arith in
-    d ∙ ⊎_elim
-    (λ (b : k < m). fill-same (λ j. 0) (λ j. get_or from j 0) (n - k) k t (λ j q. sym (get_or-eq_default from 0 (omega arith))))
-    (λ b. sym (filled-up (λ j. 0) n m k t _ e b refl) ∙ filled-up (λ j. get_or from j 0) n m k t _ e b refl)
-    (lt-or-le k m)
-    ∙ ap (λ y. fill_t (λ j. get_or from j 0) (n - y) y t) (sym x) ∙ g
+copied from to z y n e k m l c d =
+    let h : k ≤ length to = omega (arith, m, l) in
+    filled_is (λ i. get_or from i 0) n to (take k (y ++ drop k to) ++ (z ++ drop (e - k) (drop k (y ++ drop k to))))
+    (rw (c, d) (grind (arith, places)))
+    (λ j b u. rw (c, d) (⊎_elim (λ (g : j < k). grind (arith, places)) (λ (g : k ≤ j). let o : get_or from j 0 ≡ 0 = get_or-eq_default from 0 (omega arith) in rw o (grind (arith, places))) (lt-or-le j k)))
+    (λ j u. rw (c, d) (grind (arith, places)))

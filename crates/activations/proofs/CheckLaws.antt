@@ -1,8 +1,8 @@
 -- Laws for the code that checks activations, step by step.
-use Prim.Native.Nat.{ℕ, zero, suc, ◌+◌, ◌-◌, ◌%◌, ◌<◌, ◌≤◌}
+use Prim.Native.Nat.{ℕ, zero, suc, ◌+◌, ◌%◌, ◌<◌, ◌≤◌}
 use native.Mathlib.Omega.{arith}
 use mathlib.Core.List.{List}
-use mathlib.Core.Bool.{Bool, true, false, cond, ◌&&◌, ◌||◌}
+use mathlib.Core.Bool.{Bool, true, false, cond, ◌||◌}
 use mathlib.Core.Path.{◌≡◌, sym, ap, ◌∙◌}
 use lib.ListN.{length, get_or, set}
 use lib.Dec.{eqb, ltb}
@@ -21,29 +21,18 @@ use Rattle.activations.specs.BadLastsAt.{any_bad_last_t, any_branch_t}
 use Rattle.activations.specs.Passes.{pass_t}
 use Rattle.activations.specs.ChecksAt.{assign_branches_t, assign_scope_t, assign_t, assigned_t, checks_t, has_empty_left_t, in_scopes_t, nameless_t, or_else_t, over_equation, refused_t, repeated_in, repeated_t, scope_has_empty_left_t, scope_name_t, unassigned_t}
 
--- a single left name that all scopes before assign, and any other equation
-module _ (s : List ℕ) where
-  pub assign-hit : (k p : ℕ) (l x : Number) (m : ℕ) (b : Bool) (t u : List ℕ) → l ≡ number_in s p → x ≡ number_in s l.next → m ≡ get_or t x.value 0 → b ≡ eqb l.value 1 && eqb m k → b ≡ true → u ≡ set t x.value ((k + 1) % 65536) → u ≡ assign_t s k p t
-  unfolding assign_t put_t
-  assign-hit k p l x m b t u e f g h i j =
-      on l _ _ _ e (on x _ _ _ f (let d : eqb l.value 1 && eqb (get_or t x.value 0) k ≡ true = ap (λ y. eqb l.value 1 && eqb y k) (sym g) ∙ sym h ∙ i in rw d (j ∙ let v : k + 1 ≡ suc k = omega arith in ap (λ y. set t x.value (y % 65536)) v)))
-
-  pub assign-miss : (k p : ℕ) (l x : Number) (m : ℕ) (b : Bool) (t : List ℕ) → l ≡ number_in s p → x ≡ number_in s l.next → m ≡ get_or t x.value 0 → b ≡ eqb l.value 1 && eqb m k → b ≡ false → t ≡ assign_t s k p t
-  unfolding assign_t
-  assign-miss k p l x m b t e f g h i = on l _ _ _ e (on x _ _ _ f (let d : eqb l.value 1 && eqb (get_or t x.value 0) k ≡ false = ap (λ y. eqb l.value 1 && eqb y k) (sym g) ∙ sym h ∙ i in rw d))
-
 module _ (ns : List Name) (s : List ℕ) where
   -- the loop over branches' names: one that stood before, one more, the end
-  pub repeated-hit : (n p : ℕ) (i : Number) (m : ℕ) (t : List ℕ) (z : ℕ) → 0 < n → i ≡ number_in s p → m ≡ get_or t i.value 0 → (m ≡ 0 → ⊥) → repeated_t ns s n p t ≡ z → i.value ≡ z
+  pub repeated-hit : (n p : ℕ) (i : Number) (m : ℕ) (t : List ℕ) (z : ℕ) {rest : ℕ} → n ≡ suc rest → i ≡ number_in s p → m ≡ get_or t i.value 0 → (m ≡ 0 → ⊥) → repeated_t ns s n p t ≡ z → i.value ≡ z
   unfolding repeated_t
   repeated-hit zero p i m t z l e f g h = absurd (omega arith)
-  repeated-hit (suc n) p i m t z l e f g h = on i _ _ _ e (rw (ne_eqb (get_or t i.value 0) 0 (λ y. g (f ∙ y)))) ∙ h
+  repeated-hit (suc n) p i m t z {rest} l e f g h = on i _ _ _ e (rw (ne_eqb (get_or t i.value 0) 0 (λ y. g (f ∙ y)))) ∙ h
 
-  pub repeated-on : (n p q : ℕ) (i : Number) (m : ℕ) (t u : List ℕ) (z : ℕ) → 0 < n → i ≡ number_in s p → m ≡ get_or t i.value 0 → m ≡ 0 → u ≡ set t i.value (1 % 65536) → q ≡ branch_end ns s p → repeated_t ns s n p t ≡ z → repeated_t ns s (n - 1) q u ≡ z
+  pub repeated-on : (n p q : ℕ) (i : Number) (m : ℕ) (t u : List ℕ) (z : ℕ) {rest : ℕ} → n ≡ suc rest → i ≡ number_in s p → m ≡ get_or t i.value 0 → m ≡ 0 → u ≡ set t i.value (1 % 65536) → q ≡ branch_end ns s p → repeated_t ns s n p t ≡ z → repeated_t ns s rest q u ≡ z
   unfolding repeated_t put_t
   repeated-on zero p q i m t u z l e f g h j k = absurd (omega arith)
-  repeated-on (suc n) p q i m t u z l e f g h j k =
-      let d : suc n - 1 ≡ n = omega arith in
+  repeated-on (suc n) p q i m t u z {rest} l e f g h j k =
+      let d : rest ≡ n = omega arith in
       on i _ _ _ e (rw (eq-eqb (get_or t i.value 0) 0 (sym f ∙ g)) (λ y. repeated_t ns s (d y) (j y) (h y))) ∙ k
 
   pub repeated-end : (n p : ℕ) (t : List ℕ) (z : ℕ) → n ≤ 0 → repeated_t ns s n p t ≡ z → length ns ≡ z
@@ -81,17 +70,17 @@ module _ (ns : List Name) (s : List ℕ) where
 
   -- the loop over outputs: one that is not assigned everywhere, one more, the end
   module _ (a : Act) (t : List ℕ) where
-    pub unassigned-hit : (n p : ℕ) (o : Number) (k x : ℕ) (r z : Refused) → 0 < n → o ≡ number_in s p → k ≡ get_or t o.value 0 → k ≤ a.n → x ≡ scope_name_t ns s a k → r ≡ refused_t 11 o.value x → unassigned_t ns s a t n p ≡ z → r ≡ z
+    pub unassigned-hit : (n p : ℕ) (o : Number) (k x : ℕ) (r z : Refused) {rest : ℕ} → n ≡ suc rest → o ≡ number_in s p → k ≡ get_or t o.value 0 → k ≤ a.n → x ≡ scope_name_t ns s a k → r ≡ refused_t 11 o.value x → unassigned_t ns s a t n p ≡ z → r ≡ z
     unfolding unassigned_t
     unassigned-hit zero p o k x r z l e f g h i j = absurd (omega arith)
-    unassigned-hit (suc n) p o k x r z l e f g h i j =
+    unassigned-hit (suc n) p o k x r z {rest} l e f g h i j =
         i ∙ ap (refused_t 11 o.value) (h ∙ ap (scope_name_t ns s a) f) ∙ on o _ _ _ e (rw (le-ltb a.n (get_or t o.value 0) (omega (arith, f)))) ∙ j
 
-    pub unassigned-on : (n p q : ℕ) (o : Number) (k : ℕ) (z : Refused) → 0 < n → o ≡ number_in s p → k ≡ get_or t o.value 0 → a.n < k → q ≡ end_of (port_in ns s p) → unassigned_t ns s a t n p ≡ z → unassigned_t ns s a t (n - 1) q ≡ z
+    pub unassigned-on : (n p q : ℕ) (o : Number) (k : ℕ) (z : Refused) {rest : ℕ} → n ≡ suc rest → o ≡ number_in s p → k ≡ get_or t o.value 0 → a.n < k → q ≡ end_of (port_in ns s p) → unassigned_t ns s a t n p ≡ z → unassigned_t ns s a t rest q ≡ z
     unfolding unassigned_t
     unassigned-on zero p q o k z l e f g h j = absurd (omega arith)
-    unassigned-on (suc n) p q o k z l e f g h j =
-        let d : suc n - 1 ≡ n = omega arith in
+    unassigned-on (suc n) p q o k z {rest} l e f g h j =
+        let d : rest ≡ n = omega arith in
         on o _ _ _ e (rw (lt-ltb a.n (get_or t o.value 0) (omega (arith, f))) (λ y. unassigned_t ns s a t (d y) (h y))) ∙ j
 
     pub unassigned-end : (n p : ℕ) (r z : Refused) (names : ℕ) → length ns ≡ names → n ≤ 0 → r ≡ refused_t 0 names names → unassigned_t ns s a t n p ≡ z → r ≡ z

@@ -1,18 +1,15 @@
 -- Laws of clocks: their items as the code writes them, and those of the definitions.
-use Prim.Native.Nat.{ℕ, zero, suc, ◌-◌, ◌<◌, ◌≤◌}
+use Prim.Native.Nat.{ℕ, zero, suc, ◌<◌, ◌≤◌}
 use native.Mathlib.Omega.{arith}
 use mathlib.Core.List.{List, [], ◌∷◌, ◌++◌}
-use mathlib.Core.Bool.{cond}
 use mathlib.Core.Path.{◌≡◌, refl, sym, ap, ◌∙◌}
 use borrow.Author.Tests.{le-ltb, lt-ltb}
-use Rattle.wire.specs.declared.writer.Writer.{Writer}
-use Rattle.wire.specs.Writer.{State, put, puts, state_of}
+use Rattle.wire.specs.Writer.{State, put, puts}
 use Rattle.pack_rules.specs.Names.{Name}
 use Rattle.pack_rules.specs.Syntax.{Expr}
 use Rattle.pack_rules.specs.Write.{Item, expr_items, flag_byte, nm, raw}
 use Rattle.pack.specs.Intern.{put_item, put_name, render}
 use Rattle.pack.proofs.Interns.{render-append}
-use Rattle.machines.proofs.RowLaws.{left-same}
 use Rattle.activations.specs.declared.made_names.Var.TheVariants as vr
 use Rattle.activation_rules.specs.MadeNames.{Scope, branch, clock_var, else_scope}
 use Rattle.activations.specs.Vars.{branch_var, scope_at}
@@ -46,13 +43,8 @@ under-step : (old : List ℕ) (a : Name) (n : ℕ) (s : State) → render old (u
 unfolding under_items
 under-step old a n s = render-append old (when_items a n 0) (under_items a n) s
 
-pub under_more : (old : List ℕ) (a : Name) (n k : ℕ) (o m : List ℕ) (w : Writer) (s z : State) → 0 < n → state_of o m w ≡ render old (when_items a (n - 1) 0) s → k ≡ cond w.full 0 (n - 1) → render old (under_items a n) s ≡ z → render old (under_items a k) (state_of o m w) ≡ z
-under_more old a zero k o m w s z l e g h = absurd (omega arith)
-under_more old a (suc n) k o m w s z l e g h =
-    let j : suc n - 1 ≡ n = omega arith in
-    left-same old (under_items a) o m w n k (g ∙ ap (cond w.full 0) j)
-    ∙ ap (render old (under_items a n)) (e ∙ ap (λ (i : ℕ). render old (when_items a i 0) s) j)
-    ∙ sym (under-step old a n s) ∙ h
+pub under_more : (old : List ℕ) (a : Name) (n k : ℕ) (x s z : State) → k ≡ suc n → x ≡ render old (when_items a n 0) s → render old (under_items a k) s ≡ z → render old (under_items a n) x ≡ z
+under_more old a n k x s z l e h = ap (render old (under_items a n)) e ∙ sym (under-step old a n s) ∙ ap (λ i. render old (under_items a i) s) (sym l) ∙ h
 
 pub under_none : (old : List ℕ) (a : Name) (n : ℕ) (s z : State) → n ≤ 0 → render old (under_items a n) s ≡ z → s ≡ z
 unfolding under_items render

@@ -1,19 +1,16 @@
 -- Laws of guards: as the code writes them, by the number of branches.
-use Prim.Native.Nat.{ℕ, zero, suc, ◌+◌, ◌-◌, ◌<◌, ◌≤◌}
+use Prim.Native.Nat.{ℕ, zero, suc, ◌+◌, ◌-◌, ◌≤◌}
 use native.Mathlib.Numerals.{add-one}
 use native.Mathlib.Omega.{arith}
 use mathlib.Core.List.{List, [], ◌∷◌}
-use mathlib.Core.Bool.{cond}
 use mathlib.Core.Path.{◌≡◌, refl, sym, ap, ◌∙◌}
 use lib.ListN.{length}
-use Rattle.wire.specs.declared.writer.Writer.{Writer}
-use Rattle.wire.specs.Writer.{State, state_of}
+use Rattle.wire.specs.Writer.{State}
 use Rattle.pack_rules.specs.Names.{Name}
 use Rattle.pack_rules.specs.Syntax.{Equation, Expr, e_var}
 use Rattle.pack_rules.specs.Write.{each, equation_items, expr_items, list, name_items}
 use Rattle.pack.specs.Intern.{render}
 use Rattle.pack.proofs.Interns.{render-append}
-use Rattle.machines.proofs.RowLaws.{left-same}
 use Rattle.activations.specs.declared.made_names.Var.TheVariants as vr
 use Rattle.activation_rules.specs.MadeNames.{clock_var, flag_var}
 use Rattle.activations.specs.Vars.{branch_var}
@@ -49,21 +46,15 @@ module _ (old : List ℕ) (a : Name) where
   guards-step k n s = render-append old (equation_items (guard_of a k)) (each equation_items (guards_from a (suc k) n)) s
 
   -- the loop over guards: one more, and the end
-  pub guards_more : (k n r : ℕ) (o m : List ℕ) (w : Writer) (s z : State) → 1 < n → state_of o m w ≡ render old (equation_items (guard_of a k)) s → r ≡ cond w.full 0 (n - 1) → render old (each equation_items (guards_from a k (n - 1))) s ≡ z → render old (each equation_items (guards_from a (k + 1) (r - 1))) (state_of o m w) ≡ z
-  guards_more k zero r o m w s z l e g h = absurd (omega arith)
-  guards_more k (suc zero) r o m w s z l e g h = absurd (omega arith)
-  guards_more k (suc (suc n)) r o m w s z l e g h =
-      let i : suc (suc n) - 1 ≡ suc n = omega arith in
-      let j : suc n - 1 ≡ n = omega arith in
-      left-same old (λ x. each equation_items (guards_from a (k + 1) (x - 1))) o m w (suc n) r (g ∙ ap (cond w.full 0) i)
-      ∙ (λ x. render old (each equation_items (guards_from a (add-one k x) (j x))) (e x))
-      ∙ sym (guards-step k n s) ∙ ap (λ (x : ℕ). render old (each equation_items (guards_from a k x)) s) (sym i) ∙ h
+  pub guards_more : (k n : ℕ) (x s z : State) {rest : ℕ} → n ≡ suc rest → x ≡ render old (equation_items (guard_of a k)) s → render old (each equation_items (guards_from a k n)) s ≡ z → render old (each equation_items (guards_from a (k + 1) rest)) x ≡ z
+  guards_more k n x s z {rest} l e h =
+      (λ y. render old (each equation_items (guards_from a (add-one k y) rest)) (e y))
+      ∙ sym (guards-step k rest s) ∙ ap (λ y. render old (each equation_items (guards_from a k y)) s) (sym l) ∙ h
 
-  pub guards_none : (k n : ℕ) (s z : State) → n ≤ 1 → render old (each equation_items (guards_from a k (n - 1))) s ≡ z → s ≡ z
+  pub guards_none : (k n : ℕ) (s z : State) → n ≤ 0 → render old (each equation_items (guards_from a k n)) s ≡ z → s ≡ z
   unfolding guards_from each render
   guards_none k zero s z l h = h
-  guards_none k (suc zero) s z l h = h
-  guards_none k (suc (suc n)) s z l h = absurd (omega arith)
+  guards_none k (suc n) s z l h = absurd (omega arith)
 
   pub guards-of : (n : ℕ) (cs : List Expr) (s : State) → length cs ≡ n → render old (each equation_items (guards_from a 1 (n - 1))) s ≡ render old (each equation_items (guard_equations a 1 (tail_of cs))) s
   guards-of n cs s e = ap (λ (es : List Equation). render old (each equation_items es) s) (sym (guards-are a n cs e))

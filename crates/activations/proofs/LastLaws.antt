@@ -30,9 +30,6 @@ row_step : (t : List ℕ) (v n i : ℕ) → row_t t v (suc n) i ≡ cond (eqb (w
 unfolding row_t
 row_step t v n i = refl
 
-pub row-start : (t : List ℕ) (v n : ℕ) → row_t t v (n - 0) 0 ≡ row_t t v n 0
-row-start t v n = let k : n - 0 ≡ n = omega arith in ap (λ y. row_t t v y 0) k
-
 pub row_here : (t : List ℕ) (v n h w z : ℕ) → h < n → w ≡ word_t t h 0 → w ≡ v → row_t t v (n - h) h ≡ z → h ≡ z
 row_here t v n h w z l e f g =
     let k : n - h ≡ suc (n - (h + 1)) = omega arith in

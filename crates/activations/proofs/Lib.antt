@@ -4,6 +4,7 @@ pub mod GuardLaws
 pub mod MergeLaws
 pub mod MergesEmitted
 pub mod CountLaws
+pub mod Counting
 pub mod CellLaws
 pub mod PackInfoLaws
 pub mod NodesRead

@@ -1,5 +1,5 @@
 -- Laws for the code that goes over the locals of an activation, step by step.
-use Prim.Native.Nat.{ℕ, zero, suc, ◌+◌, ◌-◌, ◌%◌, ◌<◌, ◌≤◌}
+use Prim.Native.Nat.{ℕ, zero, suc, ◌+◌, ◌%◌, ◌<◌, ◌≤◌}
 use native.Mathlib.Omega.{arith}
 use mathlib.Core.List.{List, [], ◌∷◌}
 use mathlib.Core.Bool.{Bool, true}
@@ -73,49 +73,41 @@ module _ (ns : List Name) (s old : List ℕ) (made : Bool) where
 
   module _ (a : Name) where
     -- the loop over flags: a pair more, the last one, none
-    pub flags-pair : (k m : ℕ) (x y z t : Left) → 1 < m → x ≡ branch_local_t ns s old made a vr.Flag k z → y ≡ branch_local_t ns s old made a vr.Untaken k x → flag_locals_t ns s old made a k m z ≡ t → flag_locals_t ns s old made a (k + 1) (m - 1) y ≡ t
+    pub flags-pair : (k m : ℕ) (x y z t : Left) {rest : ℕ} → m ≡ suc rest → 0 < rest → x ≡ branch_local_t ns s old made a vr.Flag k z → y ≡ branch_local_t ns s old made a vr.Untaken k x → flag_locals_t ns s old made a k m z ≡ t → flag_locals_t ns s old made a (k + 1) rest y ≡ t
     unfolding flag_locals_t
-    flags-pair k zero x y z t l e f h = absurd (omega arith)
-    flags-pair k (suc zero) x y z t l e f h = absurd (omega arith)
-    flags-pair k (suc (suc m)) x y z t l e f h =
-        let i : suc (suc m) - 1 ≡ suc m = omega arith in
+    flags-pair k m x y z t {rest = zero} l b e f h = absurd (omega arith)
+    flags-pair k m x y z t {rest = suc n} l b e f h =
         let j : k + 1 ≡ suc k = omega arith in
-        (λ u. flag_locals_t ns s old made a (j u) (i u) ((f ∙ ap (branch_local_t ns s old made a vr.Untaken k) e) u)) ∙ h
+        (λ u. flag_locals_t ns s old made a (j u) (suc n) ((f ∙ ap (branch_local_t ns s old made a vr.Untaken k) e) u))
+        ∙ ap (λ i. flag_locals_t ns s old made a k i z) (sym l) ∙ h
 
-    pub flags-last : (k m : ℕ) (x z t : Left) → m ≤ 1 → (m ≡ 0 → ⊥) → x ≡ branch_local_t ns s old made a vr.Flag k z → flag_locals_t ns s old made a k m z ≡ t → x ≡ t
+    pub flags-last : (k m : ℕ) (x z t : Left) {rest : ℕ} → m ≡ suc rest → rest ≤ 0 → x ≡ branch_local_t ns s old made a vr.Flag k z → flag_locals_t ns s old made a k m z ≡ t → flag_locals_t ns s old made a (k + 1) rest x ≡ t
     unfolding flag_locals_t
-    flags-last k zero x z t l n e h = absurd (n refl)
-    flags-last k (suc zero) x z t l n e h = e ∙ h
-    flags-last k (suc (suc m)) x z t l n e h = absurd (omega arith)
+    flags-last k m x z t {rest = zero} l b e h = e ∙ ap (λ i. flag_locals_t ns s old made a k i z) (sym l) ∙ h
+    flags-last k m x z t {rest = suc n} l b e h = absurd (omega arith)
 
-    pub flags-none : (k m : ℕ) (z t : Left) → m ≡ 0 → flag_locals_t ns s old made a k m z ≡ t → z ≡ t
+    pub flags-none : (k m : ℕ) (z t : Left) → m ≤ 0 → flag_locals_t ns s old made a k m z ≡ t → z ≡ t
     unfolding flag_locals_t
     flags-none k zero z t e h = h
-    flags-none k (suc m) z t e h = absurd (omega (arith, e))
+    flags-none k (suc m) z t e h = absurd (omega arith)
 
     -- over guards
-    pub clocks-more : (k m : ℕ) (x z t : Left) → 1 < m → x ≡ branch_local_t ns s old made a vr.Clock k z → clock_locals_t ns s old made a k (m - 1) z ≡ t → clock_locals_t ns s old made a (k + 1) (m - 1 - 1) x ≡ t
+    pub clocks-more : (k m : ℕ) (x z t : Left) {rest : ℕ} → m ≡ suc rest → x ≡ branch_local_t ns s old made a vr.Clock k z → clock_locals_t ns s old made a k m z ≡ t → clock_locals_t ns s old made a (k + 1) rest x ≡ t
     unfolding clock_locals_t
-    clocks-more k zero x z t l e h = absurd (omega arith)
-    clocks-more k (suc zero) x z t l e h = absurd (omega arith)
-    clocks-more k (suc (suc m)) x z t l e h =
-        let i : suc (suc m) - 1 ≡ suc m = omega arith in
-        let j : suc (suc m) - 1 - 1 ≡ m = omega arith in
+    clocks-more k m x z t {rest} l e h =
         let g : k + 1 ≡ suc k = omega arith in
-        (λ u. clock_locals_t ns s old made a (g u) (j u) (e u)) ∙ ap (λ y. clock_locals_t ns s old made a k y z) (sym i) ∙ h
+        (λ u. clock_locals_t ns s old made a (g u) rest (e u)) ∙ ap (λ y. clock_locals_t ns s old made a k y z) (sym l) ∙ h
 
-    pub clocks-done : (k m : ℕ) (z t : Left) → m ≤ 1 → clock_locals_t ns s old made a k (m - 1) z ≡ t → z ≡ t
+    pub clocks-done : (k m : ℕ) (z t : Left) → m ≤ 0 → clock_locals_t ns s old made a k m z ≡ t → z ≡ t
     unfolding clock_locals_t
     clocks-done k zero z t l h = h
-    clocks-done k (suc zero) z t l h = h
-    clocks-done k (suc (suc m)) z t l h = absurd (omega arith)
+    clocks-done k (suc m) z t l h = absurd (omega arith)
 
     -- over holders
     module _ (offsets lasts env : List ℕ) where
-      pub holders-more : (h n : ℕ) (x z t : Left) → 0 < n → x ≡ holder_local_t ns s old made a offsets lasts env h z → holder_locals_t ns s old made a offsets lasts env h n z ≡ t → holder_locals_t ns s old made a offsets lasts env (h + 3) (n - 1) x ≡ t
+      pub holders-more : (h n : ℕ) (x z t : Left) {rest next : ℕ} → n ≡ suc rest → next ≡ h + 3 → x ≡ holder_local_t ns s old made a offsets lasts env h z → holder_locals_t ns s old made a offsets lasts env h n z ≡ t → holder_locals_t ns s old made a offsets lasts env next rest x ≡ t
       unfolding holder_locals_t
-      holders-more h zero x z t l e g = absurd (omega arith)
-      holders-more h (suc n) x z t l e g = let i : suc n - 1 ≡ n = omega arith in (λ u. holder_locals_t ns s old made a offsets lasts env (h + 3) (i u) (e u)) ∙ g
+      holders-more h n x z t {rest} l d e g = (λ u. holder_locals_t ns s old made a offsets lasts env (d u) rest (e u)) ∙ ap (λ i. holder_locals_t ns s old made a offsets lasts env h i z) (sym l) ∙ g
 
       pub holders-done : (h n : ℕ) (z t : Left) → n ≤ 0 → holder_locals_t ns s old made a offsets lasts env h n z ≡ t → z ≡ t
       unfolding holder_locals_t

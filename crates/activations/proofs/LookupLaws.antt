@@ -1,14 +1,15 @@
 -- Laws for made names looked up, and that the short cut loses none.
-use Prim.Native.Nat.{ℕ, zero, suc, ◌+◌, ◌-◌, ◌<◌, ◌≤◌, min}
+use Prim.Native.Nat.{ℕ, zero, suc, ◌+◌, ◌<◌, ◌≤◌, min}
 use native.Mathlib.Omega.{arith}
 use mathlib.Core.List.{List, [], ◌∷◌}
-use mathlib.Core.Bool.{Bool, true, false, cond, ◌||◌}
+use mathlib.Core.Bool.{Bool, true, false, cond, ◌||◌, ◌&&◌, not}
 use mathlib.Core.Logic.{⊎_elim}
 use mathlib.Core.Path.{◌≡◌, refl, sym, ap, ◌∙◌}
 use lib.ListN.{length, take}
-use Rattle.wire.specs.Writer.{full, st, state_of}
+use Rattle.wire.specs.Writer.{st, state_of}
 use Rattle.wire.specs.declared.writer.Writer.{Writer}
 use Rattle.wire.proofs.Writers.{lt-or-le, take_part}
+use Rattle.pack.proofs.NameLaws.{same-is}
 use Rattle.pack_rules.specs.Names.{Name, eq_name}
 use Rattle.pack_rules.specs.Forms.{name_at}
 use Rattle.pack_rules.specs.Legal.{place}
@@ -18,44 +19,48 @@ use Rattle.machines.specs.EmitAt.{pack_name}
 use Rattle.activation_rules.specs.MadeNames.{act_prefix}
 use Rattle.activations.specs.Places.{any_t}
 use Rattle.activations.specs.Lookups.{MadeIs, is_made, made_at, place_built, some_made_t}
-use Rattle.activations.proofs.BadLastLaws.{any-end, any-hit, any-on}
+use Rattle.machines.proofs.Refused.{eq_name-turn}
+use Rattle.std.specs.List.{list_any, range_with_len, starts_with}
+use Rattle.std.specs.Cmp.Lexicographic.{pointwise}
+use lib.Dec.{eqb}
+use Rattle.std.proofs.Common.{add-one}
+use native.Mathlib.Nat.{zero-add}
 
-pub built-full : (t : Name → ℕ) (names : ℕ) (made : Bool) (buf : List ℕ) (w : Writer) → w.full ≡ true → names ≡ place_built t names made (state_of buf [] w)
-unfolding place_built state_of
-built-full t names made buf w e = rw e
+off : (b : Bool) → not b ≡ true → b ≡ false
+off true e = sym e
+off false e = refl
 
-pub built-none : (t : Name → ℕ) (names : ℕ) (made : Bool) (buf : List ℕ) (w : Writer) → w.full ≡ false → made ≡ false → names ≡ place_built t names made (state_of buf [] w)
-unfolding place_built state_of
-built-none t names made buf w e f = rw (e, f)
+on : (b : Bool) → not b ≡ false → b ≡ true
+on true e = refl
+on false e = sym e
 
-pub built-part : (t : Name → ℕ) (names : ℕ) (made : Bool) (buf : List ℕ) (w : Writer) (e r : ℕ) → w.full ≡ false → made ≡ true → e ≡ min (0 + w.at) (length buf) → r ≡ t (take e buf) → r ≡ place_built t names made (state_of buf [] w)
-unfolding place_built state_of
-built-part t names made buf w e r f g h i = rw (f, g) (i ∙ ap t (take_part buf w.at e h))
+module _ (t : Name → ℕ) (names : ℕ) (made : Bool) (buf : List ℕ) (w : Writer) where
+  pub built-full : not w.full ≡ false → names ≡ place_built t names made (state_of buf [] w)
+  unfolding place_built state_of
+  built-full e = let f = on w.full e in rw f
 
-pub made-is : (s offsets : List ℕ) (k : ℕ) (x y : List ℕ) (r : Bool) → x ≡ pack_name s offsets k → y ≡ slice_of x 0 6 → r ≡ eq_name y act_prefix → r ≡ made_at s offsets k
-unfolding made_at is_made
-made-is s offsets k x y r e f g = g ∙ ap (λ z. eq_name z act_prefix) (f ∙ ap (λ z. slice_of z 0 6) e)
+  pub built-none : not w.full ≡ true → made ≡ false → names ≡ place_built t names made (state_of buf [] w)
+  unfolding place_built state_of
+  built-none e f = let g = off w.full e in rw (g, f)
 
--- a loop by the index: one more, and the end
-module _ (f : ℕ → Bool) (n : ℕ) where
-  pub up-hit : (k : ℕ) (x z : Bool) → k < n → x ≡ f k → x ≡ true → any_t f suc (n - k) k ≡ z → true ≡ z
-  up-hit k x z l e g h = any-hit f suc (n - k) k x z (omega arith) e g h
+  pub built-part : (e r : ℕ) → not w.full ≡ true → made ≡ true → e ≡ min w.at (length buf) → r ≡ t (take e buf) → r ≡ place_built t names made (state_of buf [] w)
+  unfolding place_built state_of
+  built-part e r f g h i = let k = off w.full f in rw (k, g) (i ∙ ap t (take_part buf w.at e h))
 
-  pub up-on : (k : ℕ) (x z : Bool) → k < n → x ≡ f k → x ≡ false → any_t f suc (n - k) k ≡ z → any_t f suc (n - (k + 1)) (k + 1) ≡ z
-  up-on k x z l e g h =
-      let i : n - (k + 1) ≡ n - k - 1 = omega arith in
-      ap (λ y. any_t f suc y (k + 1)) i ∙ any-on f suc (n - k) k (k + 1) x z (omega arith) e g (omega arith) h
+pub made_is : (s offsets : List ℕ) (k : ℕ) (x : List ℕ) (r : Bool) → x ≡ pack_name s offsets k → r ≡ starts_with eqb x act_prefix → r ≡ made_at s offsets k
+unfolding made_at is_made act_prefix slice_of
+made_is s offsets k x r e f =
+    f ∙ same-is act_prefix (take 6 x) ∙ eq_name-turn act_prefix (take 6 x) ∙ ap (λ z. eq_name (take 6 z) act_prefix) e
 
-  pub up_start : any_t f suc (n - 0) 0 ≡ any_t f suc n 0
-  up_start = let i : n - 0 ≡ n = omega arith in ap (λ y. any_t f suc y 0) i
+-- one of the first n, as an iterator finds it
+any-range : (f : ℕ → Bool) (k n : ℕ) → list_any f (range_with_len k n) ≡ any_t f suc n k
+unfolding any_t
+any-range f k zero = refl
+any-range f k (suc n) = ap (λ z. f k || list_any f (range_with_len z n)) (add-one k) ∙ ap (λ z. f k || z) (any-range f (suc k) n)
 
-pub some-hit : (s offsets : List ℕ) (n k : ℕ) (x : Bool) → k < n → x ≡ made_at s offsets k → x ≡ true → any_t (made_at s offsets) suc (n - k) k ≡ any_t (made_at s offsets) suc n 0 → true ≡ some_made_t s offsets n
+pub some_made_is : (s offsets : List ℕ) (n : ℕ) (r : Bool) → r ≡ list_any (made_at s offsets) (range_with_len 0 n) → r ≡ some_made_t s offsets n
 unfolding some_made_t
-some-hit s offsets n k x l e g h = up-hit (made_at s offsets) n k x _ l e g h
-
-pub some_end : (s offsets : List ℕ) (n k : ℕ) → n ≤ k → any_t (made_at s offsets) suc (n - k) k ≡ any_t (made_at s offsets) suc n 0 → false ≡ some_made_t s offsets n
-unfolding some_made_t
-some_end s offsets n k l h = any-end (made_at s offsets) suc (n - k) k _ (omega arith) h
+some_made_is s offsets n r e = e ∙ any-range (made_at s offsets) 0 n
 
 -- none from k on
 none_from : (f : ℕ → Bool) (n k : ℕ) → any_t f suc n k ≡ false → (i : ℕ) → k ≤ i → i < k + n → f i ≡ false

@@ -1,15 +1,13 @@
 -- Laws of merges: by the number of branches they are those of the definition, and as the code writes them.
-use Prim.Native.Nat.{ℕ, zero, suc, ◌+◌, ◌-◌, ◌<◌, ◌≤◌}
+use Prim.Native.Nat.{ℕ, zero, suc, ◌+◌, ◌<◌, ◌≤◌}
 use native.Mathlib.Numerals.{add-one}
 use native.Mathlib.Omega.{arith}
 use mathlib.Core.List.{List, [], ◌∷◌, ◌++◌}
-use mathlib.Core.Bool.{cond}
 use mathlib.Core.Path.{◌≡◌, refl, sym, ap, ◌∙◌}
 use lib.ListN.{length}
 use borrow.Author.Tests.{le-ltb, lt-ltb}
 use Rattle.wire.specs.Bytes.{two}
-use Rattle.wire.specs.declared.writer.Writer.{Writer}
-use Rattle.wire.specs.Writer.{State, put, puts, state_of}
+use Rattle.wire.specs.Writer.{State, put, puts}
 use Rattle.pack_rules.specs.Names.{Name}
 use Rattle.pack_rules.specs.Syntax.{Expr, e_merge, e_var}
 use Rattle.pack_rules.specs.Read.{port_in}
@@ -20,7 +18,6 @@ use Rattle.wire.specs.declared.answer.Number.{Number}
 use Rattle.machines.specs.ResolvedIn.{end_of}
 use Rattle.machines.specs.CheckedReads.{number_in}
 use Rattle.machines.specs.EmitAt.{pack_name}
-use Rattle.machines.proofs.RowLaws.{left-same}
 use Rattle.machines.proofs.CheckedReadLaws.{on}
 use Rattle.activations.specs.declared.made_names.Var.TheVariants as vr
 use Rattle.activation_rules.specs.MadeNames.{Scope, branch, clock_var, else_scope, value_var}
@@ -62,13 +59,10 @@ module _ (old : List ℕ) (a o : Name) where
       ∙ render-append old (merge_head_items a o n k) (expr_items (merged_from a o (suc k) m)) s
 
   -- the loop over branches: one more, and the end
-  pub merged-more : (n k j r : ℕ) (p q : List ℕ) (w : Writer) (s z : State) → 0 < j → k + j ≤ n → state_of p q w ≡ render old (merge_head_items a o n k) s → r ≡ cond w.full 0 (j - 1) → render old (expr_items (merged_from a o k j)) s ≡ z → render old (expr_items (merged_from a o (k + 1) r)) (state_of p q w) ≡ z
-  merged-more n k zero r p q w s z l b e g h = absurd (omega arith)
-  merged-more n k (suc j) r p q w s z l b e g h =
-      let i : suc j - 1 ≡ j = omega arith in
-      left-same old (λ x. expr_items (merged_from a o (k + 1) x)) p q w j r (g ∙ ap (cond w.full 0) i)
-      ∙ (λ x. render old (expr_items (merged_from a o (add-one k x) j)) (e x))
-      ∙ sym (merged-step n k j s (omega (arith, b))) ∙ h
+  pub merged-more : (n k j : ℕ) (x s z : State) {rest : ℕ} → j ≡ suc rest → k < n → x ≡ render old (merge_head_items a o n k) s → render old (expr_items (merged_from a o k j)) s ≡ z → render old (expr_items (merged_from a o (k + 1) rest)) x ≡ z
+  merged-more n k j x s z {rest} l b e h =
+      (λ y. render old (expr_items (merged_from a o (add-one k y) rest)) (e y))
+      ∙ sym (merged-step n k rest s b) ∙ ap (λ y. render old (expr_items (merged_from a o k y)) s) (sym l) ∙ h
 
   pub merged-none : (n k j : ℕ) (s z : State) → j ≤ 0 → render old (expr_items (merged_from a o k j)) s ≡ z → render old (expr_items (e_var (value_var a (scope_at n n) o))) s ≡ z
   unfolding merged_from
@@ -88,13 +82,10 @@ module _ (old : List ℕ) (ns : List Name) (sb offsets : List ℕ) (a : Name) (c
   merges-step n p s = render-append old (merge_items a (number_in sb p).value (pack_name sb offsets (number_in sb p).value) cs) (merges_t ns sb offsets a cs n (end_of (port_in ns sb p))) s
 
   -- the loop over outputs: one more, and the end
-  pub merges-more : (n p k r : ℕ) (x : Number) (y : Name) (o m : List ℕ) (w : Writer) (s z : State) → 0 < n → x ≡ number_in sb p → y ≡ pack_name sb offsets x.value → state_of o m w ≡ render old (merge_items a x.value y cs) s → r ≡ end_of (port_in ns sb p) → k ≡ cond w.full 0 (n - 1) → render old (merges_t ns sb offsets a cs n p) s ≡ z → render old (merges_t ns sb offsets a cs k r) (state_of o m w) ≡ z
-  merges-more zero p k r x y o m w s z l e f b c g h = absurd (omega arith)
-  merges-more (suc n) p k r x y o m w s z l e f b c g h =
-      let j : suc n - 1 ≡ n = omega arith in
-      left-same old (λ i. merges_t ns sb offsets a cs i r) o m w n k (g ∙ ap (cond w.full 0) j)
-      ∙ (λ i. render old (merges_t ns sb offsets a cs n (c i)) ((b ∙ ap (λ (u : Name). render old (merge_items a x.value u cs) s) f ∙ ap (λ (u : Number). render old (merge_items a u.value (pack_name sb offsets u.value) cs) s) e) i))
-      ∙ sym (merges-step n p s) ∙ h
+  pub merges-more : (n p r : ℕ) (x : Number) (y : Name) (w s z : State) {rest : ℕ} → n ≡ suc rest → x ≡ number_in sb p → y ≡ pack_name sb offsets x.value → w ≡ render old (merge_items a x.value y cs) s → r ≡ end_of (port_in ns sb p) → render old (merges_t ns sb offsets a cs n p) s ≡ z → render old (merges_t ns sb offsets a cs rest r) w ≡ z
+  merges-more n p r x y w s z {rest} l e f b c h =
+      (λ i. render old (merges_t ns sb offsets a cs rest (c i)) ((b ∙ ap (λ (u : Name). render old (merge_items a x.value u cs) s) f ∙ ap (λ (u : Number). render old (merge_items a u.value (pack_name sb offsets u.value) cs) s) e) i))
+      ∙ sym (merges-step rest p s) ∙ ap (λ i. render old (merges_t ns sb offsets a cs i p) s) (sym l) ∙ h
 
   pub merges-none : (n p : ℕ) (s z : State) → n ≤ 0 → render old (merges_t ns sb offsets a cs n p) s ≡ z → s ≡ z
   unfolding merges_t render

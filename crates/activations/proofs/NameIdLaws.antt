@@ -63,17 +63,17 @@ module _ (s offsets : List ℕ) (names : ℕ) (a : Name) where
 
 -- the search for a row: found, one more, and the end
 module _ (lasts : List ℕ) (v : ℕ) where
-  pub row-found : (n h r t c : ℕ) → 0 < n → c ≡ get_or lasts h 0 → c ≡ v → r ≡ get_or lasts (h + 2) 0 → last_row_t lasts v n h ≡ t → r ≡ t
+  pub row-found : (n h r t c : ℕ) {rest : ℕ} → n ≡ suc rest → c ≡ get_or lasts h 0 → c ≡ v → r ≡ get_or lasts (h + 2) 0 → last_row_t lasts v n h ≡ t → r ≡ t
   unfolding last_row_t
   row-found zero h r t c l d e f g = absurd (omega arith)
-  row-found (suc n) h r t c l d e f g = f ∙ sym (ap (λ (b : Bool). cond b (get_or lasts (h + 2) 0) (last_row_t lasts v n (h + 3))) (eq-eqb (get_or lasts h 0) v (sym d ∙ e))) ∙ g
+  row-found (suc n) h r t c {rest} l d e f g = f ∙ sym (ap (λ (b : Bool). cond b (get_or lasts (h + 2) 0) (last_row_t lasts v n (h + 3))) (eq-eqb (get_or lasts h 0) v (sym d ∙ e))) ∙ g
 
-  pub row_on : (n h t c : ℕ) → 0 < n → c ≡ get_or lasts h 0 → (c ≡ v → ⊥) → last_row_t lasts v n h ≡ t → last_row_t lasts v (n - 1) (h + 3) ≡ t
+  pub row_on : (n h t c : ℕ) {rest next : ℕ} → n ≡ suc rest → next ≡ h + 3 → c ≡ get_or lasts h 0 → (c ≡ v → ⊥) → last_row_t lasts v n h ≡ t → last_row_t lasts v rest next ≡ t
   unfolding last_row_t
-  row_on zero h t c l d e g = absurd (omega arith)
-  row_on (suc n) h t c l d e g =
-      let i : suc n - 1 ≡ n = omega arith in
-      ap (λ (j : ℕ). last_row_t lasts v j (h + 3)) i
+  row_on zero h t c l k d e g = absurd (omega arith)
+  row_on (suc n) h t c {rest} l k d e g =
+      let i : rest ≡ n = omega arith in
+      (λ j. last_row_t lasts v (i j) (k j))
       ∙ sym (ap (λ (b : Bool). cond b (get_or lasts (h + 2) 0) (last_row_t lasts v n (h + 3))) (ne_eqb (get_or lasts h 0) v (λ f. e (d ∙ f)))) ∙ g
 
   pub row-end : (n h rows : ℕ) → n ≤ 0 → last_row_t lasts v n h ≡ last_row_t lasts v rows 0 → 65536 ≡ last_id_t lasts rows v

@@ -3,15 +3,12 @@ use Prim.Native.Nat.{ℕ, suc, ◌+◌, ◌-◌, ◌<◌, ◌≤◌}
 use native.Mathlib.Omega.{arith}
 use mathlib.Core.List.{List, [], ◌∷◌, ◌++◌, append_assoc, append-nil}
 use mathlib.Core.Option.{Option}
-use mathlib.Core.Bool.{Bool, true, false}
 use mathlib.Core.Path.{◌≡◌, refl, sym, ap, subst, ◌∙◌}
 use lib.ListN.{length, length-append, get_or, take, drop}
 use lib.Seq.{drop-length}
 use borrow.Author.Tests.{ne_eqb}
-use Rattle.wire.specs.Answer.{value}
 use Rattle.wire.specs.Bytes.{two}
-use Rattle.wire.specs.Writer.{State, puts, state_of}
-use Rattle.wire.specs.declared.writer.Writer.{Writer}
+use Rattle.wire.specs.Writer.{State, puts}
 use Rattle.pack_rules.specs.Names.{Name}
 use Rattle.pack_rules.specs.Legal.{place}
 use Rattle.pack_rules.specs.Syntax.{Activation, Enum, Node, NodeKind}
@@ -19,7 +16,6 @@ use Rattle.pack_rules.specs.Read.{equation_in, equations_in, node_in, port_in, p
 use Rattle.pack_rules.specs.Write.{Item, each, equation_items, kind_byte, list, nm, node_items, port_items, raw}
 use Rattle.pack.specs.Intern.{render}
 use Rattle.pack.proofs.Interns.{render-append}
-use Rattle.pack.proofs.Written.{render-full}
 use Rattle.pack.proofs.Copies.{Lies, lies-both, lies-equations, lies-equations-rest, lies-head, lies-ports, lies-ports-rest}
 use Rattle.wire.specs.declared.answer.Number.{Number}
 use Rattle.machines.specs.AddedAt.{node_equations_in, node_locals_in, total_t}
@@ -35,7 +31,6 @@ use Rattle.machines.proofs.ListsShown.{copied, counted-parts}
 use Rattle.machines.proofs.CheckedReadLaws.{end-to}
 use Rattle.machines.proofs.ShownCounts.{node-equations-to, node-locals-to, node-value}
 use Rattle.machines.proofs.ShownItems.{raw-first}
-use Rattle.machines.proofs.RowLaws.{full_is}
 use Rattle.activations.specs.declared.pack_info.PackInfo.{PackInfo}
 use Rattle.activation_rules.specs.Lower.{lowered}
 use Rattle.activations.specs.Joining.{each_at, fate_in, joined, joins, owner_of}
@@ -45,7 +40,7 @@ use Rattle.activations.specs.CountsAt.{adds_equations_t, adds_locals_t}
 use Rattle.activations.specs.Fates.{Drawn, NodeRead}
 use Rattle.activations.specs.AddedParts.{AllMade, Counted, IsMade, Settled, brought, equations_of, head_items, ports_of, tail_items}
 use Rattle.activations.proofs.Splits.{Among}
-use Rattle.activations.proofs.AddedPartsKnown.{Ahead, joined_is}
+use Rattle.activations.proofs.AddedPartsKnown.{joined_is}
 use Rattle.activations.proofs.NodesJudged.{nodes-at, owner_here}
 use Rattle.activations.proofs.AddedKnown.{AcceptedIn, accepted-each, equations-two, locals-two}
 
@@ -217,12 +212,6 @@ module _ (ns : List Name) (s : List ℕ) (es : List Enum) (N : List Node) (As : 
   unfolding each_at
   no-nodes k e = ap (λ (l : List Node). each_at (λ j. joined es (node_names N) j As) k l) (ap (λ (i : ℕ). drop i N) e ∙ drop-length N)
 
-  pub nodes-done : (old : List ℕ) (k c : ℕ) (out made : List ℕ) (v : Writer) (z₀ : State) → Ahead count k c v.full → c ≤ 0 → render old (each node_items (rest_nodes k)) (state_of out made v) ≡ z₀ → state_of out made v ≡ z₀
+  pub nodes-done : (old : List ℕ) (k : ℕ) (z z₀ : State) → count ≤ k → k ≤ count → render old (each node_items (rest_nodes k)) z ≡ z₀ → z ≡ z₀
   unfolding each render
-  nodes-done old k c out made v z₀ A l f = go v.full refl
-    where
-      go : (b : Bool) → v.full ≡ b → state_of out made v ≡ z₀
-      go true e =
-          let g = full_is out made v e in
-          g ∙ sym (render-full old (each node_items (rest_nodes k))) ∙ sym (ap (render old (each node_items (rest_nodes k))) g) ∙ f
-      go false e = sym (ap (λ (l : List Node). render old (each node_items l) (state_of out made v)) (no-nodes k (A.none l e ∙ sym S.many))) ∙ f
+  nodes-done old k z z₀ a b f = sym (ap (λ (l : List Node). render old (each node_items l) z) (no-nodes k (let e : k ≡ count = omega arith in e ∙ sym S.many))) ∙ f

@@ -1,13 +1,11 @@
 -- Laws for the code that writes the origins of activations, step by step.
-use Prim.Native.Nat.{ℕ, zero, suc, ◌+◌, ◌-◌, ◌<◌, ◌≤◌}
+use Prim.Native.Nat.{ℕ, zero, suc, ◌+◌, ◌≤◌}
 use native.Mathlib.Omega.{arith}
 use mathlib.Core.List.{List, [], ◌∷◌, ◌++◌}
-use mathlib.Core.Bool.{cond}
 use mathlib.Core.Path.{◌≡◌, refl, sym, ap, ◌∙◌}
 use lib.ListN.{get_or}
 use Rattle.wire.specs.Bytes.{two}
-use Rattle.wire.specs.declared.writer.Writer.{Writer}
-use Rattle.wire.specs.Writer.{State, put, puts, state_of}
+use Rattle.wire.specs.Writer.{State, put, puts}
 use Rattle.pack_rules.specs.Names.{Name}
 use Rattle.pack.specs.Intern.{put_item, put_name, render}
 use Rattle.pack_rules.specs.Write.{Item, nm, raw}
@@ -15,7 +13,6 @@ use Rattle.pack.proofs.Interns.{render-append}
 use Rattle.wire.specs.declared.answer.Number.{Number}
 use Rattle.machines.specs.AddedAt.{node_equations_in, total_t}
 use Rattle.machines.specs.CheckedReads.{number_in}
-use Rattle.machines.proofs.RowLaws.{left-same}
 use Rattle.machines.proofs.CheckedReadLaws.{on}
 use Rattle.activations.specs.declared.parts.Act.{Act}
 use Rattle.activation_rules.specs.Checks.{else_name}
@@ -34,14 +31,11 @@ module _ (ns : List Name) (s : List ℕ) where
   branches-step old n p z = refl
 
   -- a loop over branches: one more, and the end
-  pub branches-more : (old : List ℕ) (n k p q : ℕ) (i : Number) (o m : List ℕ) (w : Writer) (y z : State) → 0 < n → i ≡ number_in s p → state_of o m w ≡ puts (two i.value) y → q ≡ branch_end ns s p → k ≡ cond w.full 0 (n - 1)
-      → render old (branches_t ns s n p) y ≡ z → render old (branches_t ns s k q) (state_of o m w) ≡ z
-  branches-more old zero k p q i o m w y z l a b c d e = absurd (omega arith)
-  branches-more old (suc n) k p q i o m w y z l a b c d e =
-      let j : suc n - 1 ≡ n = omega arith in
-      left-same old (λ x. branches_t ns s x q) o m w n k (d ∙ ap (cond w.full 0) j)
-      ∙ (λ x. render old (branches_t ns s n (c x)) ((b ∙ ap (λ (u : Number). puts (two u.value) y) a) x))
-      ∙ sym (branches-step old n p y) ∙ e
+  pub branches-more : (old : List ℕ) (n p q : ℕ) (i : Number) (x y z : State) {rest : ℕ} → n ≡ suc rest → i ≡ number_in s p → x ≡ puts (two i.value) y → q ≡ branch_end ns s p
+      → render old (branches_t ns s n p) y ≡ z → render old (branches_t ns s rest q) x ≡ z
+  branches-more old n p q i x y z {rest} l a b c e =
+      (λ j. render old (branches_t ns s rest (c j)) ((b ∙ ap (λ (u : Number). puts (two u.value) y) a) j))
+      ∙ sym (branches-step old rest p y) ∙ ap (λ j. render old (branches_t ns s j p) y) (sym l) ∙ e
 
   pub branches-done : (old : List ℕ) (n p : ℕ) (y z : State) → n ≤ 0 → render old (branches_t ns s n p) y ≡ z → y ≡ z
   unfolding branches_t render

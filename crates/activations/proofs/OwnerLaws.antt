@@ -1,5 +1,5 @@
 -- Laws for the code that notes where nodes and activations stand, step by step.
-use Prim.Native.Nat.{ℕ, ◌+◌, ◌-◌, ◌%◌, ◌<◌}
+use Prim.Native.Nat.{ℕ, ◌+◌, ◌%◌, ◌<◌}
 use native.Mathlib.Omega.{arith}
 use mathlib.Core.List.{List}
 use mathlib.Core.Path.{◌≡◌, sym, ap, ◌∙◌}
@@ -50,9 +50,6 @@ acts-placed ns s nodes n at c t z e f = on c _ _ t e f
 pub draw-length : (names : ℕ) (s nodes : List ℕ) (n i p : ℕ) (acts : List ℕ) → length (draw_t names s nodes n i p acts) ≡ length acts
 unfolding draw_t with
 draw-length names s nodes n i p acts = judged-length _ i _ 0 ∙ put-length _ (6656 + i) _ ∙ put-length acts i p
-
-pub draw-kept : (names : ℕ) (s nodes : List ℕ) (n i p : ℕ) (acts t z : List ℕ) → t ≡ draw_t names s nodes n i p acts → length acts ≡ length z → length t ≡ length z
-draw-kept names s nodes n i p acts t z e h = ap length e ∙ draw-length names s nodes n i p acts ∙ h
 
 pub draw-by : (ns : List Name) (names : ℕ) (s nodes : List ℕ) (n i p : ℕ) (acts t : List ℕ) → length ns ≡ names → t ≡ draw_t names s nodes n i p acts → t ≡ draw_t (length ns) s nodes n i p acts
 draw-by ns names s nodes n i p acts t e h = h ∙ ap (λ y. draw_t y s nodes n i p acts) (sym e)

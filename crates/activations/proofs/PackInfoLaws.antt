@@ -11,11 +11,10 @@ use borrow.Author.Tests.{eq-eqb, ne_eqb}
 use Rattle.pack_rules.specs.Names.{Name, eq_name}
 use Rattle.pack_rules.specs.Forms.{name_at}
 use Rattle.pack_rules.specs.Legal.{Fresh, place}
-use Rattle.pack_rules.specs.Write.{At, Found, Missing, lookup}
+use Rattle.pack_rules.specs.Write.{lookup}
 use Rattle.pack.specs.Table.{number_in, seek, tabled}
 use Rattle.pack.specs.Intern.{found_of}
-use Rattle.pack.specs.declared.intern.Found as code
-use Rattle.pack.specs.declared.intern.Found.TheVariants as codes
+use Rattle.std.specs.Prelude.{Ok, Err}
 use Rattle.pack.proofs.TableIndex.{seek-tabled}
 use Rattle.pack.proofs.Tables.{eq_name-false, eq_name-true, name-at-place, place-at-name}
 use Rattle.activation_rules.specs.LastCalls.{last_name}
@@ -32,13 +31,13 @@ found-place (m ∷ ms) n k = go (eq_name m n) refl (found-place ms n (k + 1))
     go false e ih = rw (e, lookup, place) (omega (arith, ih))
 
 -- an answer of either kind is the place
-pub found_at : (old : List ℕ) (n : Name) (f : code.Found) (k : ℕ) → f ≡ codes.At k → found_of f ≡ seek old n → k ≡ place_in old n
+pub found_at : (old : List ℕ) (n : Name) (k : ℕ) → found_of (Ok k) ≡ seek old n → k ≡ place_in old n
 unfolding found_of number_in place_in
-found_at old n f k e h = ap (λ y. number_in (found_of y)) (sym e) ∙ ap number_in h
+found_at old n k h = ap number_in h
 
-pub found-missing : (old : List ℕ) (n : Name) (f : code.Found) (k : ℕ) → f ≡ codes.Missing k → found_of f ≡ seek old n → k ≡ place_in old n
+pub missing_at : (old : List ℕ) (n : Name) (k : ℕ) → found_of (Err k) ≡ seek old n → k ≡ place_in old n
 unfolding found_of number_in place_in
-found-missing old n f k e h = ap (λ y. number_in (found_of y)) (sym e) ∙ ap number_in h
+missing_at old n k h = ap number_in h
 
 -- in the table of names each has its place among them
 pub place-tabled : (ns : List Name) → place_in (tabled ns) ≡ place ns

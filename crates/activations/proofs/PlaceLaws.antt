@@ -1,11 +1,9 @@
 -- Laws for the code that finds the parts of activations, step by step.
-use Prim.Native.Nat.{ℕ, zero, suc, ◌-◌, ◌<◌, ◌≤◌}
+use Prim.Native.Nat.{ℕ, zero, suc, ◌≤◌}
 use native.Mathlib.Omega.{arith}
 use mathlib.Core.List.{List}
 use mathlib.Core.Path.{◌≡◌, refl, sym, ap, ◌∙◌}
-use Rattle.wire.specs.Code.{onward}
-use Rattle.wire.specs.declared.answer.Skipped.{Skipped}
-use Rattle.wire.specs.declared.answer.Skipped.TheVariants as sk
+use Rattle.wire.specs.Code.{Skipped, skip}
 use Rattle.pack_rules.specs.Names.{Name}
 use Rattle.pack_rules.specs.Read.{equations_in, expr_in, names_in, ports_in}
 use Rattle.pack.specs.Verdict.{offset_of}
@@ -24,9 +22,9 @@ along-step : (next : ℕ → ℕ) (n p : ℕ) → along next (suc n) p ≡ along
 unfolding along
 along-step next n p = refl
 
-pub along-more : (next : ℕ → ℕ) (n p q z : ℕ) → 0 < n → q ≡ next p → along next n p ≡ z → along next (n - 1) q ≡ z
+pub along-more : (next : ℕ → ℕ) (n p q z : ℕ) {rest : ℕ} → n ≡ suc rest → q ≡ next p → along next n p ≡ z → along next rest q ≡ z
 along-more next zero p q z l e f = absurd (omega arith)
-along-more next (suc n) p q z l e f = let i : suc n - 1 ≡ n = omega arith in rw (i, e) (sym (along-step next n p) ∙ f)
+along-more next (suc n) p q z {rest} l e f = let i : rest ≡ n = omega arith in rw (i, e) (sym (along-step next n p) ∙ f)
 
 pub along-end : (next : ℕ → ℕ) (n p z : ℕ) → n ≤ 0 → along next n p ≡ z → p ≡ z
 unfolding along
@@ -39,10 +37,10 @@ module _ {S : Type 0} (f : ℕ → S → S) (next : ℕ → ℕ) where
   unfolding each_of
   each_step n p x = refl
 
-  pub each_more : (n p q : ℕ) (x y z : S) → 0 < n → q ≡ next p → y ≡ f p x → each_of f next n p x ≡ z → each_of f next (n - 1) q y ≡ z
+  pub each_more : (n p q : ℕ) (x y z : S) {rest : ℕ} → n ≡ suc rest → q ≡ next p → y ≡ f p x → each_of f next n p x ≡ z → each_of f next rest q y ≡ z
   each_more zero p q x y z l e g h = absurd (omega arith)
-  each_more (suc n) p q x y z l e g h =
-      let i : suc n - 1 ≡ n = omega arith in
+  each_more (suc n) p q x y z {rest} l e g h =
+      let i : rest ≡ n = omega arith in
       ap (λ k. each_of f next k q y) i ∙ (λ j. each_of f next n (e j) (g j)) ∙ sym (each_step n p x) ∙ h
 
   pub each-end : (n p : ℕ) (x z : S) → n ≤ 0 → each_of f next n p x ≡ z → x ≡ z
@@ -51,7 +49,7 @@ module _ {S : Type 0} (f : ℕ → S → S) (next : ℕ → ℕ) where
   each-end (suc n) p x z l e = absurd (omega arith)
 
 module _ (ns : List Name) (s : List ℕ) where
-  pub right_is : (at : ℕ) (r : Skipped) (q : ℕ) → r ≡ onward (names_in ns s) (sk.To at) → q ≡ offset_of r → q ≡ right_side_in ns s at
+  pub right_is : (at : ℕ) (r : Skipped) (q : ℕ) → r ≡ skip (names_in ns s at) → q ≡ offset_of r → q ≡ right_side_in ns s at
   unfolding right_side_in
   right_is at r q e f = end_is (names_in ns s) at r q e f
 

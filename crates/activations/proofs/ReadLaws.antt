@@ -1,15 +1,16 @@
 -- Laws for the code that lists what an equation reads, step by step.
-use Prim.Native.Nat.{ℕ, suc, ◌+◌, ◌-◌, ◌%◌, ◌<◌, ◌≤◌}
+use Prim.Native.Nat.{ℕ, suc, ◌+◌, ◌%◌, ◌<◌, ◌≤◌}
 use native.Mathlib.Numerals.{add-one}
 use native.Mathlib.Omega.{arith}
 use mathlib.Core.List.{List, [], ◌∷◌, ◌++◌}
-use mathlib.Core.Bool.{Bool, true, false, cond}
+use mathlib.Core.Bool.{Bool, true, false, cond, ◌||◌}
 use mathlib.Core.Logic.{⊎_elim}
 use mathlib.Core.Path.{◌≡◌, refl, sym, ap, ◌∙◌}
 use lib.ListN.{length, get_or, set, take, drop, drop_of_length-le}
 use lib.Seq.{drop-cons, length-take-le, take-suc-set}
-use lib.Dec.{ltb}
+use lib.Dec.{eqb, ltb}
 use borrow.Author.Tests.{eq-eqb, le-ltb, lt-ltb, ne_eqb}
+use Rattle.std.specs.List.{list_any}
 use types.Run.{OneOf}
 use denote.Enum.Declared.{tag_of}
 use Rattle.pack_rules.specs.Names.{Name}
@@ -23,6 +24,12 @@ use Rattle.activations.specs.TypeCodes.{typed_t}
 use Rattle.activations.specs.NameIdsAt.{last_id_t}
 use Rattle.activations.specs.FreeVarsAt.{free_vars_t, join_t, note_t, push_t, read_by, read_step}
 use Rattle.activations.proofs.Moving.{ended, went}
+
+-- one of a list, as an iterator finds it
+pub among_is : (x : ℕ) (ids : List ℕ) → list_any (λ y. eqb y x) ids ≡ among x ids
+unfolding among
+among_is x [] = refl
+among_is x (y ∷ ys) = ap (λ b. eqb y x || b) (among_is x ys)
 
 -- one more: there already, with room, without
 pub push-there : (t : List ℕ) (n x : ℕ) (b : Bool) → b ≡ among x (take n t) → b ≡ true → take n t ≡ push_t x (take n t)

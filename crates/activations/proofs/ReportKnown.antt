@@ -8,7 +8,6 @@ use mathlib.Core.Path.{◌≡◌, refl, sym, ap, subst, ◌∙◌}
 use lib.ListN.{length, length-append}
 use lib.Dec.{eqb, ltb}
 use borrow.Author.Tests.{ltb-true, ne_eqb}
-use Rattle.wire.specs.Answer.{value}
 use Rattle.wire.specs.Bytes.{two}
 use Rattle.wire.specs.Lists.{All}
 use Rattle.pack_rules.specs.Names.{Name}

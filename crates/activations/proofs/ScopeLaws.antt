@@ -1,5 +1,5 @@
 -- Laws for the code that writes the equations of scopes, step by step.
-use Prim.Native.Nat.{ℕ, zero, suc, ◌+◌, ◌-◌, ◌<◌, ◌≤◌}
+use Prim.Native.Nat.{ℕ, zero, suc, ◌+◌, ◌<◌, ◌≤◌}
 use native.Mathlib.Numerals.{add-one}
 use native.Mathlib.Omega.{arith}
 use mathlib.Core.List.{List, [], ◌∷◌, ◌++◌, append-nil}
@@ -23,6 +23,7 @@ use Rattle.machines.specs.Fingerprints.{among}
 use Rattle.machines.specs.EmitAt.{pack_name}
 use Rattle.machines.proofs.CheckedReadLaws.{on}
 use Rattle.machines.proofs.RowLaws.{full_is}
+use Rattle.activations.proofs.Counting.{stopped_at}
 use Rattle.activation_rules.specs.MadeNames.{value_var}
 use Rattle.activations.specs.Vars.{scope_at}
 use Rattle.activations.specs.ByNumber.{onto_items}
@@ -105,14 +106,6 @@ module _ (old s offsets : List ℕ) (names : ℕ) (made : Bool) (ns : List Name)
       ∙ ap (over_t old s offsets names made a n k ids lasts rows ns last (right_side_in ns s p)) (render-full old (value_items s offsets names a n k p))
       ∙ over-full ids (right_side_in ns s p)
 
--- a count that falls to none where the writer is full
-left-stays : (F : ℕ → State → State) → ((c : ℕ) → F c full ≡ full) → (o d : List ℕ) (w : Writer) (c j : ℕ) → j ≡ cond w.full 0 c → F j (state_of o d w) ≡ F c (state_of o d w)
-left-stays F h o d w c j e = go w.full refl e
-  where
-    go : (b : Bool) → w.full ≡ b → j ≡ cond b 0 c → F j (state_of o d w) ≡ F c (state_of o d w)
-    go true f g = ap (F j) (full_is o d w f) ∙ h j ∙ sym (ap (F c) (full_is o d w f) ∙ h c)
-    go false f g = ap (λ (i : ℕ). F i (state_of o d w)) g
-
 -- the equations of a scope, the scopes of branches: one more, and the end
 module _ (old s offsets : List ℕ) (names : ℕ) (made : Bool) (ns : List Name) (last : ℕ) (lasts : List ℕ) (rows : ℕ) (env outs : List ℕ) (a : Name) (n : ℕ) where
   module _ (k : ℕ) where
@@ -130,13 +123,14 @@ module _ (old s offsets : List ℕ) (names : ℕ) (made : Bool) (ns : List Name)
         let r = g ∙ ap (free_vars_t lasts rows env outs names ns s last) f in
         λ u. equations_t old s offsets names made ns last lasts rows env outs a n k c ((h ∙ ap (λ (x : ℕ). end_of (expr_in ns s x)) f) u) ((i ∙ ap (λ (x : List ℕ). join_t x sampled) r) u) ((j ∙ ap (λ (x : List ℕ). equation_t old s offsets names made ns last lasts rows a n k x sampled p z) r) u)
 
-    pub equations-more : (c p e q j : ℕ) (ids sampled after o d : List ℕ) (w : Writer) (z t : State) → 0 < c → e ≡ right_side_in ns s p → ids ≡ free_vars_t lasts rows env outs names ns s last e → q ≡ end_of (expr_in ns s e) → after ≡ join_t ids sampled → state_of o d w ≡ equation_t old s offsets names made ns last lasts rows a n k ids sampled p z → j ≡ cond w.full 0 (c - 1)
-        → equations_t old s offsets names made ns last lasts rows env outs a n k c p sampled z ≡ t → equations_t old s offsets names made ns last lasts rows env outs a n k j q after (state_of o d w) ≡ t
-    equations-more zero p e q j ids sampled after o d w z t l f g h i m u r = absurd (omega arith)
-    equations-more (suc c) p e q j ids sampled after o d w z t l f g h i m u r =
-        let v : suc c - 1 ≡ c = omega arith in
-        left-stays (λ (b : ℕ) (y : State). equations_t old s offsets names made ns last lasts rows env outs a n k b q after y) (λ b. equations-full b q after) o d w c j (u ∙ ap (cond w.full 0) v)
-        ∙ equations-step c p e q ids sampled after (state_of o d w) z f g h i m ∙ r
+    pub equations-more : (c p e q : ℕ) (ids sampled after : List ℕ) (y z t : State) {rest : ℕ} → c ≡ suc rest → e ≡ right_side_in ns s p → ids ≡ free_vars_t lasts rows env outs names ns s last e → q ≡ end_of (expr_in ns s e) → after ≡ join_t ids sampled → y ≡ equation_t old s offsets names made ns last lasts rows a n k ids sampled p z
+        → equations_t old s offsets names made ns last lasts rows env outs a n k c p sampled z ≡ t → equations_t old s offsets names made ns last lasts rows env outs a n k rest q after y ≡ t
+    equations-more c p e q ids sampled after y z t {rest} l f g h i m r =
+        equations-step rest p e q ids sampled after y z f g h i m
+        ∙ ap (λ b. equations_t old s offsets names made ns last lasts rows env outs a n k b p sampled z) (sym l) ∙ r
+
+    pub equations-stop : (c p : ℕ) (sampled o d : List ℕ) (w : Writer) (t : State) → w.full ≡ true → equations_t old s offsets names made ns last lasts rows env outs a n k c p sampled (state_of o d w) ≡ t → state_of o d w ≡ t
+    equations-stop c p sampled o d w t e h = stopped_at (equations_t old s offsets names made ns last lasts rows env outs a n k c p sampled) (equations-full c p sampled) o d w t e h
 
     pub equations-end : (c p : ℕ) (sampled : List ℕ) (z t : State) → c ≤ 0 → equations_t old s offsets names made ns last lasts rows env outs a n k c p sampled z ≡ t → z ≡ t
     unfolding equations_t
@@ -161,13 +155,13 @@ module _ (old s offsets : List ℕ) (names : ℕ) (made : Bool) (ns : List Name)
   unfolding branches_t
   branches-step k c p e q y z f g h = λ u. branches_t old s offsets names made ns last lasts rows env outs a n (add-one k u) c (g u) ((h ∙ ap (λ (x : ℕ). scope_t old s offsets names made ns last lasts rows env outs a n k x z) f) u)
 
-  pub branches-more : (k c p e q j : ℕ) (o d : List ℕ) (w : Writer) (z t : State) → 0 < c → e ≡ body_in ns s p → q ≡ branch_end ns s p → state_of o d w ≡ scope_t old s offsets names made ns last lasts rows env outs a n k e z → j ≡ cond w.full 0 (c - 1)
-      → branches_t old s offsets names made ns last lasts rows env outs a n k c p z ≡ t → branches_t old s offsets names made ns last lasts rows env outs a n (k + 1) j q (state_of o d w) ≡ t
-  branches-more k zero p e q j o d w z t l f g h i r = absurd (omega arith)
-  branches-more k (suc c) p e q j o d w z t l f g h i r =
-      let v : suc c - 1 ≡ c = omega arith in
-      left-stays (λ (b : ℕ) (y : State). branches_t old s offsets names made ns last lasts rows env outs a n (k + 1) b q y) (λ b. branches-full (k + 1) b q) o d w c j (i ∙ ap (cond w.full 0) v)
-      ∙ branches-step k c p e q (state_of o d w) z f g h ∙ r
+  pub branches-more : (k c p e q : ℕ) (y z t : State) {rest : ℕ} → c ≡ suc rest → e ≡ body_in ns s p → q ≡ branch_end ns s p → y ≡ scope_t old s offsets names made ns last lasts rows env outs a n k e z
+      → branches_t old s offsets names made ns last lasts rows env outs a n k c p z ≡ t → branches_t old s offsets names made ns last lasts rows env outs a n (k + 1) rest q y ≡ t
+  branches-more k c p e q y z t {rest} l f g h r =
+      branches-step k rest p e q y z f g h ∙ ap (λ b. branches_t old s offsets names made ns last lasts rows env outs a n k b p z) (sym l) ∙ r
+
+  pub branches-stop : (k c p : ℕ) (o d : List ℕ) (w : Writer) (t : State) → w.full ≡ true → branches_t old s offsets names made ns last lasts rows env outs a n k c p (state_of o d w) ≡ t → state_of o d w ≡ t
+  branches-stop k c p o d w t e h = stopped_at (branches_t old s offsets names made ns last lasts rows env outs a n k c p) (branches-full k c p) o d w t e h
 
   pub branches-end : (k c p : ℕ) (z t : State) → c ≤ 0 → branches_t old s offsets names made ns last lasts rows env outs a n k c p z ≡ t → z ≡ t
   unfolding branches_t

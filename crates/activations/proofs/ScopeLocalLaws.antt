@@ -68,12 +68,12 @@ module _ (ns : List Name) (s old : List ℕ) (made : Bool) (a : Name) (offsets e
 
   module _ (last : ℕ) (lasts : List ℕ) (rows : ℕ) where
     -- the loop over equations
-    pub equations-on : (k c p e q names : ℕ) (ids sampled after : List ℕ) (u z t : Left) → length ns ≡ names → 0 < c → e ≡ right_side_in ns s p → ids ≡ free_vars_t lasts rows env outs names ns s last e → q ≡ end_of (expr_in ns s e) → after ≡ join_t ids sampled → u ≡ equation_local_t ns s old made a offsets env outs n k ids sampled p z
-        → equation_locals_t ns s old made a offsets env outs n last lasts rows k c p sampled z ≡ t → equation_locals_t ns s old made a offsets env outs n last lasts rows k (c - 1) q after u ≡ t
+    pub equations-on : (k c p e q names : ℕ) (ids sampled after : List ℕ) (u z t : Left) → length ns ≡ names → {rest : ℕ} → c ≡ suc rest → e ≡ right_side_in ns s p → ids ≡ free_vars_t lasts rows env outs names ns s last e → q ≡ end_of (expr_in ns s e) → after ≡ join_t ids sampled → u ≡ equation_local_t ns s old made a offsets env outs n k ids sampled p z
+        → equation_locals_t ns s old made a offsets env outs n last lasts rows k c p sampled z ≡ t → equation_locals_t ns s old made a offsets env outs n last lasts rows k rest q after u ≡ t
     unfolding equation_locals_t free_vars_at equation_end
     equations-on k zero p e q names ids sampled after u z t d l f g h i j r = absurd (omega arith)
-    equations-on k (suc c) p e q names ids sampled after u z t d l f g h i j r =
-        let w : suc c - 1 ≡ c = omega arith in
+    equations-on k (suc c) p e q names ids sampled after u z t d {rest} l f g h i j r =
+        let w : rest ≡ c = omega arith in
         let v : ids ≡ free_vars_t lasts rows env outs (length ns) ns s last (right_side_in ns s p) = g ∙ λ y. free_vars_t lasts rows env outs (sym d y) ns s last (f y) in
         (λ y. equation_locals_t ns s old made a offsets env outs n last lasts rows k (w y) ((h ∙ ap (λ x. end_of (expr_in ns s x)) f) y) ((i ∙ ap (λ x. join_t x sampled) v) y) ((j ∙ ap (λ x. equation_local_t ns s old made a offsets env outs n k x sampled p z) v) y)) ∙ r
 
@@ -87,11 +87,11 @@ module _ (ns : List Name) (s old : List ℕ) (made : Bool) (a : Name) (offsets e
     scope-locals-are k at f u z e g = on f _ _ _ e g
 
     -- the loop over branches
-    pub branches-on : (k c p e q : ℕ) (u z t : Left) → 0 < c → e ≡ body_in ns s p → q ≡ branch_end ns s p → u ≡ scope_locals_t ns s old made a offsets env outs n last lasts rows k e z → branch_locals_t ns s old made a offsets env outs n last lasts rows k c p z ≡ t → branch_locals_t ns s old made a offsets env outs n last lasts rows (k + 1) (c - 1) q u ≡ t
+    pub branches-on : (k c p e q : ℕ) (u z t : Left) {rest : ℕ} → c ≡ suc rest → e ≡ body_in ns s p → q ≡ branch_end ns s p → u ≡ scope_locals_t ns s old made a offsets env outs n last lasts rows k e z → branch_locals_t ns s old made a offsets env outs n last lasts rows k c p z ≡ t → branch_locals_t ns s old made a offsets env outs n last lasts rows (k + 1) rest q u ≡ t
     unfolding branch_locals_t
     branches-on k zero p e q u z t l f g h r = absurd (omega arith)
-    branches-on k (suc c) p e q u z t l f g h r =
-        let w : suc c - 1 ≡ c = omega arith in
+    branches-on k (suc c) p e q u z t {rest} l f g h r =
+        let w : rest ≡ c = omega arith in
         let v : k + 1 ≡ suc k = omega arith in
         (λ y. branch_locals_t ns s old made a offsets env outs n last lasts rows (v y) (w y) (g y) ((h ∙ ap (λ x. scope_locals_t ns s old made a offsets env outs n last lasts rows k x z) f) y)) ∙ r
 

@@ -10,7 +10,7 @@ use lib.ListN.{length, drop}
 use lib.Dec.{eqb}
 use borrow.Author.Tests.{le-ltb, lt-ltb, ne_eqb}
 use Rattle.wire.specs.Answer.{counted, many, u16, value}
-use Rattle.wire.specs.Bytes.{bytes, two}
+use Rattle.wire.specs.Bytes.{two}
 use Rattle.wire.specs.Lists.{Bytes}
 use Rattle.wire.proofs.Answers.{bind-value, map-value}
 use Rattle.wire.proofs.Formats.{format16, format_byte, single}

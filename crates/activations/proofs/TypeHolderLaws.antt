@@ -98,6 +98,3 @@ module _ (ns : List Name) (old s : List ℕ) (b : PackInfo) (offsets : List ℕ)
   pub from_end : (n h : ℕ) (e d : List ℕ) (z : Hold) → n ≤ h → hold_from ns old s b offsets a outs (n - h) h e d ≡ z → hold_of e d 0 0 ≡ z
   unfolding hold_from
   from_end n h e d z l g = let k : n - h ≡ 0 = omega arith in ap (λ y. hold_from ns old s b offsets a outs y h e d) (sym k) ∙ g
-
-  pub from_start : (n : ℕ) (e d : List ℕ) → hold_from ns old s b offsets a outs (n - 0) 0 e d ≡ hold_from ns old s b offsets a outs n 0 e d
-  from_start n e d = let k : n - 0 ≡ n = omega arith in ap (λ y. hold_from ns old s b offsets a outs y 0 e d) k

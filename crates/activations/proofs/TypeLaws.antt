@@ -10,9 +10,8 @@ use borrow.Author.Tests.{le-ltb, lt-ltb, ne_eqb}
 use types.Run.{OneOf}
 use denote.Enum.Declared.{tag_of}
 use Rattle.wire.specs.Answer.{byte}
-use Rattle.wire.specs.Code.{read_of}
+use Rattle.wire.specs.Code.{Read, read_of}
 use Rattle.wire.specs.Writer.{State, put, puts}
-use Rattle.wire.specs.declared.answer.Read.{Read}
 use Rattle.pack_rules.specs.Names.{Name}
 use Rattle.pack_rules.specs.Read.{port_in, type_in}
 use Rattle.wire.specs.declared.answer.Number.{Number}

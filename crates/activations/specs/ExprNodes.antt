@@ -5,7 +5,8 @@ use Rattle.pack_rules.specs.Names.{Name}
 use Rattle.pack.specs.declared.exprs.Node.{Node}
 use Rattle.pack.specs.declared.exprs.Node.TheVariants as nd
 use Rattle.pack.specs.declared.exprs.Decoded.{Decoded}
-use Rattle.pack.specs.declared.exprs.Decoded.TheVariants as dc
+use Rattle.std.specs.Prelude.{Result, Ok, Err}
+use Rattle.wire.specs.declared.answer.Stop.{Stop}
 use Rattle.pack_rules.specs.Forms.{expr_head}
 use Rattle.pack.specs.Nodes.{decoded}
 use Rattle.pack_rules.specs.Read.{expr_in}
@@ -15,11 +16,9 @@ use Rattle.activations.specs.declared.expr_node.ExprNode.{ExprNode}
 use Rattle.activations.specs.declared.expr_node.ExprNode.TheVariants as mt
 
 -- from a node that was read on
-unfoldable pub on_node : Decoded → (Node → ℕ → ExprNode) → ExprNode
-on_node (dc.Is n q) k = k n q
-on_node dc.Early k = mt.Nothing
-on_node (dc.Illegal o) k = mt.Nothing
-on_node (dc.Deep o) k = mt.Nothing
+unfoldable pub on_node : Result Decoded Stop → (Node → ℕ → ExprNode) → ExprNode
+on_node (Ok d) k = k d.node d.next
+on_node (Err e) k = mt.Nothing
 
 -- from a variable on, where the node is one; m where it is another
 unfoldable pub on_var : Node → ExprNode → (ℕ → ExprNode) → ExprNode

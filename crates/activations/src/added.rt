@@ -27,7 +27,7 @@ use crate::pack_info::PackInfo;
 use crate::verdicts::count_and_type_locals;
 use machines::added::{NO_NODE, nearer};
 use machines::checked_read::number;
-use machines::layout::{pack_name, remaining};
+use machines::layout::pack_name;
 use wire::writer::Writer;
 
 // --- How many locals and equations activations bring to nodes.
@@ -71,11 +71,9 @@ pub fn added_locals(acts: &[u16], n: usize, k: usize) -> usize
     requires { n ≤ word_range }
     ensures { (result ≤ 4294967296) × (result ≡ total_t (adds_locals_t acts.now k) n 0) }
 {
-    let mut i = 0;
     let mut c = 0;
-    while i < n {
+    for i in 0..n {
         c += adds_locals(acts, k, i);
-        i += 1;
     }
     c
 }
@@ -85,11 +83,9 @@ pub fn added_equations(pack: &[u8], acts: &[u16], n: usize, k: usize) -> usize
     requires { n ≤ word_range }
     ensures { (result ≤ 8589934592) × (result ≡ total_t (adds_equations_t pack.now acts.now k) n 0) }
 {
-    let mut i = 0;
     let mut c = 0;
-    while i < n {
+    for i in 0..n {
         c += adds_equations(pack, acts, k, i);
-        i += 1;
     }
     c
 }
@@ -200,15 +196,14 @@ pub fn put_added_locals(
     ensures { (ns : List Name) (es : List Enum) (N : List Node) (As : List Activation) (m : Node) → Basis ns es old.now pack.now offsets.now info → Drawn ns pack.now es N As acts.now → length As ≡ count → AllMade es N As k m → Types ns pack.now m later.old → state_of out.new made.new result ≡ render old.now (each port_items (brought es (node_names N) ports_of k As m)) (state_of out.old made.old writer) }
 {
     let mut v = writer;
-    let mut i = 0;
-    let mut n = count;
-    while 0 < n {
+    for i in 0..count {
+        if v.full {
+            break;
+        }
         v = put_row_locals(
             old, pack, info, offsets, acts, k, i, types, outs, lasts, reads, sampled, later, out,
             made, v,
         );
-        i += 1;
-        n = remaining(v, n - 1);
     }
     v
 }
@@ -236,15 +231,14 @@ pub fn put_added_equations(
     ensures { (ns : List Name) (es : List Enum) (N : List Node) (As : List Activation) (m : Node) → Basis ns es old.now pack.now offsets.now info → Drawn ns pack.now es N As acts.now → length As ≡ count → AllMade es N As k m → Types ns pack.now m later.old → state_of out.new made.new result ≡ render old.now (each equation_items (brought es (node_names N) equations_of k As m)) (state_of out.old made.old writer) }
 {
     let mut v = writer;
-    let mut i = 0;
-    let mut n = count;
-    while 0 < n {
+    for i in 0..count {
+        if v.full {
+            break;
+        }
         v = put_row_equations(
             old, pack, info, offsets, acts, k, i, types, outs, lasts, reads, sampled, later, out,
             made, v,
         );
-        i += 1;
-        n = remaining(v, n - 1);
     }
     v
 }
@@ -255,12 +249,10 @@ pub fn put_added_equations(
 fn receives(acts: &[u16], n: usize, k: usize) -> usize
     ensures { result ≡ receives_t (goal_t acts.now) k n 0 no_node }
 {
-    let mut i = 0;
     let mut b = NO_NODE;
-    while i < n {
+    for i in 0..n {
         let a = act_node(acts, i);
         b = nearer(k, a, b);
-        i += 1;
     }
     b
 }

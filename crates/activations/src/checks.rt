@@ -13,7 +13,7 @@ use crate::cells::clear;
 use crate::expr_node::{is_bad, onward, open, read_expr_node};
 use crate::pack_info::PackInfo;
 use crate::parts::{Act, after_branch, branch_equations, first_branch, right_side};
-use machines::checked_read::{after_equation, after_expr, after_port, both, number};
+use machines::checked_read::{after_equation, after_expr, after_port, number};
 use pack::cells::{cell, put_cell};
 
 // --- What is refused of an activation, in numbers.
@@ -85,15 +85,13 @@ fn bad_last_in_conditions(pack: &[u8], info: PackInfo, a: Act) -> bool
     ensures { (ns : List Name) → length ns ≡ info.names → result ≡ any_branch_t ns pack.now (condition_has_bad_last_t ns pack.now info.last) a.branches }
 {
     let c = first_branch(pack, a);
-    let mut n = c.value;
     let mut p = c.next;
-    while 0 < n {
+    for _ in 0..c.value {
         let i = number(pack, p);
         if has_bad_last(pack, info, i.next) {
             return true;
         }
         p = after_branch(pack, info.names, p);
-        n = n - 1;
     }
     false
 }
@@ -104,15 +102,13 @@ fn bad_last_in_scope(pack: &[u8], info: PackInfo, at: usize) -> bool
     ensures { (ns : List Name) → length ns ≡ info.names → result ≡ scope_has_bad_last_t ns pack.now info.last at }
 {
     let c = number(pack, at);
-    let mut n = c.value;
     let mut p = c.next;
-    while 0 < n {
+    for _ in 0..c.value {
         let e = right_side(pack, info.names, p);
         if has_bad_last(pack, info, e) {
             return true;
         }
         p = after_expr(pack, info.names, e);
-        n = n - 1;
     }
     false
 }
@@ -123,31 +119,26 @@ fn bad_last_in_bodies(pack: &[u8], info: PackInfo, a: Act) -> bool
     ensures { (ns : List Name) → length ns ≡ info.names → result ≡ any_branch_t ns pack.now (body_has_bad_last_t ns pack.now info.last) a.branches }
 {
     let c = first_branch(pack, a);
-    let mut n = c.value;
     let mut p = c.next;
-    while 0 < n {
+    for _ in 0..c.value {
         let e = branch_equations(pack, info.names, p);
         if bad_last_in_scope(pack, info, e) {
             return true;
         }
         p = after_branch(pack, info.names, p);
-        n = n - 1;
     }
     false
 }
 
 // In all expressions of an activation.
+#[tactic(auto, unfolding(crate::specs::BadLastsAt::any_bad_last_t))]
 pub fn any_bad_last(pack: &[u8], info: PackInfo, a: Act) -> bool
     requires { length pack.now ≤ max_bytes }
     ensures { (ns : List Name) → length ns ≡ info.names → result ≡ any_bad_last_t ns pack.now info.last a }
 {
-    if bad_last_in_conditions(pack, info, a) {
-        return true;
-    }
-    if bad_last_in_bodies(pack, info, a) {
-        return true;
-    }
-    bad_last_in_scope(pack, info, a.other)
+    bad_last_in_conditions(pack, info, a)
+        || bad_last_in_bodies(pack, info, a)
+        || bad_last_in_scope(pack, info, a.other)
 }
 
 // The name of a branch that one before it has, the number of names where there is none.
@@ -157,9 +148,8 @@ fn repeated(pack: &[u8], names: usize, sampled: &mut [u16], at: usize) -> usize
 {
     clear(sampled, names);
     let c = number(pack, at);
-    let mut n = c.value;
     let mut p = c.next;
-    while 0 < n {
+    for _ in 0..c.value {
         let i = number(pack, p);
         let m = cell(sampled, i.value);
         if m != 0 {
@@ -167,12 +157,12 @@ fn repeated(pack: &[u8], names: usize, sampled: &mut [u16], at: usize) -> usize
         }
         put_cell(sampled, i.value, 1);
         p = after_branch(pack, names, p);
-        n = n - 1;
     }
     names
 }
 
 // The equation at p of the scope k: a single left name that all scopes before assign is assigned in one more.
+#[tactic(auto, using(std::proofs::lemmas::Bool::Decides::nat_tests), unfolding(crate::specs::ChecksAt::assign_t, crate::specs::Cells::put_t, machines::specs::CheckedReads::with))]
 fn assign(pack: &[u8], sampled: &mut [u16], k: usize, p: usize)
     requires { k < 2 ^ 63 }
     ensures { sampled.new ≡ assign_t pack.now k p sampled.old }
@@ -180,7 +170,7 @@ fn assign(pack: &[u8], sampled: &mut [u16], k: usize, p: usize)
     let l = number(pack, p);
     let x = number(pack, l.next);
     let m = cell(sampled, x.value);
-    if both(l.value == 1, m == k) {
+    if l.value == 1 && m == k {
         put_cell(sampled, x.value, k + 1);
     }
 }
@@ -191,12 +181,10 @@ fn assign_scope(pack: &[u8], names: usize, sampled: &mut [u16], k: usize, at: us
     ensures { (ns : List Name) → length ns ≡ names → sampled.new ≡ assign_scope_t ns pack.now k at sampled.old }
 {
     let c = number(pack, at);
-    let mut n = c.value;
     let mut p = c.next;
-    while 0 < n {
+    for _ in 0..c.value {
         assign(pack, sampled, k, p);
         p = after_equation(pack, names, p);
-        n = n - 1;
     }
 }
 
@@ -206,15 +194,11 @@ fn assign_branches(pack: &[u8], names: usize, sampled: &mut [u16], at: usize)
     ensures { (ns : List Name) → length ns ≡ names → sampled.new ≡ assign_branches_t ns pack.now at sampled.old }
 {
     let c = number(pack, at);
-    let mut n = c.value;
-    let mut k = 0;
     let mut p = c.next;
-    while 0 < n {
+    for k in 0..c.value {
         let e = branch_equations(pack, names, p);
         assign_scope(pack, names, sampled, k, e);
         p = after_branch(pack, names, p);
-        k += 1;
-        n = n - 1;
     }
 }
 
@@ -237,11 +221,9 @@ fn scope_name(pack: &[u8], names: usize, a: Act, k: usize) -> usize
         return names + 1;
     }
     let c = number(pack, a.branches);
-    let mut n = k;
     let mut p = c.next;
-    while 0 < n {
+    for _ in 0..k {
         p = after_branch(pack, names, p);
-        n = n - 1;
     }
     let i = number(pack, p);
     i.value
@@ -254,9 +236,8 @@ fn in_scopes(pack: &[u8], names: usize, sampled: &mut [u16], a: Act) -> Refused
 {
     assign_all(pack, names, sampled, a);
     let c = number(pack, a.outputs);
-    let mut n = c.value;
     let mut p = c.next;
-    while 0 < n {
+    for _ in 0..c.value {
         let o = number(pack, p);
         let k = cell(sampled, o.value);
         if k <= a.n {
@@ -264,7 +245,6 @@ fn in_scopes(pack: &[u8], names: usize, sampled: &mut [u16], a: Act) -> Refused
             return refusing(Refused::OUTPUT_UNASSIGNED, o.value, x);
         }
         p = after_port(pack, names, p);
-        n = n - 1;
     }
     refusing(Refused::ACCEPTED, names, names)
 }
@@ -275,15 +255,13 @@ fn scope_has_empty_left(pack: &[u8], names: usize, at: usize) -> bool
     ensures { (ns : List Name) → length ns ≡ names → result ≡ scope_has_empty_left_t ns pack.now at }
 {
     let c = number(pack, at);
-    let mut n = c.value;
     let mut p = c.next;
-    while 0 < n {
+    for _ in 0..c.value {
         let l = number(pack, p);
         if l.value == 0 {
             return true;
         }
         p = after_equation(pack, names, p);
-        n = n - 1;
     }
     false
 }
@@ -294,15 +272,13 @@ pub fn has_empty_left(pack: &[u8], names: usize, a: Act) -> bool
     ensures { (ns : List Name) → length ns ≡ names → result ≡ has_empty_left_t ns pack.now a }
 {
     let c = number(pack, a.branches);
-    let mut n = c.value;
     let mut p = c.next;
-    while 0 < n {
+    for _ in 0..c.value {
         let e = branch_equations(pack, names, p);
         if scope_has_empty_left(pack, names, e) {
             return true;
         }
         p = after_branch(pack, names, p);
-        n = n - 1;
     }
     scope_has_empty_left(pack, names, a.other)
 }

@@ -43,20 +43,23 @@ pub enum ExprNode {
 }
 
 // A call of `last` with an initial value from `at` up to e: where e is not past `at` it was not read.
+#[tactic(auto, using(std::proofs::lemmas::Bool::Decides::nat_tests), unfolding(crate::specs::ExprNodes::last_two_t))]
 fn last_two(var: usize, at: usize, e: usize) -> ExprNode
     ensures { result ≡ last_two_t var at e }
 {
     if at < e {
-        return ExprNode::Last {
+        ExprNode::Last {
             var,
             init: at,
             next: e,
-        };
+        }
+    } else {
+        ExprNode::Nothing
     }
-    ExprNode::Nothing
 }
 
 // A call of `last` with so many arguments from `first` on, which begin with the variable var; the next stands at `at`.
+#[tactic(auto, using(std::proofs::lemmas::Bool::Decides::nat_tests), unfolding(crate::specs::ExprNodes::last_rest_t))]
 fn last_rest(
     pack: &[u8],
     names: usize,
@@ -68,21 +71,19 @@ fn last_rest(
     requires { length pack.now ≤ max_bytes }
     ensures { (ns : List Name) → length ns ≡ names → result ≡ last_rest_t ns pack.now var under first at }
 {
-    if under == 1 {
-        return ExprNode::Last {
+    match under {
+        1 => ExprNode::Last {
             var,
             init: 0,
             next: at,
-        };
+        },
+        2 => last_two(var, at, after_expr(pack, names, at)),
+        _ => ExprNode::Bad { under, next: first },
     }
-    if under == 2 {
-        let e = after_expr(pack, names, at);
-        return last_two(var, at, e);
-    }
-    ExprNode::Bad { under, next: first }
 }
 
 // A call of `last` with so many arguments, which stand at `at`.
+#[tactic(auto, using(std::proofs::lemmas::Bool::Decides::nat_tests), unfolding(crate::specs::ExprNodes::last_shape_t, crate::specs::ExprNodes::first_t, crate::specs::ExprNodes::on_node, crate::specs::ExprNodes::on_var))]
 fn last_shape(pack: &[u8], names: usize, under: usize, at: usize) -> ExprNode
     requires { length pack.now ≤ max_bytes }
     ensures { (ns : List Name) → length ns ≡ names → result ≡ last_shape_t ns pack.now under at }
@@ -90,17 +91,17 @@ fn last_shape(pack: &[u8], names: usize, under: usize, at: usize) -> ExprNode
     if under == 0 {
         return ExprNode::Bad { under, next: at };
     }
-    let d = read_node(pack, names, at);
-    let Decoded::Is { node, next } = d else {
+    let Ok(first) = read_node(pack, names, at) else {
         return ExprNode::Nothing;
     };
-    let Node::Var(var) = node else {
+    let Node::Var(var) = first.node else {
         return ExprNode::Bad { under, next: at };
     };
-    last_rest(pack, names, var, under, at, next)
+    last_rest(pack, names, var, under, at, first.next)
 }
 
 // A call of the node f with so many arguments, which stand at `at`.
+#[tactic(auto, using(std::proofs::lemmas::Bool::Decides::nat_tests), unfolding(crate::specs::ExprNodes::call_t))]
 fn call_kind(pack: &[u8], info: PackInfo, f: usize, under: usize, at: usize) -> ExprNode
     requires { length pack.now ≤ max_bytes }
     ensures { (ns : List Name) → length ns ≡ info.names → result ≡ call_t ns pack.now info.last f under at }
@@ -112,6 +113,7 @@ fn call_kind(pack: &[u8], info: PackInfo, f: usize, under: usize, at: usize) -> 
 }
 
 // A node of which only the number of expressions under it was read; a constant by its tag.
+#[tactic(auto, using(std::proofs::lemmas::Bool::Decides::nat_tests), unfolding(crate::specs::ExprNodes::plain_t))]
 fn plain(pack: &[u8], at: usize, under: usize, next: usize) -> ExprNode
     ensures { result ≡ plain_t pack.now at under next }
 {
@@ -122,12 +124,12 @@ fn plain(pack: &[u8], at: usize, under: usize, next: usize) -> ExprNode
 }
 
 // The node at an offset.
+#[tactic(auto, using(std::proofs::lemmas::Bool::Decides::nat_tests), unfolding(crate::specs::ExprNodes::expr_node_at, crate::specs::ExprNodes::expr_node, crate::specs::ExprNodes::on_node))]
 pub fn read_expr_node(pack: &[u8], info: PackInfo, at: usize) -> ExprNode
     requires { length pack.now ≤ max_bytes }
     ensures { (ns : List Name) → length ns ≡ info.names → result ≡ expr_node_at ns pack.now info.last at }
 {
-    let d = read_node(pack, info.names, at);
-    let Decoded::Is { node, next } = d else {
+    let Ok(Decoded { node, next }) = read_node(pack, info.names, at) else {
         return ExprNode::Nothing;
     };
     match node {
@@ -139,82 +141,61 @@ pub fn read_expr_node(pack: &[u8], info: PackInfo, at: usize) -> ExprNode
 }
 
 // One expression less and `under` more. No pack has more to come than bytes.
+#[tactic(auto, using(std::proofs::lemmas::Bool::Decides::nat_tests), unfolding(crate::specs::ExprNodes::grown_t))]
 fn grown(n: usize, under: usize) -> usize
     requires { 0 < n }
     ensures { result ≡ grown_t n under }
 {
-    if Pack::BYTES < n {
-        return 0;
+    if Pack::BYTES < n || Pack::BYTES < under {
+        0
+    } else {
+        n - 1 + under
     }
-    if Pack::BYTES < under {
-        return 0;
-    }
-    n - 1 + under
 }
 
 // How many expressions are to come after a node, where n were with it; none where reading stopped.
+#[tactic(auto, using(std::proofs::lemmas::Bool::Decides::nat_tests), unfolding(crate::specs::ExprNodes::open_t))]
 pub fn open(m: ExprNode, n: usize) -> usize
     requires { 0 < n }
     ensures { result ≡ open_t m n }
 {
     match m {
-        ExprNode::Last {
-            var: _,
-            init: _,
-            next: _,
-        } => n - 1,
-        ExprNode::Bad { under, next: _ } => grown(n, under),
-        ExprNode::Const(_) => n - 1,
-        ExprNode::Var { name: _, next: _ } => n - 1,
-        ExprNode::Clocked {
-            clock: _,
-            under,
-            next: _,
-        } => grown(n, under),
-        ExprNode::Other { under, next: _ } => grown(n, under),
+        ExprNode::Last { .. } | ExprNode::Const(_) | ExprNode::Var { .. } => n - 1,
+        ExprNode::Bad { under, .. }
+        | ExprNode::Clocked { under, .. }
+        | ExprNode::Other { under, .. } => grown(n, under),
         ExprNode::Nothing => 0,
     }
 }
 
 // Where the next node stands.
+#[tactic(auto, using(std::proofs::lemmas::Bool::Decides::nat_tests), unfolding(crate::specs::ExprNodes::onward_t))]
 pub fn onward(m: ExprNode) -> usize
     ensures { result ≡ onward_t m }
 {
     match m {
-        ExprNode::Last {
-            var: _,
-            init: _,
-            next,
-        } => next,
-        ExprNode::Bad { under: _, next } => next,
-        ExprNode::Const(next) => next,
-        ExprNode::Var { name: _, next } => next,
-        ExprNode::Clocked {
-            clock: _,
-            under: _,
-            next,
-        } => next,
-        ExprNode::Other { under: _, next } => next,
+        ExprNode::Last { next, .. }
+        | ExprNode::Bad { next, .. }
+        | ExprNode::Const(next)
+        | ExprNode::Var { next, .. }
+        | ExprNode::Clocked { next, .. }
+        | ExprNode::Other { next, .. } => next,
         ExprNode::Nothing => 0,
     }
 }
 
 // Whether it is a call of `last` with arguments that it does not take.
+#[tactic(auto, using(std::proofs::lemmas::Bool::Decides::nat_tests), unfolding(crate::specs::ExprNodes::is_bad))]
 pub fn is_bad(m: ExprNode) -> bool
     ensures { result ≡ is_bad m }
 {
-    match m {
-        ExprNode::Bad { under: _, next: _ } => true,
-        _ => false,
-    }
+    matches!(m, ExprNode::Bad { .. })
 }
 
 // Whether it is a constant.
+#[tactic(auto, using(std::proofs::lemmas::Bool::Decides::nat_tests), unfolding(crate::specs::ExprNodes::is_const))]
 pub fn is_const(m: ExprNode) -> bool
     ensures { result ≡ is_const m }
 {
-    match m {
-        ExprNode::Const(_) => true,
-        _ => false,
-    }
+    matches!(m, ExprNode::Const(_))
 }

@@ -16,14 +16,12 @@ pub fn row_of(lasts: &[u16], n: usize, v: usize) -> usize
     requires { n ≤ 8192 }
     ensures { (result ≤ n) × (result ≡ row_t lasts.now v n 0) }
 {
-    let mut h = 0;
-    while h < n {
+    for h in 0..n {
         if word(lasts, 3 * h, 0) == v {
             return h;
         }
-        h += 1;
     }
-    h
+    n
 }
 
 // An initial value for the row h, where it has none.
@@ -67,7 +65,7 @@ fn find_in_node(lasts: &mut [u16], n: usize, m: ExprNode, at: usize) -> usize
     requires { n ≤ 8192 }
     ensures { (result ≤ 8192) × (rows_of lasts.new result ≡ find_step m at (rows_of lasts.old n)) }
 {
-    let ExprNode::Last { var, init, next: _ } = m else {
+    let ExprNode::Last { var, init, .. } = m else {
         return n;
     };
     note(lasts, n, var, init)
@@ -98,14 +96,12 @@ fn find_in_conditions(pack: &[u8], info: PackInfo, lasts: &mut [u16], count: usi
     ensures rows { (ns : List Name) → length ns ≡ info.names → rows_of lasts.new result ≡ each_branch_t ns pack.now (find_in_condition_t ns pack.now info.last) a.branches (rows_of lasts.old count) }
 {
     let f = first_branch(pack, a);
-    let mut n = f.value;
     let mut p = f.next;
     let mut c = count;
-    while 0 < n {
+    for _ in 0..f.value {
         let i = number(pack, p);
         c = find_lasts(pack, info, lasts, c, i.next);
         p = after_branch(pack, info.names, p);
-        n = n - 1;
     }
     c
 }
@@ -117,14 +113,12 @@ fn find_in_scope(pack: &[u8], info: PackInfo, lasts: &mut [u16], count: usize, a
     ensures rows { (ns : List Name) → length ns ≡ info.names → rows_of lasts.new result ≡ find_in_scope_t ns pack.now info.last at (rows_of lasts.old count) }
 {
     let f = number(pack, at);
-    let mut n = f.value;
     let mut p = f.next;
     let mut c = count;
-    while 0 < n {
+    for _ in 0..f.value {
         let e = right_side(pack, info.names, p);
         c = find_lasts(pack, info, lasts, c, e);
         p = after_expr(pack, info.names, e);
-        n = n - 1;
     }
     c
 }
@@ -136,14 +130,12 @@ fn find_in_bodies(pack: &[u8], info: PackInfo, lasts: &mut [u16], count: usize, 
     ensures rows { (ns : List Name) → length ns ≡ info.names → rows_of lasts.new result ≡ each_branch_t ns pack.now (find_in_body_t ns pack.now info.last) a.branches (rows_of lasts.old count) }
 {
     let f = first_branch(pack, a);
-    let mut n = f.value;
     let mut p = f.next;
     let mut c = count;
-    while 0 < n {
+    for _ in 0..f.value {
         let e = branch_equations(pack, info.names, p);
         c = find_in_scope(pack, info, lasts, c, e);
         p = after_branch(pack, info.names, p);
-        n = n - 1;
     }
     c
 }

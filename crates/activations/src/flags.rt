@@ -91,10 +91,11 @@ pub fn put_under(
     ensures { state_of out.new made.new result ≡ render old.now (under_items a.now count) (state_of out.old made.old writer) }
 {
     let mut v = writer;
-    let mut n = count;
-    while 0 < n {
-        v = put_when(old, a, n - 1, 0, out, made, v);
-        n = remaining(v, n - 1);
+    for k in (0..count).rev() {
+        if v.full {
+            break;
+        }
+        v = put_when(old, a, k, 0, out, made, v);
     }
     v
 }
@@ -224,14 +225,13 @@ pub fn put_flags(
 {
     let c = number(pack, at);
     let mut v = writer;
-    let mut n = c.value;
-    let mut k = 0;
     let mut p = c.next;
-    while 0 < n {
-        v = put_branch_flags(old, pack, info, offsets, a, n, k, p, out, made, v);
+    for k in 0..c.value {
+        if v.full {
+            break;
+        }
+        v = put_branch_flags(old, pack, info, offsets, a, c.value - k, k, p, out, made, v);
         p = after_branch(pack, info.names, p);
-        k += 1;
-        n = remaining(v, n - 1);
     }
     v
 }
@@ -268,12 +268,11 @@ pub fn put_clock_guards(
     ensures { (cs : List Expr) → length cs ≡ n → state_of out.new made.new result ≡ render old.now (each equation_items (guard_equations a.now 1 (tail_of cs))) (state_of out.old made.old writer) }
 {
     let mut v = writer;
-    let mut k = 1;
-    let mut m = n;
-    while 1 < m {
+    for k in 1..n {
+        if v.full {
+            break;
+        }
         v = put_clock_guard(old, a, k, out, made, v);
-        k += 1;
-        m = remaining(v, m - 1);
     }
     v
 }

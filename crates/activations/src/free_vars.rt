@@ -10,20 +10,13 @@ use crate::expr_node::{ExprNode, onward, open, read_expr_node};
 use crate::name_ids::{NO_NUMBER, last_id};
 use crate::pack_info::PackInfo;
 use crate::types::typed;
-use pack::cells::{cell, put_cell};
+use pack::cells::put_cell;
 
 // Whether x is one of these.
 pub fn is_in(ids: &[u16], x: usize) -> bool
     ensures { result ≡ among x ids.now }
 {
-    let mut i = 0;
-    while i < ids.len() {
-        if ids[i] as usize == x {
-            return true;
-        }
-        i += 1;
-    }
-    false
+    ids.iter().any(|id| usize::from(*id) == x)
 }
 
 // One more after the first n, where it is not among them. Each comes from a node of at least three bytes, so that there is room.
@@ -49,10 +42,8 @@ pub fn join(ids: &[u16], t: &mut [u16], n: usize) -> usize
     ensures { (result ≤ 21848) × (take result t.new ≡ join_t ids.now (take n t.old)) }
 {
     let mut m = n;
-    let mut i = 0;
-    while i < ids.len() {
-        m = push(t, m, cell(ids, i));
-        i += 1;
+    for id in ids {
+        m = push(t, m, usize::from(*id));
     }
     m
 }
@@ -63,17 +54,9 @@ fn read_by(lasts: &[u16], rows: usize, m: ExprNode) -> usize
     ensures { result ≡ read_by lasts.now rows m }
 {
     match m {
-        ExprNode::Last {
-            var,
-            init: _,
-            next: _,
-        } => last_id(lasts, rows, var),
-        ExprNode::Var { name, next: _ } => name,
-        ExprNode::Clocked {
-            clock,
-            under: _,
-            next: _,
-        } => clock,
+        ExprNode::Last { var, .. } => last_id(lasts, rows, var),
+        ExprNode::Var { name, .. } => name,
+        ExprNode::Clocked { clock, .. } => clock,
         _ => NO_NUMBER,
     }
 }

@@ -22,7 +22,7 @@ use crate::name_ids::holder_id;
 use crate::pack_info::PackInfo;
 use crate::types::{TypeDefault, default_of, is_missing, typed};
 use machines::checked_read::after_expr;
-use machines::layout::{between, pack_name, remaining};
+use machines::layout::{between, pack_name};
 use pack::cells::{cell, put_cell};
 use wire::writer::{Writer, put_byte, put_bytes, put_u16};
 
@@ -119,13 +119,11 @@ pub fn type_holders(
     requires { (info.names ≤ word_range) × (n ≤ 8192) }
     ensures { (ns : List Name) → length ns ≡ info.names → hold_of types.new lasts.new result.kind result.var ≡ hold_from ns old.now pack.now info offsets.now a.now outs.now n 0 types.old lasts.old }
 {
-    let mut h = 0;
-    while h < n {
+    for h in 0..n {
         let r = type_holder(old, pack, info, offsets, a, outs, types, lasts, h);
         if r.kind != 0 {
             return r;
         }
-        h += 1;
     }
     Holder {
         kind: Refused::ACCEPTED,
@@ -230,15 +228,14 @@ pub fn put_holders(
     ensures { (ns : List Name) → length ns ≡ info.names → state_of out.new made.new result ≡ render old.now (each_t (row_items ns pack.now info offsets.now a.now types.now lasts.now) count 0) (state_of out.old made.old writer) }
 {
     let mut u = writer;
-    let mut n = count;
-    let mut h = 0;
-    while 0 < n {
+    for h in 0..count {
+        if u.full {
+            break;
+        }
         let v = word(lasts, 3 * h, 0);
         let i = word(lasts, 3 * h, 1);
         let c = cell(types, word(lasts, 3 * h, 2));
         u = put_holder(old, pack, info, offsets, a, v, i, c, out, made, u);
-        h += 1;
-        n = remaining(u, n - 1);
     }
     u
 }

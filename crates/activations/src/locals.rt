@@ -64,8 +64,7 @@ fn put_port(
     requires { length pack.now ≤ max_bytes }
     ensures { (ns : List Name) → length ns ≡ names → state_of out.new made.new result ≡ puts (type_bytes ns pack.now c) (put_built old.now (state_of buf.now [] t) (state_of out.old made.old writer)) }
 {
-    let full = writer.full;
-    if full {
+    if writer.full {
         return writer;
     }
     let v = put_built(old, buf, t, out, made, writer);
@@ -131,18 +130,13 @@ pub fn put_flag_locals(
     ensures { (ns : List Name) → length ns ≡ info.names → left_of later.new out.new made.new result ≡ flag_locals_t ns pack.now old.now info.made a.now 0 n (left_of later.old out.old made.old p) }
 {
     let mut q = p;
-    let mut k = 0;
-    let mut m = n;
-    while 1 < m {
-        let c = put_branch_local(old, pack, info, a, Var::Flag, k, later, out, made, q);
-        q = put_branch_local(old, pack, info, a, Var::Untaken, k, later, out, made, c);
-        k += 1;
-        m = m - 1;
+    for k in 0..n {
+        q = put_branch_local(old, pack, info, a, Var::Flag, k, later, out, made, q);
+        if k + 1 < n {
+            q = put_branch_local(old, pack, info, a, Var::Untaken, k, later, out, made, q);
+        }
     }
-    if m == 0 {
-        return q;
-    }
-    put_branch_local(old, pack, info, a, Var::Flag, k, later, out, made, q)
+    q
 }
 
 // Those of the guards of n branches: the first has none.
@@ -161,12 +155,8 @@ pub fn put_guard_locals(
     ensures { (ns : List Name) → length ns ≡ info.names → left_of later.new out.new made.new result ≡ clock_locals_t ns pack.now old.now info.made a.now 1 (n - 1) (left_of later.old out.old made.old p) }
 {
     let mut q = p;
-    let mut k = 1;
-    let mut m = n;
-    while 1 < m {
+    for k in 1..n {
         q = put_branch_local(old, pack, info, a, Var::Clock, k, later, out, made, q);
-        k += 1;
-        m = m - 1;
     }
     q
 }
@@ -215,14 +205,21 @@ pub fn put_holder_locals(
     ensures { (ns : List Name) → length ns ≡ info.names → left_of later.new out.new made.new result ≡ holder_locals_t ns pack.now old.now info.made a.now offsets.now lasts.now types.now 0 rows (left_of later.old out.old made.old p) }
 {
     let mut q = p;
-    let mut h = 0;
-    let mut n = rows;
-    while 0 < n {
+    for row in 0..rows {
         q = put_holder_local(
-            old, pack, info, a, offsets, lasts, types, h, later, out, made, q,
+            old,
+            pack,
+            info,
+            a,
+            offsets,
+            lasts,
+            types,
+            3 * row,
+            later,
+            out,
+            made,
+            q,
         );
-        h += 3;
-        n = n - 1;
     }
     q
 }
@@ -316,13 +313,11 @@ fn put_new_locals(
     ensures { (ns : List Name) → length ns ≡ info.names → left_of later.new out.new made.new result ≡ new_locals_t ns pack.now old.now info.made a.now offsets.now types.now outs.now n k sampled.now ids.now (left_of later.old out.old made.old p) }
 {
     let mut q = p;
-    let mut i = 0;
-    while i < ids.len() {
-        let x = cell(ids, i);
+    for id in ids {
+        let x = usize::from(*id);
         q = put_new_local(
             old, pack, info, a, offsets, types, outs, n, k, sampled, x, later, out, made, q,
         );
-        i += 1;
     }
     q
 }
@@ -411,10 +406,9 @@ fn put_scope_locals(
 {
     let f = number(pack, at);
     let mut q = p;
-    let mut c = f.value;
     let mut g = f.next;
     let mut m = 0;
-    while 0 < c {
+    for _ in 0..f.value {
         let e = right_side(pack, info.names, g);
         let r = list_reads(pack, info, lasts, rows, types, outs, e, reads);
         q = put_equation_locals(
@@ -437,7 +431,6 @@ fn put_scope_locals(
         );
         m = join(&reads[..r], sampled, m);
         g = after_expr(pack, info.names, e);
-        c = c - 1;
     }
     q
 }
@@ -466,18 +459,14 @@ fn put_branch_locals(
     ensures { (ns : List Name) → length ns ≡ info.names → left_of later.new out.new made.new result ≡ branch_locals_t ns pack.now old.now info.made a.now offsets.now types.now outs.now n info.last lasts.now rows 0 n at (left_of later.old out.old made.old p) }
 {
     let mut q = p;
-    let mut k = 0;
-    let mut c = n;
     let mut g = at;
-    while 0 < c {
+    for k in 0..n {
         let e = branch_equations(pack, info.names, g);
         q = put_scope_locals(
             old, pack, info, a, offsets, lasts, rows, types, outs, n, k, e, reads, sampled, later,
             out, made, q,
         );
         g = after_branch(pack, info.names, g);
-        k += 1;
-        c = c - 1;
     }
     q
 }

@@ -13,7 +13,7 @@ ghost use Rattle.activations.specs.ByNumber.{merge_head_items, merge_items, port
 
 use crate::made_names::{Var, put_value, put_var};
 use machines::checked_read::{after_port, number};
-use machines::layout::{pack_name, remaining};
+use machines::layout::pack_name;
 use wire::writer::{Writer, put_byte, put_u16};
 
 // What the scope k of n branches gives o, as an expression.
@@ -66,12 +66,11 @@ fn put_merged(
     ensures { (cs : List Expr) → length cs ≡ n → state_of out.new made.new result ≡ render old.now (expr_items (merge_from a.now o.now 0 cs)) (state_of out.old made.old writer) }
 {
     let mut v = writer;
-    let mut k = 0;
-    let mut m = n;
-    while 0 < m {
+    for k in 0..n {
+        if v.full {
+            break;
+        }
         v = put_merge_head(old, a, n, k, o, out, made, v);
-        k += 1;
-        m = remaining(v, m - 1);
     }
     put_scope_value(old, a, n, n, o, out, made, v)
 }
@@ -113,10 +112,12 @@ pub fn put_merges(
     ensures { (ns : List Name) → length ns ≡ names → (cs : List Expr) → length cs ≡ count → state_of out.new made.new result ≡ render old.now (port_merges_t ns pack.now offsets.now a.now cs at) (state_of out.old made.old writer) }
 {
     let c = number(pack, at);
-    let mut n = c.value;
     let mut p = c.next;
     let mut v = writer;
-    while 0 < n {
+    for _ in 0..c.value {
+        if v.full {
+            break;
+        }
         let x = number(pack, p);
         v = put_merge(
             old,
@@ -129,7 +130,6 @@ pub fn put_merges(
             v,
         );
         p = after_port(pack, names, p);
-        n = remaining(v, n - 1);
     }
     v
 }

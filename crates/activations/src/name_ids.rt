@@ -76,10 +76,17 @@ pub fn put_id(
     ensures { state_of out.new made.new result ≡ render old.now (id_items pack.now offsets.now names a.now x) (state_of out.old made.old writer) }
 {
     if x < names {
-        return put_u16(out, writer, x);
+        put_u16(out, writer, x)
+    } else {
+        put_last(
+            old,
+            a,
+            pack_name(pack, offsets, x - names),
+            out,
+            made,
+            writer,
+        )
     }
-    let v = pack_name(pack, offsets, x - names);
-    put_last(old, a, v, out, made, writer)
 }
 
 // Its text.
@@ -95,11 +102,10 @@ fn put_id_text(
     ensures { (m : List ℕ) → state_of out.new m result ≡ puts (name_t pack.now offsets.now names a.now x) (state_of out.old m writer) }
 {
     if x < names {
-        let o = pack_name(pack, offsets, x);
-        return put_bytes(o, out, writer);
+        put_bytes(pack_name(pack, offsets, x), out, writer)
+    } else {
+        put_last_text(out, writer, a, pack_name(pack, offsets, x - names))
     }
-    let v = pack_name(pack, offsets, x - names);
-    put_last_text(out, writer, a, v)
 }
 
 // The text of the name of its sample in the scope k of n branches.
@@ -178,14 +184,11 @@ pub fn last_id(lasts: &[u16], rows: usize, v: usize) -> usize
     requires { rows < word_range }
     ensures { result ≡ last_id_t lasts.now rows v }
 {
-    let mut n = rows;
-    let mut h = 0;
-    while 0 < n {
+    for row in 0..rows {
+        let h = 3 * row;
         if cell(lasts, h) == v {
             return cell(lasts, h + 2);
         }
-        h += 3;
-        n = n - 1;
     }
     NO_NUMBER
 }

@@ -22,7 +22,7 @@ use crate::pack_info::PackInfo;
 use crate::types::note_variables;
 use machines::added::after_ports;
 use machines::checked_read::{after_equations, number};
-use machines::layout::{between, remaining};
+use machines::layout::between;
 use machines::write_nodes::{to_node_equations, to_node_locals};
 use pack::cells::cell;
 use wire::writer::{Writer, put_bytes, put_u16};
@@ -200,18 +200,17 @@ pub fn put_nodes(
     ensures { (ns : List Name) (es : List Enum) (N : List Node) (As : List Activation) → Basis ns es old.now pack.now offsets.now info → Settled ns pack.now es N As nodes.now acts.now count n → state_of out.new made.new result ≡ render old.now (each node_items (each_at (λ j. joined es (node_names N) j As) 0 N)) (state_of out.old made.old writer) }
 {
     let mut v = writer;
-    let mut k = 0;
-    let mut c = count;
     let mut next = 0;
-    while 0 < c {
+    for k in 0..count {
+        if v.full {
+            break;
+        }
         let at = cell(nodes, k);
         next = next_receiver(acts, n, k, next);
         v = put_next(
             old, pack, info, offsets, acts, n, k, next, at, types, outs, lasts, reads, sampled,
             later, out, made, v,
         );
-        k += 1;
-        c = remaining(v, c - 1);
     }
     v
 }

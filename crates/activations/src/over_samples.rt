@@ -32,15 +32,13 @@ fn renamed(
 ) -> usize
     ensures { result ≡ renamed_t old.now pack.now offsets.now info.names info.made a.now n k ids.now x }
 {
-    let mut i = 0;
     let mut v = x;
     let mut y = NO_NUMBER;
-    while i < ids.len() {
-        if ids[i] as usize == v {
+    for id in ids {
+        if usize::from(*id) == v {
             y = v;
             v = sample_id(old, pack, offsets, info, a, n, k, y);
         }
-        i += 1;
     }
     y
 }
@@ -138,16 +136,12 @@ fn put_other_renamed(
     let q = onward(m);
     let h = between(pack, at, q);
     match m {
-        ExprNode::Var { name, next: _ } => {
+        ExprNode::Var { name, .. } => {
             put_renamed_var(
                 old, pack, offsets, info, a, n, k, ids, name, out, made, writer,
             )
         }
-        ExprNode::Clocked {
-            clock,
-            under: _,
-            next: _,
-        } => put_clocked(
+        ExprNode::Clocked { clock, .. } => put_clocked(
             old, pack, offsets, info, a, n, k, ids, clock, h, out, made, writer,
         ),
         _ => put_bytes(h, out, writer),
@@ -175,12 +169,7 @@ fn put_node_renamed(
     requires { rows < word_range }
     ensures { state_of out.new made.new result ≡ render old.now (rename_items old.now pack.now offsets.now info.names info.made a.now n k ids.now lasts.now rows m at) (state_of out.old made.old writer) }
 {
-    let ExprNode::Last {
-        var,
-        init: _,
-        next: _,
-    } = m
-    else {
+    let ExprNode::Last { var, .. } = m else {
         return put_other_renamed(
             old, pack, offsets, info, a, n, k, ids, m, at, out, made, writer,
         );

@@ -78,6 +78,7 @@ pub fn act_of(pack: &[u8], names: usize, acts: &[u16], i: usize) -> Act
 }
 
 // Where it stands now, and its node.
+#[tactic(auto, unfolding(crate::specs::Cells::put_t))]
 pub fn put_spot(acts: &mut [u16], i: usize, at: usize, node: usize)
     ensures { acts.new ≡ put_t (put_t acts.old i at) (6656 + i) node }
 {
@@ -102,13 +103,11 @@ pub fn place_nodes(pack: &[u8], names: usize, at: usize, nodes: &mut [u16]) -> u
     ensures placed { (ns : List Name) → length ns ≡ names → nodes.new ≡ place_nodes_t ns pack.now at nodes.old }
 {
     let c = number(pack, at);
-    let mut k = 0;
     let mut p = c.next;
-    while k < c.value {
+    for k in 0..c.value {
         put_cell(nodes, k, p);
         let e = to_node_equations(pack, names, p);
         p = after_equations(pack, names, e);
-        k += 1;
     }
     c.value
 }
@@ -117,16 +116,14 @@ pub fn place_nodes(pack: &[u8], names: usize, at: usize, nodes: &mut [u16]) -> u
 fn node_named(pack: &[u8], nodes: &[u16], n: usize, x: usize) -> usize
     ensures { result ≡ named_t pack.now nodes.now n x }
 {
-    let mut k = 0;
-    while k < n {
+    for k in 0..n {
         let at = cell(nodes, k);
         let i = number(pack, at);
         if i.value == x {
             return k;
         }
-        k += 1;
     }
-    k
+    n
 }
 
 // The activation at p, among n nodes, is that of the row i. It is refused for its owner until it is judged.
@@ -155,14 +152,10 @@ pub fn place_acts(
     ensures placed { (ns : List Name) → length ns ≡ names → acts.new ≡ place_acts_t ns pack.now nodes.now n at acts.old }
 {
     let c = number(pack, at);
-    let mut m = c.value;
-    let mut i = 0;
     let mut p = c.next;
-    while 0 < m {
+    for i in 0..c.value {
         draw(pack, names, nodes, n, acts, i, p);
         p = after_act(pack, names, p);
-        i += 1;
-        m -= 1;
     }
     c.value
 }

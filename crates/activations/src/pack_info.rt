@@ -3,10 +3,9 @@ ghost use Rattle.std.specs.Prelude.{[], ◌≡◌};
 ghost use Rattle.wire.specs.Writer.{state_of};
 ghost use Rattle.activations.specs.Lookups.{made_at, some_made_t, place_built, place_in};
 
-use machines::layout::{pack_name, part};
-use pack::intern::{Found, same};
+use machines::layout::pack_name;
 use pack::table::seek_name;
-use wire::writer::{Writer, capped};
+use wire::writer::Writer;
 
 // How many names there are; the index of `last` among them, their number where it is none; where enums stand; whether a name
 // begins as made ones do.
@@ -22,10 +21,9 @@ pub struct PackInfo {
 pub fn lookup(old: &[u8], t: &[u8]) -> usize
     ensures { result ≡ place_in old.now t.now }
 {
-    let f = seek_name(old, t);
-    match f {
-        Found::At(k) => k,
-        Found::Missing(k) => k,
+    match seek_name(old, t) {
+        Ok(k) => k,
+        Err(k) => k,
     }
 }
 
@@ -34,36 +32,23 @@ pub fn lookup(old: &[u8], t: &[u8]) -> usize
 pub fn lookup_made(old: &[u8], info: PackInfo, buf: &[u8], t: Writer) -> usize
     ensures { result ≡ place_built (place_in old.now) info.names info.made (state_of buf.now [] t) }
 {
-    let full = t.full;
-    if full {
-        return info.names;
+    if !t.full && info.made {
+        lookup(old, &buf[..t.at.min(buf.len())])
+    } else {
+        info.names
     }
-    let made = info.made;
-    if made {
-        let end = capped(buf.len(), 0, t.at);
-        return lookup(old, &buf[..end]);
-    }
-    info.names
 }
 
 // Whether the name of an index begins with `__act_`.
 fn made_at(pack: &[u8], offsets: &[u16], k: usize) -> bool
     ensures { result ≡ made_at pack.now offsets.now k }
 {
-    let n = pack_name(pack, offsets, k);
-    same(part(n, 0, 6), b"__act_")
+    pack_name(pack, offsets, k).starts_with(b"__act_")
 }
 
 // Whether one of the names does.
 pub fn some_made(pack: &[u8], names: usize, offsets: &[u16]) -> bool
     ensures { result ≡ some_made_t pack.now offsets.now names }
 {
-    let mut k = 0;
-    while k < names {
-        if made_at(pack, offsets, k) {
-            return true;
-        }
-        k += 1;
-    }
-    false
+    (0..names).any(|k| made_at(pack, offsets, k))
 }

@@ -10,8 +10,9 @@ ghost use Rattle.activations.specs.Places.{first_left_in, right_side_in, body_in
 use machines::added::after_ports;
 use machines::checked_read::{after_equations, after_expr, number};
 use pack::check::reached;
-use pack::parts::{then_names, then_type};
-use wire::answer::Skipped;
+use pack::parts::skip_index_list;
+use pack::types::skip_type;
+use wire::answer::Number;
 
 // An activation: its name's index; where its outputs, its branches and its else scope stand; how many branches it has.
 #[derive(Clone, Copy)]
@@ -28,14 +29,14 @@ pub fn after_type(pack: &[u8], names: usize, at: usize) -> usize
     requires { length pack.now ≤ max_bytes }
     ensures { (ns : List Name) → length ns ≡ names → result ≡ end_of (type_in ns pack.now at) }
 {
-    reached(then_type(pack, names, Skipped::To(at)))
+    reached(skip_type(pack, names, at))
 }
 
 // From an equation to its right side.
 pub fn right_side(pack: &[u8], names: usize, at: usize) -> usize
     ensures { (ns : List Name) → length ns ≡ names → result ≡ right_side_in ns pack.now at }
 {
-    reached(then_names(pack, names, Skipped::To(at)))
+    reached(skip_index_list(pack, names, at))
 }
 
 // The first left name of an equation.
@@ -71,11 +72,9 @@ pub fn after_branches(pack: &[u8], names: usize, at: usize) -> usize
     ensures { (ns : List Name) → length ns ≡ names → result ≡ branches_end ns pack.now at }
 {
     let c = number(pack, at);
-    let mut n = c.value;
     let mut p = c.next;
-    while 0 < n {
+    for _ in 0..c.value {
         p = after_branch(pack, names, p);
-        n = n - 1;
     }
     p
 }

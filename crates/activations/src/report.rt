@@ -56,11 +56,9 @@ pub fn refused_count(acts: &[u16], n: usize) -> usize
     requires { n ≤ word_range }
     ensures { result ≡ total_t (is_refused_t acts.now) n 0 }
 {
-    let mut i = 0;
     let mut c = 0;
-    while i < n {
+    for i in 0..n {
         c += is_refused(acts, i);
-        i += 1;
     }
     c
 }
@@ -86,11 +84,9 @@ pub fn report_len(pack: &[u8], names: usize, offsets: &[u16], acts: &[u16], n: u
     ensures value { result ≡ 2 + length (bytes_t (entry_t names pack.now offsets.now acts.now) n 0) }
     ensures upper_bound { result ≤ 2 + n * 200000 }
 {
-    let mut i = 0;
     let mut c = 2;
-    while i < n {
+    for i in 0..n {
         c += refusal_len(pack, names, offsets, acts, i);
-        i += 1;
     }
     c
 }
@@ -132,11 +128,9 @@ fn put_report(
     ensures { report.new ≡ overwritten 0 (two refused ++ bytes_t (entry_t names pack.now offsets.now acts.now) n 0) report.old }
 {
     put_count(refused, report);
-    let mut i = 0;
     let mut e = 2;
-    while i < n {
+    for i in 0..n {
         e = put_refusal(pack, names, offsets, acts, i, report, e);
-        i += 1;
     }
 }
 

@@ -27,12 +27,7 @@ pub fn rewrite_node(
     ensures { state_of out.new made.new result ≡ render old.now (met_items pack.now offsets.now a.now m at) (state_of out.old made.old writer) }
 {
     let q = onward(m);
-    let ExprNode::Last {
-        var,
-        init: _,
-        next: _,
-    } = m
-    else {
+    let ExprNode::Last { var, .. } = m else {
         let h = between(pack, at, q);
         return put_bytes(h, out, writer);
     };

@@ -18,8 +18,7 @@ use crate::over_samples::put_over_samples;
 use crate::pack_info::PackInfo;
 use crate::parts::{after_branch, branch_equations, first_left, right_side};
 use machines::checked_read::{after_expr, number};
-use machines::layout::{pack_name, remaining};
-use pack::cells::cell;
+use machines::layout::pack_name;
 use wire::writer::{Writer, put_byte, put_u16};
 
 // --- The samples that are new in a scope.
@@ -66,8 +65,7 @@ fn put_new_sample(
     requires { n < 2 ^ 63 }
     ensures { state_of out.new made.new result ≡ render old.now (new_items pack.now offsets.now names a.now n k sampled.now (x ∷ [])) (state_of out.old made.old writer) }
 {
-    let full = writer.full;
-    if full {
+    if writer.full {
         return writer;
     }
     if is_in(sampled, x) {
@@ -95,11 +93,9 @@ pub fn put_new_samples(
     ensures { state_of out.new made.new result ≡ render old.now (new_items pack.now offsets.now names a.now n k sampled.now ids.now) (state_of out.old made.old writer) }
 {
     let mut v = writer;
-    let mut i = 0;
-    while i < ids.len() {
-        let x = cell(ids, i);
+    for id in ids {
+        let x = usize::from(*id);
         v = put_new_sample(old, pack, offsets, names, a, n, k, sampled, x, out, made, v);
-        i += 1;
     }
     v
 }
@@ -188,10 +184,12 @@ fn put_scope_equations(
 {
     let f = number(pack, at);
     let mut v = writer;
-    let mut c = f.value;
     let mut p = f.next;
     let mut m = 0;
-    while 0 < c {
+    for _ in 0..f.value {
+        if v.full {
+            break;
+        }
         let e = right_side(pack, info.names, p);
         let r = list_reads(pack, info, lasts, rows, types, outs, e, reads);
         v = put_equation(
@@ -213,7 +211,6 @@ fn put_scope_equations(
         );
         m = join(&reads[..r], sampled, m);
         p = after_expr(pack, info.names, e);
-        c = remaining(v, c - 1);
     }
     v
 }
@@ -247,18 +244,17 @@ pub fn put_scopes(
 {
     let f = number(pack, branches);
     let mut v = writer;
-    let mut k = 0;
-    let mut c = n;
     let mut p = f.next;
-    while 0 < c {
+    for k in 0..n {
+        if v.full {
+            break;
+        }
         let e = branch_equations(pack, info.names, p);
         v = put_scope_equations(
             old, pack, offsets, info, lasts, rows, types, outs, a, n, k, e, reads, sampled, out,
             made, v,
         );
         p = after_branch(pack, info.names, p);
-        k += 1;
-        c = remaining(v, c - 1);
     }
     put_scope_equations(
         old, pack, offsets, info, lasts, rows, types, outs, a, n, n, other, reads, sampled, out,

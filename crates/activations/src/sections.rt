@@ -26,7 +26,7 @@ use crate::owners::{act_node, act_of, act_spot};
 use crate::pack_info::PackInfo;
 use crate::parts::{Act, after_branch, first_branch};
 use machines::checked_read::number;
-use machines::layout::{between, remaining};
+use machines::layout::between;
 use machines::write_nodes::to_node_equations;
 use pack::cells::cell;
 use pack::intern::{put_name, start};
@@ -48,13 +48,14 @@ fn put_branches(
     ensures { (ns : List Name) → length ns ≡ names → (old l : List ℕ) → state_of out.new l result ≡ render old (branches_t ns pack.now count from) (state_of out.old l writer) }
 {
     let mut v = writer;
-    let mut n = count;
     let mut p = from;
-    while 0 < n {
+    for _ in 0..count {
+        if v.full {
+            break;
+        }
         let i = number(pack, p);
         v = put_u16(out, v, i.value);
         p = after_branch(pack, names, p);
-        n = remaining(v, n - 1);
     }
     v
 }
@@ -135,12 +136,11 @@ pub fn put_origins(
     ensures { (ns : List Name) → length ns ≡ names → state_of out.new made.new result ≡ render old.now (each_t (origin_t ns pack.now nodes.now acts.now) n 0) (state_of out.old made.old writer) }
 {
     let mut v = writer;
-    let mut i = 0;
-    let mut c = n;
-    while 0 < c {
+    for i in 0..n {
+        if v.full {
+            break;
+        }
         v = put_origin(old, pack, names, nodes, acts, i, out, made, v);
-        i += 1;
-        c = remaining(v, c - 1);
     }
     v
 }

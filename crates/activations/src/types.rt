@@ -36,13 +36,11 @@ fn note_ports(pack: &[u8], names: usize, types: &mut [u16], at: usize) -> usize
     ensures noted { (ns : List Name) → length ns ≡ names → types.new ≡ ports_t ns pack.now at types.old }
 {
     let c = number(pack, at);
-    let mut n = c.value;
     let mut p = c.next;
-    while 0 < n {
+    for _ in 0..c.value {
         let x = number(pack, p);
         put_cell(types, x.value, x.next);
         p = after_port(pack, names, p);
-        n = n - 1;
     }
     p
 }
@@ -85,12 +83,10 @@ pub fn note_outputs(pack: &[u8], names: usize, outs: &mut [u16], at: usize)
 {
     clear(outs, names);
     let c = number(pack, at);
-    let mut n = c.value;
     let mut p = c.next;
-    while 0 < n {
+    for _ in 0..c.value {
         note_first(pack, outs, p);
         p = after_port(pack, names, p);
-        n = n - 1;
     }
 }
 
@@ -162,14 +158,12 @@ fn first_variant(pack: &[u8], names: usize, enums: usize, x: usize) -> TypeDefau
     ensures { (ns : List Name) → length ns ≡ names → result ≡ first_variant_t ns pack.now enums x }
 {
     let c = number(pack, enums);
-    let mut n = c.value;
     let mut p = c.next;
     let mut r = TypeDefault::Missing;
-    while 0 < n {
+    for _ in 0..c.value {
         let i = number(pack, p);
         r = variant_at(pack, x, p, r);
         p = right_side(pack, names, i.next);
-        n = n - 1;
     }
     r
 }
@@ -279,12 +273,10 @@ pub fn keep_firsts(pack: &[u8], names: usize, enums: usize, offsets: &mut [u16])
     ensures { (ns : List Name) → length ns ≡ names → offsets.new ≡ firsts_t ns pack.now enums offsets.old }
 {
     let c = number(pack, enums);
-    let mut n = c.value;
     let mut p = c.next;
-    while 0 < n {
+    for _ in 0..c.value {
         let i = number(pack, p);
         keep_first(pack, offsets, p);
         p = right_side(pack, names, i.next);
-        n = n - 1;
     }
 }

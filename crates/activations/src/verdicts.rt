@@ -177,12 +177,10 @@ fn judge_node(
     requires { (length pack.now ≤ max_bytes) × (info.names ≤ word_range) × (n ≤ 6656) × (39936 ≤ length acts.old) × Scratch later.old types.old outs.old lasts.old reads.old sampled.old }
     ensures { (ns : List Name) (es : List Enum) (N : List Node) (As : List Activation) (m : Node) → Basis ns es old.now pack.now offsets.now info → Drawn ns pack.now es N As acts.old → length As ≡ n → Types ns pack.now m later.old → NodeJudged ns es N As k m acts.old acts.new }
 {
-    let mut i = 0;
-    while i < n {
+    for i in 0..n {
         judge_row(
             old, pack, info, offsets, k, types, outs, lasts, reads, sampled, later, acts, i,
         );
-        i += 1;
     }
 }
 
@@ -206,13 +204,11 @@ pub fn judge_nodes(
     requires { (length pack.now ≤ max_bytes) × (info.names ≤ word_range) × (n ≤ 6656) × (39936 ≤ length acts.old) × Scratch later.old types.old outs.old lasts.old reads.old sampled.old }
     ensures { (ns : List Name) (es : List Enum) (N : List Node) (As : List Activation) → Basis ns es old.now pack.now offsets.now info → NodesFrom ns pack.now nodes.now 0 N → length N ≡ m → Drawn ns pack.now es N As acts.old → length As ≡ n → Unowned ns pack.now es N As acts.old → Drawn ns pack.now es N As acts.new × Fates ns pack.now es N As acts.new }
 {
-    let mut k = 0;
-    while k < m {
+    for k in 0..m {
         let at = cell(nodes, k);
         note_variables(pack, info.names, later, at);
         judge_node(
             old, pack, info, offsets, k, types, outs, lasts, reads, sampled, later, acts, n,
         );
-        k += 1;
     }
 }

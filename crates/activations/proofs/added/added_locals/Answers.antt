@@ -1,19 +1,12 @@
-use Prim.Native.Nat.{◌-◌}
 use native.Mathlib.Omega.{arith}
-use Rattle.machines.proofs.AddedLaws.{total-done, total-more, total-start}
+use Rattle.machines.proofs.AddedLaws.{total-done, total-more}
 use Rattle.activations.proofs.added.added_locals.Goals as goal
 
-pub loop-i-init : goal.loop-i-init
-loop-i-init c = (omega arith, omega arith, total-start _ _)
-
 pub overflow_add-c : goal.overflow_add-c
-overflow_add-c c = omega (arith, c.loop-i-test.true, c.loop-i.invariant.1, c.adds_locals-c.ensures.0, c.requires)
-
-pub overflow_add-i : goal.overflow_add-i
-overflow_add-i c = omega (arith, c.loop-i-test.true, c.requires)
+overflow_add-c c = omega (arith, c.loop-i-test.true, c.loop-i.invariant.0, c.adds_locals-c.ensures.0, c.requires)
 
 pub loop-i-preserved : goal.loop-i-preserved
-loop-i-preserved c = (omega (arith, c.loop-i-test.true), omega (arith, c.loop-i.invariant.1, c.adds_locals-c.ensures.0), total-more _ _ _ _ _ _ c.loop-i-test.true c.adds_locals-c.ensures.1 c.loop-i.invariant.2)
+loop-i-preserved c = (omega (arith, c.loop-i.invariant.0, c.adds_locals-c.ensures.0), total-more _ _ _ _ _ _ c.loop-i-test.true c.adds_locals-c.ensures.1 c.loop-i.invariant.1)
 
 pub returns : goal.returns
-returns c = (omega (arith, c.loop-i.invariant.0, c.loop-i.invariant.1, c.requires), total-done _ _ _ _ _ c.loop-i-test.false c.loop-i.invariant.2)
+returns c = (omega (arith, c.loop-i.invariant.0, c.requires), total-done _ _ _ _ _ c.loop-i-test.false c.loop-i.invariant.1)

@@ -5,7 +5,4 @@ use Rattle.activations.specs.CountsAt.{adds_locals_t}
 use Rattle.activations.proofs.added.added_locals.Given as goal
 
 abbrev pub invariant-loop-i : goal.invariant-loop-i
-invariant-loop-i l = (l.i ≤ l.n) × (l.c ≤ 65536 * l.i) × (l.c + total_t (adds_locals_t l.acts l.k) (l.n - l.i) l.i ≡ total_t (adds_locals_t l.acts l.k) l.n 0)
-
-abbrev pub decreases-loop-i : goal.decreases-loop-i
-decreases-loop-i l = l.n - l.i
+invariant-loop-i l = (l.c ≤ 65536 * l.i) × (l.c + total_t (adds_locals_t l.acts l.k) (l.n - l.i) l.i ≡ total_t (adds_locals_t l.acts l.k) l.n 0)

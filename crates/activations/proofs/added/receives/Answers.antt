@@ -1,10 +1,6 @@
-use Prim.Native.Nat.{◌-◌}
-use Rattle.machines.proofs.ReceiverLaws.{busy-done, busy-more, busy-start}
+use Rattle.machines.proofs.ReceiverLaws.{busy-done, busy-more}
 use Rattle.activations.specs.ActTable.{goal_t}
 use Rattle.activations.proofs.added.receives.Goals as goal
-
-pub loop-i-init : goal.loop-i-init
-loop-i-init c = busy-start (goal_t _) _ _ _
 
 pub loop-i-preserved : goal.loop-i-preserved
 loop-i-preserved c = busy-more (goal_t _) _ _ _ _ _ _ _ c.loop-i-test.true c.act_node-a.ensures.1 c.nearer-b.ensures c.loop-i.invariant

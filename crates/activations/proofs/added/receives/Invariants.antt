@@ -6,6 +6,3 @@ use Rattle.activations.proofs.added.receives.Given as goal
 
 abbrev pub invariant-loop-i : goal.invariant-loop-i
 invariant-loop-i l = receives_t (goal_t l.acts) l.k (l.n - l.i) l.i l.b ≡ receives_t (goal_t l.acts) l.k l.n 0 65536
-
-abbrev pub decreases-loop-i : goal.decreases-loop-i
-decreases-loop-i l = l.n - l.i

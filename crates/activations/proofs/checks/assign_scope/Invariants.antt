@@ -1,14 +1,11 @@
 use mathlib.Core.List.{List}
 use mathlib.Core.Path.{◌≡◌}
-use Prim.Native.Nat.{ℕ}
+use Prim.Native.Nat.{◌-◌}
 use lib.ListN.{length}
 use Rattle.pack_rules.specs.Names.{Name}
 use Rattle.activations.specs.Places.{each_of}
 use Rattle.activations.specs.ChecksAt.{assign_t, over_equation}
 use Rattle.activations.proofs.checks.assign_scope.Given as goal
 
-abbrev pub invariant-loop-n : goal.invariant-loop-n
-invariant-loop-n l = (length {A = ℕ} l.sampled ≡ length {A = ℕ} l.initial.sampled) × ((ns : List Name) → length ns ≡ l.names → each_of (assign_t l.pack l.k) (over_equation ns l.pack) l.n l.p l.sampled ≡ each_of (assign_t l.pack l.k) (over_equation ns l.pack) l.initial.n l.initial.p l.initial.sampled)
-
-abbrev pub decreases-loop-n : goal.decreases-loop-n
-decreases-loop-n l = l.n
+abbrev pub invariant-loop : goal.invariant-loop
+invariant-loop l = (ns : List Name) → length ns ≡ l.names → each_of (assign_t l.pack l.k) (over_equation ns l.pack) (l.end - l.counter) l.p l.sampled ≡ each_of (assign_t l.pack l.k) (over_equation ns l.pack) l.end l.initial.p l.initial.sampled

@@ -1,4 +1,3 @@
-use mathlib.Core.Bool.{false}
 use mathlib.Core.Path.{refl}
 use Rattle.activations.specs.ExprNodes.{is_bad}
 use Rattle.activations.proofs.Moving.{meets-fall}

@@ -1,27 +1,21 @@
-use mathlib.Core.Path.{refl, ◌∙◌}
+use Rattle.activations.proofs.Counting.{left_none, left_one}
 use Rattle.activations.specs.Places.{branch_end}
 use Rattle.activations.specs.LastsAt.{find_in_body_t}
 use Rattle.activations.proofs.PlaceLaws.{each_more}
 use Rattle.activations.proofs.LastLaws.{body-sought, branches-done}
 use Rattle.activations.proofs.find_lasts.find_in_bodies.Goals as goal
 
-pub loop-n-init : goal.loop-n-init
-loop-n-init c = (refl, c.requires.1, λ ns e. refl)
-
 pub branch_equations-e-requires : goal.branch_equations-e-requires
 branch_equations-e-requires c = c.requires.0
 
 pub find_in_scope-c-requires : goal.find_in_scope-c-requires
-find_in_scope-c-requires c = (c.requires.0, c.loop-n.invariant.1)
+find_in_scope-c-requires c = (c.requires.0, c.loop.invariant.0)
 
 pub after_branch-p-requires : goal.after_branch-p-requires
 after_branch-p-requires c = c.requires.0
 
-pub loop-n-preserved : goal.loop-n-preserved
-loop-n-preserved c = (c.find_in_scope-c.auto.lasts ∙ c.loop-n.invariant.0, c.find_in_scope-c.ensures.few, λ ns e. each_more (find_in_body_t ns _ _) (branch_end ns _) _ _ _ _ _ _ c.loop-n-test.true (c.after_branch-p.ensures ns e) (body-sought ns _ _ _ _ _ _ (c.branch_equations-e.ensures ns e) (c.find_in_scope-c.ensures.rows ns e)) (c.loop-n.invariant.2 ns e))
-
-pub shape_of-lasts : goal.shape_of-lasts
-shape_of-lasts c = c.loop-n.invariant.0
+pub loop-preserved : goal.loop-preserved
+loop-preserved c = (c.find_in_scope-c.ensures.few, λ ns e. each_more (find_in_body_t ns _ _) (branch_end ns _) _ _ _ _ _ _ (left_one c.loop-test.true) (c.after_branch-p.ensures ns e) (body-sought ns _ _ _ _ _ _ (c.branch_equations-e.ensures ns e) (c.find_in_scope-c.ensures.rows ns e)) (c.loop.invariant.1 ns e))
 
 pub returns : goal.returns
-returns c = record { few = c.loop-n.invariant.1; rows = λ ns e. branches-done ns _ (find_in_body_t ns _ _) _ _ _ _ _ _ c.first_branch-f.ensures c.loop-n-test.false (c.loop-n.invariant.2 ns e) }
+returns c = record { few = c.loop.invariant.0; rows = λ ns e. branches-done ns _ (find_in_body_t ns _ _) _ _ _ _ _ _ c.first_branch-f.ensures (left_none c.loop-test.false) (c.loop.invariant.1 ns e) }

@@ -1,14 +1,11 @@
 use mathlib.Core.List.{List}
 use mathlib.Core.Path.{◌≡◌}
 use lib.ListN.{length}
-use Prim.Native.Nat.{◌≤◌}
+use Prim.Native.Nat.{◌≤◌, ◌-◌}
 use Rattle.pack_rules.specs.Names.{Name}
 use Rattle.activations.specs.Places.{each_of, equation_end}
 use Rattle.activations.specs.LastsAt.{find_in_equation_t, rows_of}
 use Rattle.activations.proofs.find_lasts.find_in_scope.Given as goal
 
-abbrev pub invariant-loop-n : goal.invariant-loop-n
-invariant-loop-n l = (length l.lasts ≡ length l.initial.lasts) × (l.c ≤ 8192) × ((ns : List Name) → length ns ≡ l.info.names → each_of (find_in_equation_t ns l.pack l.info.last) (equation_end ns l.pack) l.n l.p (rows_of l.lasts l.c) ≡ each_of (find_in_equation_t ns l.pack l.info.last) (equation_end ns l.pack) l.initial.n l.initial.p (rows_of l.initial.lasts l.count))
-
-abbrev pub decreases-loop-n : goal.decreases-loop-n
-decreases-loop-n l = l.n
+abbrev pub invariant-loop : goal.invariant-loop
+invariant-loop l = (l.c ≤ 8192) × ((ns : List Name) → length ns ≡ l.info.names → each_of (find_in_equation_t ns l.pack l.info.last) (equation_end ns l.pack) (l.end - l.counter) l.p (rows_of l.lasts l.c) ≡ each_of (find_in_equation_t ns l.pack l.info.last) (equation_end ns l.pack) l.end l.initial.p (rows_of l.initial.lasts l.count))

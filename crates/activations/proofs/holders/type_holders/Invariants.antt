@@ -1,4 +1,4 @@
-use Prim.Native.Nat.{ℕ, ◌-◌}
+use Prim.Native.Nat.{◌-◌}
 use mathlib.Core.List.{List}
 use mathlib.Core.Path.{◌≡◌}
 use lib.ListN.{length}
@@ -7,7 +7,4 @@ use Rattle.activations.specs.TypeHoldersAt.{hold_from}
 use Rattle.activations.proofs.holders.type_holders.Given as goal
 
 abbrev pub invariant-loop-h : goal.invariant-loop-h
-invariant-loop-h l = (length {A = ℕ} l.types ≡ length {A = ℕ} l.initial.types) × (length {A = ℕ} l.lasts ≡ length {A = ℕ} l.initial.lasts) × ((ns : List Name) → length ns ≡ l.info.names → hold_from ns l.old l.pack l.info l.offsets l.a l.outs (l.n - l.h) l.h l.types l.lasts ≡ hold_from ns l.old l.pack l.info l.offsets l.a l.outs l.n 0 l.initial.types l.initial.lasts)
-
-abbrev pub decreases-loop-h : goal.decreases-loop-h
-decreases-loop-h l = l.n - l.h
+invariant-loop-h l = (ns : List Name) → length ns ≡ l.info.names → hold_from ns l.old l.pack l.info l.offsets l.a l.outs (l.n - l.h) l.h l.types l.lasts ≡ hold_from ns l.old l.pack l.info l.offsets l.a l.outs l.n 0 l.initial.types l.initial.lasts

@@ -1,4 +1,3 @@
-use Prim.Native.Nat.{ℕ, ◌≤◌, ◌<◌, ◌-◌, ◌^◌}
 use mathlib.Core.List.{List}
 use mathlib.Core.Path.{◌≡◌}
 use lib.ListN.{length, drop}
@@ -6,8 +5,5 @@ use Rattle.pack_rules.specs.Names.{Name}
 use Rattle.activations.specs.LocalsAt.{left_of, new_locals_t}
 use Rattle.activations.proofs.locals.put_new_locals.Given as goal
 
-abbrev pub invariant-loop-i : goal.invariant-loop-i
-invariant-loop-i l = (length {A = ℕ} l.later ≡ length {A = ℕ} l.initial.later) × (length {A = ℕ} l.out ≡ length {A = ℕ} l.initial.out) × (length {A = ℕ} l.made ≡ length {A = ℕ} l.initial.made) × (l.i ≤ length l.ids) × ((ns : List Name) → length ns ≡ l.info.names → new_locals_t ns l.pack l.old l.info.made l.a l.offsets l.types l.outs l.n l.k l.sampled (drop l.i l.ids) (left_of l.later l.out l.made l.q) ≡ new_locals_t ns l.pack l.old l.info.made l.a l.offsets l.types l.outs l.n l.k l.sampled l.ids (left_of l.initial.later l.initial.out l.initial.made l.initial.q)) × (length l.ids < 2 ^ 64)
-
-abbrev pub decreases-loop-i : goal.decreases-loop-i
-decreases-loop-i l = length l.ids - l.i
+abbrev pub invariant-loop-id : goal.invariant-loop-id
+invariant-loop-id l = (ns : List Name) → length ns ≡ l.info.names → new_locals_t ns l.pack l.old l.info.made l.a l.offsets l.types l.outs l.n l.k l.sampled (drop l.id-index l.ids) (left_of l.later l.out l.made l.q) ≡ new_locals_t ns l.pack l.old l.info.made l.a l.offsets l.types l.outs l.n l.k l.sampled l.ids (left_of l.initial.later l.initial.out l.initial.made l.initial.q)

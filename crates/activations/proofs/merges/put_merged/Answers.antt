@@ -1,17 +1,13 @@
-use native.Mathlib.Omega.{arith}
-use mathlib.Core.Path.{refl, ◌∙◌}
-use Rattle.machines.proofs.RowLaws.{left_less}
+use Rattle.activations.proofs.Counting.{left_none, left_one, stopped_too}
+use Rattle.activations.proofs.merges.put_merged.Goals.{else-loop-k-test, then-loop-k-test+then-v}
+use mathlib.Core.Path.{◌∙◌}
 use Rattle.activations.proofs.MergeLaws.{merged-more, merged-none, merged-of}
 use Rattle.activations.proofs.merges.put_merged.Goals as goal
 
-pub loop-m-init : goal.loop-m-init
-loop-m-init c = (refl, refl, omega arith, refl)
-
-pub loop-m-smaller : goal.loop-m-smaller
-loop-m-smaller c = left_less c.put_merge_head-v.result _ _ c.loop-m-test.true c.remaining-m.ensures
-
-pub loop-m-preserved : goal.loop-m-preserved
-loop-m-preserved c = (c.put_merge_head-v.auto.out ∙ c.loop-m.invariant.0, c.put_merge_head-v.auto.made ∙ c.loop-m.invariant.1, omega (arith, left_less c.put_merge_head-v.result _ _ c.loop-m-test.true c.remaining-m.ensures, c.loop-m.invariant.2), merged-more _ _ _ _ _ _ _ _ _ _ _ _ c.loop-m-test.true c.loop-m.invariant.2 c.put_merge_head-v.ensures c.remaining-m.ensures c.loop-m.invariant.3)
+pub loop-k-preserved : goal.loop-k-preserved
+loop-k-preserved c = merged-more _ _ _ _ _ _ _ _ _ (left_one c.loop-k-test.true) c.loop-k-test.true c.put_merge_head-v.ensures c.loop-k.invariant
 
 pub returns : goal.returns
-returns c = λ cs e. c.put_scope_value.ensures ∙ merged-none _ _ _ _ _ _ _ _ c.loop-m-test.false c.loop-m.invariant.3 ∙ merged-of _ _ _ _ cs _ e
+returns c = λ cs e. c.put_scope_value.ensures
+    ∙ elim c.loop-k-test.branch [ else-loop-k-test w ↦ merged-none _ _ _ _ _ _ _ _ (left_none w.loop-k-test.false) c.loop-k.invariant | then-loop-k-test+then-v w ↦ stopped_too _ _ _ _ _ _ _ w.if-v.true c.loop-k.invariant ]
+    ∙ merged-of _ _ _ _ cs _ e

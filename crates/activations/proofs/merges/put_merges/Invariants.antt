@@ -1,4 +1,4 @@
-use Prim.Native.Nat.{ℕ}
+use Prim.Native.Nat.{◌-◌}
 use mathlib.Core.List.{List}
 use mathlib.Core.Path.{◌≡◌}
 use lib.ListN.{length}
@@ -9,8 +9,5 @@ use Rattle.pack.specs.Intern.{render}
 use Rattle.activations.specs.ByNumber.{merges_t}
 use Rattle.activations.proofs.merges.put_merges.Given as goal
 
-abbrev pub invariant-loop-n : goal.invariant-loop-n
-invariant-loop-n l = (length {A = ℕ} l.out ≡ length {A = ℕ} l.initial.out) × (length {A = ℕ} l.made ≡ length {A = ℕ} l.initial.made) × ((ns : List Name) → length ns ≡ l.names → (cs : List Expr) → length cs ≡ l.count → render l.old (merges_t ns l.pack l.offsets l.a cs l.n l.p) (state_of l.out l.made l.v) ≡ render l.old (merges_t ns l.pack l.offsets l.a cs l.initial.n l.initial.p) (state_of l.initial.out l.initial.made l.initial.v))
-
-abbrev pub decreases-loop-n : goal.decreases-loop-n
-decreases-loop-n l = l.n
+abbrev pub invariant-loop : goal.invariant-loop
+invariant-loop l = (ns : List Name) → length ns ≡ l.names → (cs : List Expr) → length cs ≡ l.count → render l.old (merges_t ns l.pack l.offsets l.a cs (l.end - l.counter) l.p) (state_of l.out l.made l.v) ≡ render l.old (merges_t ns l.pack l.offsets l.a cs l.end l.initial.p) (state_of l.initial.out l.initial.made l.initial.v)

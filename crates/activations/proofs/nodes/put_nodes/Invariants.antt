@@ -13,11 +13,7 @@ use Rattle.activations.specs.ActTable.{goal_t}
 use Rattle.activations.specs.Joining.{each_at, joined}
 use Rattle.activations.specs.PackInfoAt.{Basis}
 use Rattle.activations.specs.AddedParts.{Settled}
-use Rattle.activations.proofs.AddedPartsKnown.{Ahead}
 use Rattle.activations.proofs.nodes.put_nodes.Given as goal
 
-abbrev pub invariant-loop-c : goal.invariant-loop-c
-invariant-loop-c l = Ahead l.count l.k l.c l.v.full × (length l.types ≡ length l.initial.types) × (length l.outs ≡ length l.initial.outs) × (length l.lasts ≡ length l.initial.lasts) × (length l.reads ≡ length l.initial.reads) × (length l.sampled ≡ length l.initial.sampled) × (length l.later ≡ length l.initial.later) × (length l.out ≡ length l.initial.out) × (length l.made ≡ length l.initial.made) × Idle (goal_t l.acts) l.n l.k l.next × ((ns : List Name) (es : List Enum) (N : List Node) (As : List Activation) (f : length As ≤ 6656) (S : Settled ns l.pack es N As l.nodes l.acts l.count l.n) → Basis ns es l.old l.pack l.offsets l.info → render l.old (each node_items (each_at (λ j. joined es (node_names N) j As) l.k (drop l.k N))) (state_of l.out l.made l.v) ≡ render l.old (each node_items (each_at (λ j. joined es (node_names N) j As) 0 N)) (state_of l.initial.out l.initial.made l.initial.v))
-
-abbrev pub decreases-loop-c : goal.decreases-loop-c
-decreases-loop-c l = l.c
+abbrev pub invariant-loop-k : goal.invariant-loop-k
+invariant-loop-k l = Idle (goal_t l.acts) l.n l.k l.next × ((ns : List Name) (es : List Enum) (N : List Node) (As : List Activation) (f : length As ≤ 6656) (S : Settled ns l.pack es N As l.nodes l.acts l.count l.n) → Basis ns es l.old l.pack l.offsets l.info → render l.old (each node_items (each_at (λ j. joined es (node_names N) j As) l.k (drop l.k N))) (state_of l.out l.made l.v) ≡ render l.old (each node_items (each_at (λ j. joined es (node_names N) j As) 0 N)) (state_of l.initial.out l.initial.made l.initial.v))

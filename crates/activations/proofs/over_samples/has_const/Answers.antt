@@ -1,4 +1,3 @@
-use mathlib.Core.Bool.{false}
 use mathlib.Core.Path.{refl}
 use Rattle.activations.specs.ExprNodes.{is_const}
 use Rattle.activations.specs.Walks.{or_step}

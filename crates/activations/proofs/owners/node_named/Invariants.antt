@@ -6,6 +6,3 @@ use Rattle.activations.proofs.owners.node_named.Given as goal
 
 abbrev pub invariant-loop-k : goal.invariant-loop-k
 invariant-loop-k l = find_t (owners_t l.pack l.nodes l.n) l.x (l.n - l.k) l.k ≡ find_t (owners_t l.pack l.nodes l.n) l.x l.n 0
-
-abbrev pub decreases-loop-k : goal.decreases-loop-k
-decreases-loop-k l = l.n - l.k

@@ -7,7 +7,4 @@ use Rattle.machines.specs.OwnersAt.{fill_t, node_end, nth}
 use Rattle.activations.proofs.owners.place_nodes.Given as goal
 
 abbrev pub invariant-loop-k : goal.invariant-loop-k
-invariant-loop-k l = (length l.nodes ≡ length l.initial.nodes) × ((ns : List Name) → length ns ≡ l.names → (l.p ≡ nth (node_end ns l.pack) l.c.next l.k) × (fill_t (λ i. nth (node_end ns l.pack) l.c.next i % 65536) (l.c.value - l.k) l.k l.nodes ≡ fill_t (λ i. nth (node_end ns l.pack) l.c.next i % 65536) l.c.value 0 l.initial.nodes))
-
-abbrev pub decreases-loop-k : goal.decreases-loop-k
-decreases-loop-k l = l.c.value - l.k
+invariant-loop-k l = (ns : List Name) → length ns ≡ l.names → (l.p ≡ nth (node_end ns l.pack) l.c.next l.k) × (fill_t (λ i. nth (node_end ns l.pack) l.c.next i % 65536) (l.c.value - l.k) l.k l.nodes ≡ fill_t (λ i. nth (node_end ns l.pack) l.c.next i % 65536) l.c.value 0 l.initial.nodes)

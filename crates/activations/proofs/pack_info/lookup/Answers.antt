@@ -1,8 +1,8 @@
-use Rattle.activations.proofs.PackInfoLaws.{found_at, found-missing}
+use Rattle.activations.proofs.PackInfoLaws.{found_at, missing_at}
 use Rattle.activations.proofs.pack_info.lookup.Goals as goal
 
-pub returns-in-At : goal.returns-in-At
-returns-in-At c = found_at _ _ _ _ c.in-At.is c.seek_name-f.ensures.0
+pub returns-in-Ok : goal.returns-in-Ok
+returns-in-Ok c = found_at _ _ _ c.in-Ok.ensures.0
 
-pub returns-in-Missing : goal.returns-in-Missing
-returns-in-Missing c = found-missing _ _ _ _ c.in-Missing.is c.seek_name-f.ensures.0
+pub returns-in-Err : goal.returns-in-Err
+returns-in-Err c = missing_at _ _ _ c.in-Err.ensures.0

@@ -1,16 +1,9 @@
-use native.Mathlib.Omega.{arith}
-use lib.ListN.{length-take}
 use Rattle.activations.proofs.LookupLaws.{built-full, built-none, built-part}
+use Rattle.activations.proofs.pack_info.lookup_made.Goals.{else-not-t-via-else-not-t, else-not-t-via-then-not-t+else-info}
 use Rattle.activations.proofs.pack_info.lookup_made.Goals as goal
 
-pub returns-then-full : goal.returns-then-full
-returns-then-full c = built-full _ _ _ _ _ c.if-full.true
+pub returns-then-info : goal.returns-then-info
+returns-then-info c = built-part _ _ _ _ _ _ _ c.if-not-t.true c.if-info.true c.min.ensures c.lookup.ensures
 
-pub slice_bounds-lookup-end : goal.slice_bounds-lookup-end
-slice_bounds-lookup-end c = simp length-take (omega arith)
-
-pub returns-then-made : goal.returns-then-made
-returns-then-made c = built-part _ _ _ _ _ _ _ c.if-full.false c.if-made.true c.capped-end.ensures c.lookup.ensures
-
-pub returns : goal.returns
-returns c = built-none _ _ _ _ _ c.if-full.false c.if-made.false
+pub returns-else-not-t : goal.returns-else-not-t
+returns-else-not-t c = elim c.else-not-t.branch [ else-not-t-via-then-not-t+else-info w ↦ built-none _ _ _ _ _ w.if-not-t.true w.if-info.false | else-not-t-via-else-not-t w ↦ built-full _ _ _ _ _ w.if-not-t.false ]

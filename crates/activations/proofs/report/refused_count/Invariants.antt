@@ -6,6 +6,3 @@ use Rattle.activations.proofs.report.refused_count.Given as goal
 
 abbrev pub invariant-loop-i : goal.invariant-loop-i
 invariant-loop-i l = (l.c ≤ l.i) × (l.c + total_t (is_refused_t l.acts) (l.n - l.i) l.i ≡ total_t (is_refused_t l.acts) l.n 0)
-
-abbrev pub decreases-loop-i : goal.decreases-loop-i
-decreases-loop-i l = l.n - l.i

@@ -1,23 +1,12 @@
-use native.Mathlib.Omega.{arith}
-use mathlib.Core.Path.{refl, ◌∙◌}
-use Rattle.machines.proofs.RowLaws.{left_less}
+use Rattle.activations.proofs.Counting.{left_none, left_one, stopped}
 use Rattle.activations.proofs.OriginLaws.{branches-done, branches-more}
 use Rattle.activations.proofs.sections.put_branches.Goals as goal
 
-pub loop-n-init : goal.loop-n-init
-loop-n-init c = (refl, λ ns e old l. refl)
+pub loop-preserved : goal.loop-preserved
+loop-preserved c = λ ns e old l. branches-more ns _ old _ _ _ _ _ _ _ (left_one c.loop-test.true) c.number-i.ensures (c.put_u16-v.ensures l) (c.after_branch-p.ensures ns e) (c.loop.invariant ns e old l)
 
-pub overflow_sub-n : goal.overflow_sub-n
-overflow_sub-n c = omega (arith, c.loop-n-test.true)
+pub returns-after-loop : goal.returns-after-loop
+returns-after-loop c = λ ns e old l. branches-done ns _ old _ _ _ _ (left_none c.loop-test.false) (c.loop.invariant ns e old l)
 
-pub loop-n-smaller : goal.loop-n-smaller
-loop-n-smaller c = left_less c.put_u16-v.result _ _ c.loop-n-test.true c.remaining-n.ensures
-
-pub loop-n-preserved : goal.loop-n-preserved
-loop-n-preserved c = (c.put_u16-v.auto.out ∙ c.loop-n.invariant.0, λ ns e old l. branches-more ns _ old _ _ _ _ _ _ _ _ _ _ c.loop-n-test.true c.number-i.ensures (c.put_u16-v.ensures l) (c.after_branch-p.ensures ns e) c.remaining-n.ensures (c.loop-n.invariant.1 ns e old l))
-
-pub shape_of-out : goal.shape_of-out
-shape_of-out c = c.loop-n.invariant.0
-
-pub returns : goal.returns
-returns c = λ ns e old l. branches-done ns _ old _ _ _ _ c.loop-n-test.false (c.loop-n.invariant.1 ns e old l)
+pub returns-then-v : goal.returns-then-v
+returns-then-v c = λ ns e old l. stopped old _ _ _ _ _ c.if-v.true (c.loop.invariant ns e old l)

@@ -1,4 +1,4 @@
-use Prim.Native.Nat.{ℕ}
+use Prim.Native.Nat.{ℕ, ◌-◌}
 use mathlib.Core.List.{List}
 use mathlib.Core.Path.{◌≡◌}
 use lib.ListN.{length}
@@ -8,8 +8,5 @@ use Rattle.pack.specs.Intern.{render}
 use Rattle.activations.specs.OriginsAt.{branches_t}
 use Rattle.activations.proofs.sections.put_branches.Given as goal
 
-abbrev pub invariant-loop-n : goal.invariant-loop-n
-invariant-loop-n lv = (length {A = ℕ} lv.out ≡ length {A = ℕ} lv.initial.out) × ((ns : List Name) → length ns ≡ lv.names → (old l : List ℕ) → render old (branches_t ns lv.pack lv.n lv.p) (state_of lv.out l lv.v) ≡ render old (branches_t ns lv.pack lv.count lv.from) (state_of lv.initial.out l lv.initial.v))
-
-abbrev pub decreases-loop-n : goal.decreases-loop-n
-decreases-loop-n l = l.n
+abbrev pub invariant-loop : goal.invariant-loop
+invariant-loop lv = (ns : List Name) → length ns ≡ lv.names → (old l : List ℕ) → render old (branches_t ns lv.pack (lv.count - lv.counter) lv.p) (state_of lv.out l lv.v) ≡ render old (branches_t ns lv.pack lv.count lv.from) (state_of lv.initial.out l lv.initial.v)

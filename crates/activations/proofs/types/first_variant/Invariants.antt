@@ -1,3 +1,4 @@
+use Prim.Native.Nat.{◌-◌}
 use mathlib.Core.List.{List}
 use mathlib.Core.Path.{◌≡◌}
 use lib.ListN.{length}
@@ -6,8 +7,5 @@ use Rattle.activations.specs.Places.{each_of}
 use Rattle.activations.specs.TypesAt.{enum_end, variant_at}
 use Rattle.activations.proofs.types.first_variant.Given as goal
 
-abbrev pub invariant-loop-n : goal.invariant-loop-n
-invariant-loop-n l = (ns : List Name) → length ns ≡ l.names → each_of (variant_at l.pack l.x) (enum_end ns l.pack) l.n l.p l.r ≡ each_of (variant_at l.pack l.x) (enum_end ns l.pack) l.initial.n l.initial.p l.initial.r
-
-abbrev pub decreases-loop-n : goal.decreases-loop-n
-decreases-loop-n l = l.n
+abbrev pub invariant-loop : goal.invariant-loop
+invariant-loop l = (ns : List Name) → length ns ≡ l.names → each_of (variant_at l.pack l.x) (enum_end ns l.pack) (l.end - l.counter) l.p l.r ≡ each_of (variant_at l.pack l.x) (enum_end ns l.pack) l.end l.initial.p l.initial.r

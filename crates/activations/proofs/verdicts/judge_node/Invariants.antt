@@ -1,4 +1,4 @@
-use Prim.Native.Nat.{◌-◌, ◌≤◌}
+use Prim.Native.Nat.{◌≤◌}
 use mathlib.Core.List.{List}
 use mathlib.Core.Path.{◌≡◌}
 use lib.ListN.{length}
@@ -10,7 +10,4 @@ use Rattle.activations.proofs.NodesJudged.{Going}
 use Rattle.activations.proofs.verdicts.judge_node.Given as goal
 
 abbrev pub invariant-loop-i : goal.invariant-loop-i
-invariant-loop-i l = (l.i ≤ l.n) × (length l.types ≡ length l.initial.types) × (length l.outs ≡ length l.initial.outs) × (length l.lasts ≡ length l.initial.lasts) × (length l.reads ≡ length l.initial.reads) × (length l.sampled ≡ length l.initial.sampled) × (length l.later ≡ length l.initial.later) × (length l.acts ≡ length l.initial.acts) × ((ns : List Name) (es : List Enum) (N : List Node) (As : List Activation) (m : Node) (f : length As ≤ 6656) (D : Drawn ns l.pack es N As l.initial.acts) → Basis ns es l.old l.pack l.offsets l.info → length As ≡ l.n → Types ns l.pack m l.initial.later → Going ns l.pack es N As f l.k m l.initial.acts D l.i l.later l.acts)
-
-abbrev pub decreases-loop-i : goal.decreases-loop-i
-decreases-loop-i l = l.n - l.i
+invariant-loop-i l = (ns : List Name) (es : List Enum) (N : List Node) (As : List Activation) (m : Node) (f : length As ≤ 6656) (D : Drawn ns l.pack es N As l.initial.acts) → Basis ns es l.old l.pack l.offsets l.info → length As ≡ l.n → Types ns l.pack m l.initial.later → Going ns l.pack es N As f l.k m l.initial.acts D l.i l.later l.acts

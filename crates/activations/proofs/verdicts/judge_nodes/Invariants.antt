@@ -1,4 +1,4 @@
-use Prim.Native.Nat.{◌-◌, ◌≤◌}
+use Prim.Native.Nat.{◌≤◌}
 use mathlib.Core.List.{List}
 use mathlib.Core.Path.{◌≡◌}
 use lib.ListN.{length}
@@ -10,7 +10,4 @@ use Rattle.activations.proofs.NodesJudged.{Passing}
 use Rattle.activations.proofs.verdicts.judge_nodes.Given as goal
 
 abbrev pub invariant-loop-k : goal.invariant-loop-k
-invariant-loop-k l = (l.k ≤ l.m) × (length l.types ≡ length l.initial.types) × (length l.outs ≡ length l.initial.outs) × (length l.lasts ≡ length l.initial.lasts) × (length l.reads ≡ length l.initial.reads) × (length l.sampled ≡ length l.initial.sampled) × (length l.later ≡ length l.initial.later) × (length l.acts ≡ length l.initial.acts) × ((ns : List Name) (es : List Enum) (N : List Node) (As : List Activation) (f : length As ≤ 6656) (D : Drawn ns l.pack es N As l.initial.acts) → Basis ns es l.old l.pack l.offsets l.info → NodesFrom ns l.pack l.nodes 0 N → length N ≡ l.m → length As ≡ l.n → Passing ns l.pack es N As f l.initial.acts D l.k l.acts)
-
-abbrev pub decreases-loop-k : goal.decreases-loop-k
-decreases-loop-k l = l.m - l.k
+invariant-loop-k l = (ns : List Name) (es : List Enum) (N : List Node) (As : List Activation) (f : length As ≤ 6656) (D : Drawn ns l.pack es N As l.initial.acts) → Basis ns es l.old l.pack l.offsets l.info → NodesFrom ns l.pack l.nodes 0 N → length N ≡ l.m → length As ≡ l.n → Passing ns l.pack es N As f l.initial.acts D l.k l.acts
