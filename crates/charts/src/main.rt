@@ -12,7 +12,6 @@ use machines::layout::between;
 use ol_lower::{ol_lower_activations, ol_lower_state_machines, ol_pack_check};
 use pack::record::Pack;
 use std::io;
-use wire::answer::Read;
 use wire::number::read_u32;
 
 // What both buffers are filled with before a call.
@@ -37,17 +36,13 @@ fn part_at(s: &[u8], at: usize) -> Part
     ensures { Onward (length s.now) at result.to }
 {
     let end = s.len();
-    let Read::Is {
-        value: n,
-        next: from,
-    } = read_u32(s, at)
-    else {
-        return Part { from: end, to: end };
-    };
-    if end - from < n {
-        return Part { from: end, to: end };
+    match read_u32(s, at) {
+        Ok(len) if len.value <= end - len.next => Part {
+            from: len.next,
+            to: len.next + len.value,
+        },
+        _ => Part { from: end, to: end },
     }
-    Part { from, to: from + n }
 }
 
 // Whether a stored word is the one that a call returned: its value, then its number.

@@ -14,7 +14,10 @@ use Rattle.pack_rules.specs.Read.{Reading, bytes_after, deep_at, ends_early, ill
 use Rattle.pack_rules.specs.Report.{Refusal, report_bytes}
 use Rattle.pack_rules.specs.Write.{encode, package_items, shorts}
 use Rattle.pack_rules.specs.Outcome.{Answers, Outcome, answers, begins, number_of, on_package, output_of, reported, reports, sized, value_of, writes, written}
-use Rattle.pack.specs.declared.finish.Outcome.{Outcome as Returned}
+use Rattle.pack.specs.declared.finish.CallError.{CallError}
+use Rattle.pack.specs.declared.finish.CallError.TheVariants as ce
+use Rattle.pack.specs.Finish.{error_number, error_value}
+use Rattle.lower.specs.declared.Returned.{Returned}
 use Rattle.machine_rules.specs.Machines.{machines_lowered, made_machines}
 use Rattle.machine_rules.specs.Call.{lower_machines, lower_package_machines, report_or_pack}
 use Rattle.activation_rules.specs.Call.{lower_activations}
@@ -71,49 +74,62 @@ pub returned-is : (x : Outcome) (r : Returned) → r.number ≡ number_of x → 
 unfolding returned_for
 returned-is x r e f i = record { number = e i; value = f i }
 
+-- no error has the number of a pack that was written
+error-number : (e : CallError) → error_number e ≡ 0 → ⊥
+error-number ce.TooLong z = absurd (omega (arith, z))
+error-number (ce.EndsEarly n) z = absurd (omega (arith, z))
+error-number (ce.Illegal o) z = absurd (omega (arith, z))
+error-number (ce.TooDeep o) z = absurd (omega (arith, z))
+error-number (ce.BytesAfter o) z = absurd (omega (arith, z))
+error-number (ce.Refused n) z = absurd (omega (arith, z))
+error-number (ce.ReportRoom n) z = absurd (omega (arith, z))
+error-number ce.TooLarge z = absurd (omega (arith, z))
+error-number (ce.OutputRoom n) z = absurd (omega (arith, z))
+
 -- the first call alone, where it is refused
-alone-after : (x : Outcome) (r : Returned) → r.number ≡ number_of x → r.value ≡ value_of x → (r.number ≡ 0 → ⊥) → First r ≡ calls_after x
+alone-after : (x : Outcome) (r : Returned) → r.number ≡ number_of x → r.value ≡ value_of x → (number_of x ≡ 0 → ⊥) → First r ≡ calls_after x
 unfolding calls_after number_of
 alone-after (answers n v) r e f z = ap First (returned-is (answers n v) r e f)
 alone-after (reports b) r e f z = ap First (returned-is (reports b) r e f)
-alone-after (writes b) r e f z = absurd (z e)
+alone-after (writes b) r e f z = absurd (z refl)
 
 -- of the first call, with buffers as long as a pack may be
-module _ (s output output' report report' : List ℕ) (r : Returned) (o : length output ≡ 65536) (p : length report ≡ 65536) (a : Answers (lower_machines s (length output) (length report)) r.number r.value output output' report report') where
+module _ (s output output' report report' : List ℕ) (o : length output ≡ 65536) (p : length report ≡ 65536) where
   same-room : lower_machines s (length output) (length report) ≡ lower_machines s max_bytes max_bytes
   same-room = rw (o, p)
 
-  pub alone : (r.number ≡ 0 → ⊥) → First r ≡ calls_after (lower_machines s max_bytes max_bytes)
-  alone z = alone-after _ r a.gives.number_is a.gives.value-is z ∙ ap calls_after same-room
+  pub alone : (x : CallError) → Answers (lower_machines s (length output) (length report)) (error_number x) (error_value x) output output' report report' → (r : Returned) → r.number ≡ error_number x → r.value ≡ error_value x → First r ≡ calls_after (lower_machines s max_bytes max_bytes)
+  alone x a r e f = alone-after _ r (e ∙ a.gives.number_is) (f ∙ a.gives.value-is) (λ z. error-number x (a.gives.number_is ∙ z)) ∙ ap calls_after same-room
 
-  wrote : r.number ≡ 0 → Wrote (length output) (lower_machines s (length output) (length report))
-  wrote z = lowered-wrote s (length output) (length report) (sym a.gives.number_is ∙ z)
+  module _ (n : ℕ) (a : Answers (lower_machines s (length output) (length report)) 0 n output output' report report') where
+    wrote : Wrote (length output) (lower_machines s (length output) (length report))
+    wrote = lowered-wrote s (length output) (length report) (sym a.gives.number_is)
 
-  as_long : (z : r.number ≡ 0) → r.value ≡ length (wrote z).bytes
-  unfolding value_of
-  as_long z = a.gives.value-is ∙ ap value_of (wrote z).is
+    as_long : n ≡ length wrote.bytes
+    unfolding value_of
+    as_long = a.gives.value-is ∙ ap value_of wrote.is
 
-  pub within : r.number ≡ 0 → r.value ≤ length output
-  within z = omega (arith, as_long z, (wrote z).fits)
+    pub within : n ≤ length output
+    within = omega (arith, as_long, wrote.fits)
 
-  -- the bytes that the second call is made on
-  begun : (z : r.number ≡ 0) → take r.value output' ≡ (wrote z).bytes
-  unfolding output_of begins
-  begun z =
-      ap (take r.value) (a.gives.output-is ∙ ap (λ x. output_of x output) (wrote z).is)
-      ∙ ap (λ k. take k (begins (wrote z).bytes output)) (as_long z)
-      ∙ take-append_seam (wrote z).bytes _
+    -- the bytes that the second call is made on
+    begun : take n output' ≡ wrote.bytes
+    unfolding output_of begins
+    begun =
+        ap (take n) (a.gives.output-is ∙ ap (λ x. output_of x output) wrote.is)
+        ∙ ap (λ k. take k (begins wrote.bytes output)) as_long
+        ∙ take-append_seam wrote.bytes _
 
-  pub both : r.number ≡ 0 → (second : Returned) → second ≡ returned_for (lower_activations (take r.value output') max_bytes max_bytes) → Both r second ≡ calls_after (lower_machines s max_bytes max_bytes)
-  unfolding calls_after number_of value_of
-  both z second e =
-      let x = writes (wrote z).bytes in
-      let f : r ≡ returned_for x = returned-is x r z (as_long z) in
-      let g : second ≡ returned_for (lower_activations (wrote z).bytes max_bytes max_bytes) = e ∙ ap (λ b. returned_for (lower_activations b max_bytes max_bytes)) (begun z) in
-      let h : Both r second ≡ calls_after x = λ i. Both (f i) (g i) in
-      h ∙ ap calls_after (sym (wrote z).is ∙ same-room)
+    pub both : (r : Returned) → r.number ≡ 0 → r.value ≡ n → (second : Returned) → second ≡ returned_for (lower_activations (take n output') max_bytes max_bytes) → Both r second ≡ calls_after (lower_machines s max_bytes max_bytes)
+    unfolding calls_after number_of value_of
+    both r z v second e =
+        let x = writes wrote.bytes in
+        let f : r ≡ returned_for x = returned-is x r z (v ∙ as_long) in
+        let g : second ≡ returned_for (lower_activations wrote.bytes max_bytes max_bytes) = e ∙ ap (λ b. returned_for (lower_activations b max_bytes max_bytes)) begun in
+        let h : Both r second ≡ calls_after x = λ i. Both (f i) (g i) in
+        h ∙ ap calls_after (sym wrote.is ∙ same-room)
 
 -- of the second
-pub second_is : (s output output' report report' : List ℕ) (r : Returned) → length output ≡ 65536 → length report ≡ 65536 → Answers (lower_activations s (length output) (length report)) r.number r.value output output' report report' → r ≡ returned_for (lower_activations s max_bytes max_bytes)
-second_is s output output' report report' r o p a =
-    returned-is _ r a.gives.number_is a.gives.value-is ∙ ap returned_for (rw (o, p))
+pub second_is : (s output output' report report' : List ℕ) (n v : ℕ) (r : Returned) → length output ≡ 65536 → length report ≡ 65536 → Answers (lower_activations s (length output) (length report)) n v output output' report report' → r.number ≡ n → r.value ≡ v → r ≡ returned_for (lower_activations s max_bytes max_bytes)
+second_is s output output' report report' n v r o p a e f =
+    returned-is _ r (e ∙ a.gives.number_is) (f ∙ a.gives.value-is) ∙ ap returned_for (rw (o, p))

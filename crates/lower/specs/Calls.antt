@@ -2,7 +2,7 @@
 -- The calls that the program makes, with what they return.
 use Rattle.pack_rules.specs.Limits.{max_bytes}
 use Rattle.pack_rules.specs.Outcome.{Outcome, answers, number_of, reports, value_of, writes}
-use Rattle.pack.specs.declared.finish.Outcome.{Outcome as Returned}
+use Rattle.lower.specs.declared.Returned.{Returned}
 use Rattle.activation_rules.specs.Call.{lower_activations}
 use Rattle.lower.specs.declared.Calls.{Calls}
 use Rattle.lower.specs.declared.Calls.TheVariants.{Both, First}

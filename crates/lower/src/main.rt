@@ -3,6 +3,7 @@
 #![tactic(auto)]
 
 ghost use Rattle.std.specs.Prelude.{◌≡◌};
+ghost use Rattle.pack.specs.Finish.{number_for, value_for};
 ghost use Rattle.std.specs.Io.{ReadsAtMost};
 ghost use Rattle.pack_rules.specs.Limits.{max_bytes};
 ghost use Rattle.machine_rules.specs.Call.{lower_machines};
@@ -15,25 +16,48 @@ use pack::finish::Outcome;
 use pack::record::Pack;
 use std::io;
 
-// The calls that were made, with the number and the value that each returned.
-#[derive(Clone, Copy)]
+// The number and the value of the table of answers that a call returned.
+#[derive(Clone, Copy, Debug, PartialEq, Eq)]
+struct Returned {
+    number: u64,
+    value: u64,
+}
+
+// The calls that were made, with what each returned.
+#[derive(Clone, Copy, Debug, PartialEq, Eq)]
 enum Calls {
-    First(Outcome),
-    Both(Outcome, Outcome),
+    First(Returned),
+    Both(Returned, Returned),
+}
+
+// The row of the table of answers that a call returned.
+fn row_of(answer: Outcome) -> Returned
+    ensures { (result.number ≡ number_for answer) × (result.value ≡ value_for answer) }
+{
+    match answer {
+        Ok(n) => Returned {
+            number: 0,
+            value: n as u64,
+        },
+        Err(e) => Returned {
+            number: e.number(),
+            value: e.value(),
+        },
+    }
 }
 
 // Writes a call's line.
-fn print_line(rt: &impl Print, call: &str, answer: Outcome) -> io::Result<()> {
+fn print_line(rt: &impl Print, call: &str, answer: Returned) -> io::Result<()> {
     println!(rt; "{call} {} {}", answer.number, answer.value)
 }
 
 // The second call, on what the first one wrote.
-fn lower_second(pack: &[u8]) -> Outcome
+fn lower_second(pack: &[u8]) -> Returned
     ensures { result ≡ returned_for (lower_activations pack.now max_bytes max_bytes) }
 {
     let mut output = [0u8; Pack::BYTES];
     let mut report = [0u8; Pack::BYTES];
-    lower_activations(pack, &mut output, &mut report)
+    row_of(lower_activations(pack, &mut output, &mut report))
 }
 
 // The first call, and where it is not refused the second on what it wrote.
@@ -43,12 +67,10 @@ fn lower_both(pack: &[u8]) -> Calls
     let mut output = [0u8; Pack::BYTES];
     let mut report = [0u8; Pack::BYTES];
     let first = lower_state_machines(pack, &mut output, &mut report);
-    if first.number != 0 {
-        return Calls::First(first);
+    match first {
+        Err(_) => Calls::First(row_of(first)),
+        Ok(n) => Calls::Both(row_of(first), lower_second(&output[..n])),
     }
-    let n = first.value as usize;
-    let second = lower_second(&output[..n]);
-    Calls::Both(first, second)
 }
 
 // Writes a line for each call. What is written no contract can say.

@@ -10,11 +10,10 @@ use pack::check::check_pack;
 use pack::finish::Outcome;
 use pack::record::Pack;
 use std::io;
-use wire::answer::Read;
 use wire::number::read_u32;
 
 // Where the next record stands, and how many were replayed and differed so far.
-#[derive(Clone, Copy)]
+#[derive(Clone, Copy, Debug, Default, PartialEq, Eq)]
 struct Tally {
     at: usize,
     compared: usize,
@@ -23,24 +22,16 @@ struct Tally {
 
 // Whether the check's answer is the word that stands at `at`: its value, then its number.
 fn agrees(s: &[u8], at: usize, answer: Outcome) -> bool {
-    let Read::Is {
-        value: low,
-        next: p,
-    } = read_u32(s, at)
-    else {
+    let Ok(low) = read_u32(s, at) else {
         return false;
     };
-    let Read::Is {
-        value: high,
-        next: _,
-    } = read_u32(s, p)
-    else {
+    let Ok(high) = read_u32(s, low.next) else {
         return false;
     };
-    if low as u64 != answer.value {
-        return false;
+    match answer {
+        Ok(n) => low.value == n && high.value == 0,
+        Err(e) => low.value as u64 == e.value() && high.value as u64 == e.number(),
     }
-    high as u64 == answer.number
 }
 
 // A record that is cut short differs, and nothing is replayed after it.
@@ -60,36 +51,29 @@ fn replay_one(s: &[u8], t: Tally) -> Tally
     requires { Inside (length s.now) t }
     ensures { Onward (length s.now) t result }
 {
-    let at = t.at;
-    let Read::Is {
-        value: len,
-        next: p,
-    } = read_u32(s, at)
-    else {
+    let Ok(len) = read_u32(s, t.at) else {
         return broken(s, t);
     };
-    if s.len() < p {
+    let p = len.next;
+    if s.len() < p || s.len() - p < len.value {
         return broken(s, t);
     }
-    if s.len() - p < len {
-        return broken(s, t);
-    }
-    let e = p + len;
+    let e = p + len.value;
     if s.len() - e < 8 {
         return broken(s, t);
     }
-    let answer = check_pack(&s[p..e]);
-    if agrees(s, e, answer) {
-        return Tally {
-            at: e + 8,
-            compared: t.compared + 1,
-            different: t.different,
-        };
-    }
-    Tally {
+    let agreed = Tally {
         at: e + 8,
         compared: t.compared + 1,
-        different: t.different + 1,
+        ..t
+    };
+    if agrees(s, e, check_pack(&s[p..e])) {
+        agreed
+    } else {
+        Tally {
+            different: t.different + 1,
+            ..agreed
+        }
     }
 }
 
