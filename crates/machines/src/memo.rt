@@ -21,8 +21,7 @@ ghost use Rattle.machines.specs.UnknownTargets.{IsDrawn, drawn_state, target_d, 
 ghost use Rattle.machines.specs.StateHeads.{head_of};
 
 use crate::checked_read::{
-    after_equation, after_equations, after_expr, after_state, after_transitions, machine,
-    number,
+    after_equation, after_equations, after_expr, after_state, after_transitions, machine, number,
 };
 use crate::resolve::{empty_run_from, read_state_head};
 use crate::table::to_initial;
