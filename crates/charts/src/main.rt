@@ -4,13 +4,13 @@
 #![tactic(auto)]
 
 ghost use Rattle.std.specs.Prelude.{◌≤◌, ◌<◌, length, IfOk};
-ghost use Rattle.std.specs.Io.{ReadsAtMost};
 ghost use Rattle.charts.specs.Parts.{Onward};
 
 use machines::checked_read::read_or_zero;
 use machines::layout::between;
 use ol_lower::{ol_lower_activations, ol_lower_state_machines, ol_pack_check};
 use pack::record::Pack;
+use programs::read_full;
 use std::io;
 use wire::number::read_u32;
 
@@ -18,14 +18,14 @@ use wire::number::read_u32;
 const FILL: u8 = 170;
 
 // Where a part stands.
-#[derive(Clone, Copy)]
+#[derive(Clone, Copy, Debug, PartialEq, Eq)]
 struct Part {
     from: usize,
     to: usize,
 }
 
 // Where the next answer or chart stands, and whether this one is as stored.
-#[derive(Clone, Copy)]
+#[derive(Clone, Copy, Debug, PartialEq, Eq)]
 struct Tried {
     next: usize,
     agrees: bool,
@@ -60,56 +60,20 @@ fn returned_as(stored: &[u8], word: u64) -> bool {
 
 // Whether a buffer begins with these bytes and is as it was after them.
 fn holds(buffer: &[u8], begins: &[u8]) -> bool {
-    if buffer.len() < begins.len() {
-        return false;
-    }
-    let mut i = 0;
-    while i < buffer.len() {
-        let mut b = FILL;
-        if i < begins.len() {
-            b = begins[i];
-        }
-        if buffer[i] != b {
-            return false;
-        }
-        i += 1;
-    }
-    true
-}
-
-// The check, lowering machines and lowering activations, by number.
-fn call(which: usize, pack: &[u8], output: &mut [u8], report: &mut [u8]) -> u64 {
-    if which == 0 {
-        return ol_pack_check(pack);
-    }
-    if which == 1 {
-        return ol_lower_state_machines(pack, output, report);
-    }
-    ol_lower_activations(pack, output, report)
-}
-
-// Says which call it was.
-fn print_call(rt: &impl Print, which: usize) -> io::Result<()> {
-    if which == 0 {
-        return print!(rt; ", check");
-    }
-    if which == 1 {
-        return print!(rt; ", machines");
-    }
-    print!(rt; ", activations")
+    let n = begins.len();
+    n <= buffer.len() && &buffer[..n] == begins && buffer[n..].iter().all(|b| *b == FILL)
 }
 
 // Says how a call differs.
 fn print_difference(
     rt: &impl Print,
-    which: usize,
+    name: &str,
     word: u64,
     output: bool,
     report: bool,
 ) -> io::Result<()> {
-    print_call(rt, which)?;
     print!(rt;
-        " returned {} {}",
+        ", {name} returned {} {}",
         word / 0x1_0000_0000,
         word % 0x1_0000_0000
     )?;
@@ -123,30 +87,41 @@ fn print_difference(
 }
 
 // Whether a call on a pack returns this word and leaves these beginnings in its buffers.
-fn agrees(
+fn agrees<F: Fn(&[u8], &mut [u8], &mut [u8]) -> u64>(
     rt: &impl Print,
-    which: usize,
+    name: &str,
+    call: F,
     pack: &[u8],
     stored: &[u8],
     output: &[u8],
     report: &[u8],
-) -> io::Result<bool> {
+) -> io::Result<bool>
+    requires { F.IsAlwaysCallable call }
+{
     let mut o = [FILL; Pack::BYTES];
     let mut r = [FILL; Pack::BYTES];
-    let word = call(which, pack, &mut o, &mut r);
+    let word = call(pack, &mut o, &mut r);
     let returned = returned_as(stored, word);
     let output_holds = holds(&o, output);
     let report_holds = holds(&r, report);
     if returned && output_holds && report_holds {
         return Ok(true);
     }
-    print_difference(rt, which, word, output_holds, report_holds)?;
+    print_difference(rt, name, word, output_holds, report_holds)?;
     Ok(false)
 }
 
 // One call on a pack, whose answer stands at `at`.
-fn try_call(rt: &impl Print, s: &[u8], pack: &[u8], which: usize, at: usize) -> io::Result<Tried>
-    requires { at ≤ length s.now }
+fn try_call<F: Fn(&[u8], &mut [u8], &mut [u8]) -> u64>(
+    rt: &impl Print,
+    s: &[u8],
+    pack: &[u8],
+    at: usize,
+    name: &str,
+    call: F,
+) -> io::Result<Tried>
+    requires inside { at ≤ length s.now }
+    requires callable { F.IsAlwaysCallable call }
     ensures { IfOk result (λ t. (at ≤ t.next) × (t.next ≤ length s.now)) }
 {
     let word = part_at(s, at);
@@ -157,7 +132,7 @@ fn try_call(rt: &impl Print, s: &[u8], pack: &[u8], which: usize, at: usize) -> 
     let r = between(s, report.from, report.to);
     Ok(Tried {
         next: report.to,
-        agrees: agrees(rt, which, pack, w, o, r)?,
+        agrees: agrees(rt, name, call, pack, w, o, r)?,
     })
 }
 
@@ -170,9 +145,13 @@ fn try_chart(rt: &impl Print, s: &[u8], at: usize) -> io::Result<Tried>
     let pack = part_at(s, name.to);
     let p = between(s, pack.from, pack.to);
     rt.write_all(between(s, name.from, name.to))?;
-    let a = try_call(rt, s, p, 0, pack.to)?;
-    let b = try_call(rt, s, p, 1, a.next)?;
-    let c = try_call(rt, s, p, 2, b.next)?;
+    let a = try_call(rt, s, p, pack.to, "check", |pack, _, _| ol_pack_check(pack))?;
+    let b = try_call(rt, s, p, a.next, "machines", |pack, output, report| {
+        ol_lower_state_machines(pack, output, report)
+    })?;
+    let c = try_call(rt, s, p, b.next, "activations", |pack, output, report| {
+        ol_lower_activations(pack, output, report)
+    })?;
     let agrees = a.agrees && b.agrees && c.agrees;
     if agrees {
         print!(rt; " ok")?;
@@ -198,21 +177,6 @@ fn try_all(rt: &impl Print, s: &[u8]) -> io::Result<()> {
         }
     }
     println!(rt; "{tried} charts, {different} different")
-}
-
-// Reads until the buffer is full or the input ends, and returns how many bytes it put at the buffer's start.
-fn read_full(input: &mut impl io::Read, buf: &mut [u8]) -> io::Result<usize>
-    ensures { ReadsAtMost result buf.new }
-{
-    let mut done = 0;
-    while done < buf.len() {
-        let n = input.read(&mut buf[done..])?;
-        if n == 0 {
-            break;
-        }
-        done += n;
-    }
-    Ok(done)
 }
 
 // Room for the input. A function of its own makes it, as the proof of `main` would count so many bytes one by one.

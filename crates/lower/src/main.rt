@@ -4,7 +4,6 @@
 
 ghost use Rattle.std.specs.Prelude.{◌≡◌};
 ghost use Rattle.pack.specs.Finish.{number_for, value_for};
-ghost use Rattle.std.specs.Io.{ReadsAtMost};
 ghost use Rattle.pack_rules.specs.Limits.{max_bytes};
 ghost use Rattle.machine_rules.specs.Call.{lower_machines};
 ghost use Rattle.activation_rules.specs.Call.{lower_activations};
@@ -14,6 +13,7 @@ use activations::call::lower_activations;
 use machines::call::lower_state_machines;
 use pack::finish::Outcome;
 use pack::record::Pack;
+use programs::read_full;
 use std::io;
 
 // The number and the value of the table of answers that a call returned.
@@ -82,21 +82,6 @@ fn print_calls(rt: &impl Print, calls: Calls) -> io::Result<()> {
             print_line(rt, "activations", second)
         }
     }
-}
-
-// Reads until the buffer is full or the input ends, and returns how many bytes it put at the buffer's start.
-fn read_full(input: &mut impl io::Read, buf: &mut [u8]) -> io::Result<usize>
-    ensures { ReadsAtMost result buf.new }
-{
-    let mut done = 0;
-    while done < buf.len() {
-        let n = input.read(&mut buf[done..])?;
-        if n == 0 {
-            break;
-        }
-        done += n;
-    }
-    Ok(done)
 }
 
 // One byte more is read than a pack may have: a longer pack is seen to be longer, and what comes after is dropped.

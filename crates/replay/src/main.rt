@@ -3,12 +3,12 @@
 #![tactic(auto)]
 
 ghost use Rattle.std.specs.Prelude.{◌+◌, ◌<◌, length};
-ghost use Rattle.std.specs.Io.{ReadsAtMost};
 ghost use Rattle.replay.specs.Tally.{Inside, Onward};
 
 use pack::check::check_pack;
 use pack::finish::Outcome;
 use pack::record::Pack;
+use programs::read_full;
 use std::io;
 use wire::number::read_u32;
 
@@ -79,32 +79,11 @@ fn replay_one(s: &[u8], t: Tally) -> Tally
 
 // All records.
 fn replay(s: &[u8]) -> Tally {
-    let mut t = Tally {
-        at: 0,
-        compared: 0,
-        different: 0,
-    };
-    let mut at = 0;
-    while at < s.len() {
+    let mut t = Tally::default();
+    while t.at < s.len() {
         t = replay_one(s, t);
-        at = t.at;
     }
     t
-}
-
-// Reads until the buffer is full or the input ends, and returns how many bytes it put at the buffer's start.
-fn read_full(input: &mut impl io::Read, buf: &mut [u8]) -> io::Result<usize>
-    ensures { ReadsAtMost result buf.new }
-{
-    let mut done = 0;
-    while done < buf.len() {
-        let n = input.read(&mut buf[done..])?;
-        if n == 0 {
-            break;
-        }
-        done += n;
-    }
-    Ok(done)
 }
 
 // Replays the records of standard input, and prints how many were compared and how many differ.

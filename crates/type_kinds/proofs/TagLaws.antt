@@ -1,15 +1,14 @@
 -- The tag of each type, which decodes to it and to no other; the default is the integer literal exactly where the test for an
 -- integer type holds.
-use Prim.Native.Nat.{ℕ, zero, suc, ◌+◌, ◌<◌, ◌≤◌}
+use Prim.Native.Nat.{ℕ, zero, suc, ◌+◌, ◌<◌}
 use native.Mathlib.Omega.{arith}
 use mathlib.Core.List.{List, [], ◌∷◌}
 use mathlib.Core.Bool.{Bool, true, false}
-use mathlib.Core.Path.{◌≡◌, refl, sym, ap, ◌∙◌}
-use lib.ListN.{get_or, get_or-eq_default}
+use Rattle.std.specs.Prelude.{Option, None, Some}
+use mathlib.Core.Path.{◌≡◌, refl, ap, ◌∙◌}
+use lib.ListN.{get_or}
 use Rattle.type_kinds.specs.declared.TypeKind.{TypeKind}
 use Rattle.type_kinds.specs.declared.TypeKind.TheVariants as kind
-use Rattle.type_kinds.specs.declared.DecodedType.{DecodedType}
-use Rattle.type_kinds.specs.declared.DecodedType.TheVariants as decoded
 use Rattle.type_kinds.specs.declared.LiteralKind.TheVariants as literal
 use Rattle.type_kinds.specs.declared.DefaultKind.{DefaultKind}
 use Rattle.type_kinds.specs.declared.DefaultKind.TheVariants as default
@@ -34,7 +33,7 @@ type_tag kind.Array = 12
 type_tag kind.Named = 13
 
 -- the tag of a type decodes to it
-pub decode-tag : (k : TypeKind) → decode_type (type_tag k) ≡ decoded.Known k
+pub decode-tag : (k : TypeKind) → decode_type (type_tag k) ≡ Some k
 unfolding decode_type type_tag types_by_tag
 decode-tag kind.Bool = refl
 decode-tag kind.Int8 = refl
@@ -69,47 +68,36 @@ tag_small kind.Array = omega arith
 tag_small kind.Named = omega arith
 
 -- the tag of what a byte stands for; 256 is no byte
-unfoldable tag_in : DecodedType → ℕ
-tag_in (decoded.Known k) = type_tag k
-tag_in decoded.Unknown = 256
+unfoldable tag_in : Option TypeKind → ℕ
+tag_in (Some k) = type_tag k
+tag_in None = 256
 
 -- a table whose rows from n on stand at their types' tags
-unfoldable Ordered : ℕ → List DecodedType → Type 0
+unfoldable Ordered : ℕ → List (Option TypeKind) → Type 0
 Ordered n [] = Unit {0}
 Ordered n (d ∷ ds) = (n ≡ tag_in d) × Ordered (suc n) ds
 
-row-tag : (n : ℕ) (ds : List DecodedType) (i : ℕ) (k : TypeKind) → Ordered n ds → get_or ds i decoded.Unknown ≡ decoded.Known k → n + i ≡ type_tag k
+row-tag : (n : ℕ) (ds : List (Option TypeKind)) (i : ℕ) (k : TypeKind) → Ordered n ds → get_or ds i None ≡ Some k → n + i ≡ type_tag k
 unfolding Ordered tag_in
 row-tag n [] i k r e = let z : 256 ≡ type_tag k = ap tag_in e in let l = tag_small k in absurd (omega arith)
 row-tag n (d ∷ ds) zero k r e = let z : n + 0 ≡ n = omega arith in z ∙ r.0 ∙ ap tag_in e
 row-tag n (d ∷ ds) (suc i) k r e = let z : n + suc i ≡ suc n + i = omega arith in z ∙ row-tag (suc n) ds i k r.1 e
 
 -- a byte that stands for a type is its tag
-pub tag-decoded : (tag : ℕ) (k : TypeKind) → decode_type tag ≡ decoded.Known k → tag ≡ type_tag k
+pub tag-decoded : (tag : ℕ) (k : TypeKind) → decode_type tag ≡ Some k → tag ≡ type_tag k
 unfolding decode_type types_by_tag Ordered tag_in type_tag
 tag-decoded tag k e =
     let z : tag ≡ 0 + tag = omega arith in
     z ∙ row-tag 0 types_by_tag tag k (refl, (refl, (refl, (refl, (refl, (refl, (refl, (refl, (refl, (refl, (refl, (refl, (refl, (refl, tt)))))))))))))) e
 
--- the arms of decoding: by a tag, and past the last
-pub decode-at : (tag n : ℕ) (d : DecodedType) → d ≡ decode_type n → tag ≡ n → d ≡ decode_type tag
-decode-at tag n d e h = e ∙ ap decode_type (sym h)
-
-pub step : (n tag : ℕ) → n ≤ tag → (tag ≡ n → ⊥) → suc n ≤ tag
-step n tag l h = omega arith
-
-pub decode-past : (tag : ℕ) → 14 ≤ tag → decoded.Unknown ≡ decode_type tag
-unfolding decode_type types_by_tag
-decode-past tag l = rw (get_or-eq_default types_by_tag decoded.Unknown l)
-
 -- whether a default is the integer literal
-unfoldable pub is_int : DefaultKind → Bool
-is_int (default.Literal literal.Bool) = false
-is_int (default.Literal literal.Int) = true
-is_int (default.Literal literal.Float) = false
-is_int (default.Literal literal.Char) = false
-is_int default.FirstVariant = false
-is_int default.Missing = false
+unfoldable pub is_int : Option DefaultKind → Bool
+is_int (Some (default.Literal literal.Bool)) = false
+is_int (Some (default.Literal literal.Int)) = true
+is_int (Some (default.Literal literal.Float)) = false
+is_int (Some (default.Literal literal.Char)) = false
+is_int (Some default.FirstVariant) = false
+is_int None = false
 
 pub integer-default : (k : TypeKind) → is_int (default_kind k) ≡ is_integer k
 unfolding is_int default_kind is_integer

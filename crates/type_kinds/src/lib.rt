@@ -7,7 +7,7 @@ ghost use Rattle.type_kinds.specs.Tags.{decode_type};
 ghost use Rattle.type_kinds.specs.Types.{is_integer, integer_or_missing, default_kind};
 
 // The types, in the order of their tags. An array's length and element and a named type's name are not part of the kind.
-#[derive(Clone, Copy)]
+#[derive(Clone, Copy, Debug, PartialEq, Eq)]
 pub enum TypeKind {
     Bool,
     Int8,
@@ -25,15 +25,8 @@ pub enum TypeKind {
     Named,
 }
 
-// The type that a tag byte stands for, if it stands for one.
-#[derive(Clone, Copy)]
-pub enum DecodedType {
-    Known(TypeKind),
-    Unknown,
-}
-
 // The literals, in the order of their tags.
-#[derive(Clone, Copy)]
+#[derive(Clone, Copy, Debug, PartialEq, Eq)]
 pub enum LiteralKind {
     Bool,
     Int,
@@ -41,39 +34,40 @@ pub enum LiteralKind {
     Char,
 }
 
-// What a type's default is: the literal of this kind with value 0 or false, the first variant of the enum that the type names, or
-// none.
-#[derive(Clone, Copy)]
+// What a type's default is, where it has one: the literal of this kind with value 0 or false, or the first variant of the enum that
+// the type names.
+#[derive(Clone, Copy, Debug, PartialEq, Eq)]
 pub enum DefaultKind {
     Literal(LiteralKind),
     FirstVariant,
-    Missing,
 }
 
-// The only place where a type is made from a number: a tag byte decoded.
-pub fn decode_type(tag: usize) -> DecodedType
+// The only place where a type is made from a number: the type that a tag byte stands for, if it stands for one.
+#[tactic(auto, unfolding(crate::specs::Tags::decode_type, crate::specs::Tags::types_by_tag))]
+pub fn decode_type(tag: usize) -> Option<TypeKind>
     ensures { result ≡ decode_type tag }
 {
     match tag {
-        0 => DecodedType::Known(TypeKind::Bool),
-        1 => DecodedType::Known(TypeKind::Int8),
-        2 => DecodedType::Known(TypeKind::Int16),
-        3 => DecodedType::Known(TypeKind::Int32),
-        4 => DecodedType::Known(TypeKind::Int64),
-        5 => DecodedType::Known(TypeKind::Uint8),
-        6 => DecodedType::Known(TypeKind::Uint16),
-        7 => DecodedType::Known(TypeKind::Uint32),
-        8 => DecodedType::Known(TypeKind::Uint64),
-        9 => DecodedType::Known(TypeKind::Float32),
-        10 => DecodedType::Known(TypeKind::Float64),
-        11 => DecodedType::Known(TypeKind::Char),
-        12 => DecodedType::Known(TypeKind::Array),
-        13 => DecodedType::Known(TypeKind::Named),
-        _ => DecodedType::Unknown,
+        0 => Some(TypeKind::Bool),
+        1 => Some(TypeKind::Int8),
+        2 => Some(TypeKind::Int16),
+        3 => Some(TypeKind::Int32),
+        4 => Some(TypeKind::Int64),
+        5 => Some(TypeKind::Uint8),
+        6 => Some(TypeKind::Uint16),
+        7 => Some(TypeKind::Uint32),
+        8 => Some(TypeKind::Uint64),
+        9 => Some(TypeKind::Float32),
+        10 => Some(TypeKind::Float64),
+        11 => Some(TypeKind::Char),
+        12 => Some(TypeKind::Array),
+        13 => Some(TypeKind::Named),
+        _ => None,
     }
 }
 
 // Whether a type is an integer type.
+#[tactic(auto, unfolding(crate::specs::Types::is_integer))]
 pub fn is_integer(kind: TypeKind) -> bool
     ensures { result ≡ is_integer kind }
 {
@@ -96,23 +90,26 @@ pub fn is_integer(kind: TypeKind) -> bool
 }
 
 // The integer literal of an integer type, none of another: the Rust's arm with the test, and the one after it.
-fn integer_or_missing(kind: TypeKind) -> DefaultKind
+#[tactic(auto, unfolding(crate::specs::Types::integer_or_missing))]
+fn integer_or_missing(kind: TypeKind) -> Option<DefaultKind>
     ensures { result ≡ integer_or_missing kind }
 {
     if is_integer(kind) {
-        return DefaultKind::Literal(LiteralKind::Int);
+        Some(DefaultKind::Literal(LiteralKind::Int))
+    } else {
+        None
     }
-    DefaultKind::Missing
 }
 
 // The default of a type; integer types, and arrays, which have none, are told apart by the test.
-pub fn default_kind(kind: TypeKind) -> DefaultKind
+#[tactic(auto, unfolding(crate::specs::Types::default_kind, crate::specs::Types::integer_or_missing, crate::specs::Types::is_integer))]
+pub fn default_kind(kind: TypeKind) -> Option<DefaultKind>
     ensures { result ≡ default_kind kind }
 {
     match kind {
-        TypeKind::Bool => DefaultKind::Literal(LiteralKind::Bool),
-        TypeKind::Float32 | TypeKind::Float64 => DefaultKind::Literal(LiteralKind::Float),
-        TypeKind::Char => DefaultKind::Literal(LiteralKind::Char),
+        TypeKind::Bool => Some(DefaultKind::Literal(LiteralKind::Bool)),
+        TypeKind::Float32 | TypeKind::Float64 => Some(DefaultKind::Literal(LiteralKind::Float)),
+        TypeKind::Char => Some(DefaultKind::Literal(LiteralKind::Char)),
         TypeKind::Int8
         | TypeKind::Int16
         | TypeKind::Int32
@@ -122,6 +119,6 @@ pub fn default_kind(kind: TypeKind) -> DefaultKind
         | TypeKind::Uint32
         | TypeKind::Uint64
         | TypeKind::Array => integer_or_missing(kind),
-        TypeKind::Named => DefaultKind::FirstVariant,
+        TypeKind::Named => Some(DefaultKind::FirstVariant),
     }
 }
