@@ -5,6 +5,7 @@ pub mod MergeLaws
 pub mod MergesEmitted
 pub mod CountLaws
 pub mod Counting
+pub mod RefusalNumbers
 pub mod CellLaws
 pub mod PackInfoLaws
 pub mod NodesRead

@@ -47,9 +47,9 @@ pub needs-given : (ns : List Name) (s : List ℕ) (b : PackInfo) (offsets : List
 unfolding needs_t
 needs-given ns s b offsets init c e = no init 0 _ _ false e refl
 
-pub known_is : (h v c id k : ℕ) (e d x y : List ℕ) → id ≡ k → y ≡ put_t d (3 * h + 2) id → x ≡ set e id (c % 65536) → hold_of x y 0 v ≡ known_t h v c k e d
+pub known_is : (h v c id k : ℕ) (e d x y : List ℕ) → id ≡ k → y ≡ put_t d (3 * h + 2) id → x ≡ set e id (c % 65536) → hold_of x y 0 0 ≡ known_t h v c k e d
 unfolding known_t put_t
-known_is h v c id k e d x y f g i = (λ j. hold_of (i j) (g j) 0 v) ∙ (λ j. hold_of (set e (f j) (c % 65536)) (set d (3 * h + 2) (f j % 65536)) 0 v)
+known_is h v c id k e d x y f g i = (λ j. hold_of (i j) (g j) 0 0) ∙ (λ j. hold_of (set e (f j) (c % 65536)) (set d (3 * h + 2) (f j % 65536)) 0 0)
 
 module _ (ns : List Name) (old s : List ℕ) (b : PackInfo) (offsets : List ℕ) (a : Name) (outs : List ℕ) where
   at_row : (h v c : ℕ) (e d : List ℕ) (z : Hold) → v ≡ word_t d h 0 → c ≡ typed_t e outs b.names v → z ≡ hold_code ns old s b offsets a outs h v c e d → z ≡ hold_row ns old s b offsets a outs h e d

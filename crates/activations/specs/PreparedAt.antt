@@ -9,6 +9,7 @@ use Rattle.activations.specs.Cells.{clear_t, copy_t}
 use Rattle.activations.specs.TypesAt.{first_ports_t}
 use Rattle.activations.specs.LastsAt.{Rows, find_all_lasts_t, rows_of}
 use Rattle.activations.specs.TypeHoldersAt.{Hold, hold_from}
+use Rattle.activations.specs.Refusing.{hold_with}
 
 -- the tables, the answer to the holders, how many there are
 pub record Preparation : Type 0 where
@@ -17,8 +18,8 @@ pub record Preparation : Type 0 where
   pub rows : ℕ
 
 -- the same from the tables and the answer of the code
-abbrev pub preparation_of : List ℕ → List ℕ → List ℕ → Prepared → Preparation
-preparation_of env outs lasts r = record { outs = outs; hold = record { env = env; held = lasts; kind = r.kind; var = r.var }; rows = r.rows }
+abbrev pub preparation_of : ℕ → List ℕ → List ℕ → List ℕ → Prepared → Preparation
+preparation_of names env outs lasts r = record { outs = outs; hold = hold_with names env lasts r.held; rows = r.rows }
 
 module _ (ns : List Name) (old s : List ℕ) (b : PackInfo) (offsets : List ℕ) (a : Name) where
   -- with the rows and the outputs' types

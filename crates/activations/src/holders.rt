@@ -6,6 +6,7 @@
 ghost use Rattle.std.specs.Prelude.{List, ◌∷◌, ◌≡◌, ◌≤◌, ℕ, length};
 ghost use Rattle.wire.specs.Bytes.{word_range};
 ghost use Rattle.pack_rules.specs.Names.{Name};
+ghost use Rattle.activations.specs.Refusing.{OfVariable, hold_with};
 ghost use Rattle.activations.specs.TypeHoldersAt.{hold_from, hold_of, hold_row, holder_t, known_t, needs_t};
 ghost use Rattle.wire.specs.Writer.{puts, state_of};
 ghost use Rattle.pack_rules.specs.Write.{lit_bytes};
@@ -16,7 +17,7 @@ ghost use Rattle.activations.specs.TypesAt.{zero_of};
 ghost use Rattle.activations.specs.HoldersAt.{default_bytes, holder_items, init_bytes, row_items};
 
 use crate::cells::{put_word, word};
-use crate::checks::Refused;
+use crate::checks::Refusal;
 use crate::made_names::put_last;
 use crate::name_ids::holder_id;
 use crate::pack_info::PackInfo;
@@ -27,13 +28,6 @@ use pack::cells::{cell, put_cell};
 use wire::writer::{Writer, put_byte, put_bytes, put_u16};
 
 // --- Holders made known: each has a number, and the type of its variable.
-
-// What is answered: 0, or the kind of a refusal and its variable.
-#[derive(Clone, Copy)]
-pub struct Holder {
-    pub kind: usize,
-    pub var: usize,
-}
 
 // Whether a holder of the type of code c has nothing to start from.
 fn needs_init(pack: &[u8], info: PackInfo, offsets: &[u16], init: usize, c: usize) -> bool
@@ -60,14 +54,15 @@ fn known(
     c: usize,
 )
     requires { (info.names ≤ word_range) × (v ≤ word_range) × (h ≤ 8192) }
-    ensures { hold_of types.new lasts.new 0 v ≡ known_t h v c (holder_t old.now pack.now info offsets.now a.now v) types.old lasts.old }
+    ensures { hold_of types.new lasts.new 0 0 ≡ known_t h v c (holder_t old.now pack.now info offsets.now a.now v) types.old lasts.old }
 {
     let id = holder_id(old, pack, info, offsets, a, v);
     put_word(lasts, 3 * h, 2, id);
     put_cell(types, id, c);
 }
 
-// The row h: 15 where its variable has no type, 16 where there is nothing to start from.
+// The row h: LastUnknown where its variable has no type, LastNeedsInit where there is nothing to start from.
+#[tactic(auto, unfolding(crate::specs::Refusing::OfVariable, crate::specs::Refusing::numbers_of))]
 fn type_holder(
     old: &[u8],
     pack: &[u8],
@@ -78,33 +73,26 @@ fn type_holder(
     types: &mut [u16],
     lasts: &mut [u16],
     h: usize,
-) -> Holder
+) -> Result<(), Refusal>
     requires { (info.names ≤ word_range) × (h ≤ 8192) }
-    ensures { (ns : List Name) → length ns ≡ info.names → hold_of types.new lasts.new result.kind result.var ≡ hold_row ns old.now pack.now info offsets.now a.now outs.now h types.old lasts.old }
+    ensures alone { OfVariable result }
+    ensures held { (ns : List Name) → length ns ≡ info.names → hold_with info.names types.new lasts.new result ≡ hold_row ns old.now pack.now info offsets.now a.now outs.now h types.old lasts.old }
 {
     let v = word(lasts, 3 * h, 0);
     let c = typed(types, outs, info.names, v);
     if c == 0 {
-        return Holder {
-            kind: Refused::LAST_UNKNOWN,
-            var: v,
-        };
+        return Err(Refusal::LastUnknown(v));
     }
     let i = word(lasts, 3 * h, 1);
     if needs_init(pack, info, offsets, i, c) {
-        return Holder {
-            kind: Refused::LAST_NEEDS_INIT,
-            var: v,
-        };
+        return Err(Refusal::LastNeedsInit(v));
     }
     known(old, pack, info, offsets, a, types, lasts, h, v, c);
-    Holder {
-        kind: Refused::ACCEPTED,
-        var: v,
-    }
+    Ok(())
 }
 
 // The holders of n rows in the order found, each known to those that follow; or the first refusal.
+#[tactic(auto, unfolding(crate::specs::Refusing::OfVariable))]
 pub fn type_holders(
     old: &[u8],
     pack: &[u8],
@@ -115,20 +103,15 @@ pub fn type_holders(
     types: &mut [u16],
     lasts: &mut [u16],
     n: usize,
-) -> Holder
+) -> Result<(), Refusal>
     requires { (info.names ≤ word_range) × (n ≤ 8192) }
-    ensures { (ns : List Name) → length ns ≡ info.names → hold_of types.new lasts.new result.kind result.var ≡ hold_from ns old.now pack.now info offsets.now a.now outs.now n 0 types.old lasts.old }
+    ensures alone { OfVariable result }
+    ensures held { (ns : List Name) → length ns ≡ info.names → hold_with info.names types.new lasts.new result ≡ hold_from ns old.now pack.now info offsets.now a.now outs.now n 0 types.old lasts.old }
 {
     for h in 0..n {
-        let r = type_holder(old, pack, info, offsets, a, outs, types, lasts, h);
-        if r.kind != 0 {
-            return r;
-        }
+        type_holder(old, pack, info, offsets, a, outs, types, lasts, h)?;
     }
-    Holder {
-        kind: Refused::ACCEPTED,
-        var: 0,
-    }
+    Ok(())
 }
 
 // --- The equations of holders, written from their rows.

@@ -16,7 +16,7 @@ ghost use Rattle.machines.specs.CheckedReads.{number_in};
 ghost use Rattle.activations.specs.OwnersAt.{draw_t, named_t, place_acts_t, place_nodes_t};
 
 use crate::cells::{put_word, word};
-use crate::checks::{Refused, refusing};
+use crate::checks::{Refusal, Refused, refusing};
 use crate::parts::{Act, act_at, after_act};
 use machines::checked_read::{after_equations, number};
 use machines::write_nodes::to_node_equations;
@@ -127,15 +127,16 @@ fn node_named(pack: &[u8], nodes: &[u16], n: usize, x: usize) -> usize
 }
 
 // The activation at p, among n nodes, is that of the row i. It is refused for its owner until it is judged.
+#[tactic(auto, unfolding(crate::specs::Refusing::RoomFor))]
 fn draw(pack: &[u8], names: usize, nodes: &[u16], n: usize, acts: &mut [u16], i: usize, p: usize)
     ensures { acts.new ≡ draw_t names pack.now nodes.now n i p acts.old }
 {
     let a = number(pack, p);
     let o = number(pack, a.next);
     let k = node_named(pack, nodes, n, o.value);
-    let r = refusing(Refused::UNKNOWN_OWNER, o.value, names);
+    let r = Refusal::UnknownOwner(o.value);
     put_spot(acts, i, p, k);
-    put_judged(acts, i, r, 0);
+    put_judged(acts, i, r.numbers(names), 0);
 }
 
 // Where the activations stand, whose count is at `at`, and the node of each among n nodes. Answers how many there are.
