@@ -1,15 +1,5 @@
-use native.Mathlib.Omega.{arith}
 use Rattle.activations.proofs.LastLaws.{all-sought}
 use Rattle.activations.proofs.find_lasts.find_all_lasts.Goals as goal
-
-pub find_in_conditions-c-requires : goal.find_in_conditions-c-requires
-find_in_conditions-c-requires c = (c.requires, omega arith)
-
-pub find_in_bodies-d-requires : goal.find_in_bodies-d-requires
-find_in_bodies-d-requires c = (c.requires, c.find_in_conditions-c.ensures.few)
-
-pub find_in_scope-requires : goal.find_in_scope-requires
-find_in_scope-requires c = (c.requires, c.find_in_bodies-d.ensures.few)
 
 pub returns : goal.returns
 returns c = record { few = c.find_in_scope.ensures.few; rows = λ ns e. all-sought ns _ _ _ _ _ _ _ (c.find_in_conditions-c.ensures.rows ns e) (c.find_in_bodies-d.ensures.rows ns e) (c.find_in_scope.ensures.rows ns e) }

@@ -3,9 +3,6 @@ use mathlib.Core.Path.{◌≡◌, ◌∙◌}
 use Rattle.activations.proofs.LastLaws.{row_here, row-none, row_on}
 use Rattle.activations.proofs.find_lasts.row_of.Goals as goal
 
-pub overflow_mul-h : goal.overflow_mul-h
-overflow_mul-h c = omega (arith, c.requires, c.loop-h-test.true)
-
 pub returns-then-word-v : goal.returns-then-word-v
 returns-then-word-v c = (omega arith, row_here c.args.lasts.now _ _ _ _ _ c.loop-h-test.true c.word.ensures.1 c.if-word-v.true c.loop-h.invariant)
 

@@ -1,11 +1,5 @@
 use Rattle.activations.proofs.ScopeLocalLaws.{equation-local-is}
 use Rattle.activations.proofs.locals.put_equation_locals.Goals as goal
 
-pub put_new_locals-q-requires : goal.put_new_locals-q-requires
-put_new_locals-q-requires c = c.requires
-
-pub put_value_local-requires : goal.put_value_local-requires
-put_value_local-requires c = c.requires
-
 pub returns : goal.returns
 returns c = λ ns e. equation-local-is ns _ _ _ _ _ _ _ _ _ _ _ _ _ _ _ (c.put_new_locals-q.ensures ns e) (c.put_value_local.ensures ns e)
