@@ -1,12 +1,9 @@
 -- Laws for the code that writes the equations of holders, step by step.
 use Prim.Native.Nat.{ℕ, ◌-◌}
-use native.Mathlib.Omega.{arith}
 use mathlib.Core.List.{List, [], ◌∷◌}
-use mathlib.Core.Path.{◌≡◌, refl, sym, ap, ◌∙◌}
+use mathlib.Core.Path.{◌≡◌, refl, ap, ◌∙◌}
 use lib.ListN.{get_or}
 use borrow.Author.Tests.{ne_eqb}
-use types.Run.{OneOf}
-use denote.Enum.Declared.{tag_of}
 use Rattle.wire.specs.Bytes.{bytes, two}
 use Rattle.wire.specs.Writer.{State, put, puts}
 use Rattle.pack_rules.specs.Names.{Name}
@@ -17,10 +14,9 @@ use Rattle.machines.specs.Layout.{slice_of}
 use Rattle.machines.specs.ResolvedIn.{end_of}
 use Rattle.machines.specs.EmitAt.{pack_name}
 use Rattle.machines.proofs.CheckedReadLaws.{no, yes}
-use Rattle.activations.specs.contracts.types.TypeDefault as Start-enum
 use Rattle.activations.specs.declared.pack_info.PackInfo.{PackInfo}
+use Rattle.std.specs.Prelude.{Option as Maybe}
 use Rattle.activations.specs.declared.types.TypeDefault.{TypeDefault}
-use Rattle.activations.specs.declared.types.TypeDefault.TheVariants as sr
 use Rattle.activation_rules.specs.MadeNames.{last_var}
 use Rattle.activations.specs.TypesAt.{default_t, zero_of}
 use Rattle.activations.specs.LastsAt.{word_t}
@@ -42,28 +38,8 @@ pub zero-char : (tag : ℕ) (x z : State) → (tag ≡ 0 → ⊥) → (tag ≡ 1
 unfolding zero_of lit_bytes
 zero-char tag x z a b c f = rw (ne_eqb tag 0 a, ne_eqb tag 1 b, ne_eqb tag 2 c) f
 
-pub start_none : (t : TypeDefault) (z : State) → OneOf (0 ∷ []) (tag_of Start-enum.the_type t) → z ≡ puts (default_bytes t) z
-unfolding default_bytes puts
-start_none sr.Missing z h = refl
-start_none (sr.Literal k) z h = absurd (omega arith)
-start_none (sr.Name v) z h = absurd (omega arith)
-
-literal-bytes : (tag : ℕ) (z : State) → puts (0 ∷ lit_bytes (zero_of tag)) z ≡ puts (default_bytes (sr.Literal tag)) z
-unfolding default_bytes
-literal-bytes tag z = refl
-
-name-bytes : (v : ℕ) (z : State) → puts (two v) (put 1 z) ≡ puts (default_bytes (sr.Name v)) z
-unfolding default_bytes puts
-name-bytes v z = refl
-
-pub start-literal : (t : TypeDefault) (tag : ℕ) (x z : State) → t ≡ sr.Literal tag → x ≡ puts (0 ∷ lit_bytes (zero_of tag)) z → x ≡ puts (default_bytes t) z
-start-literal t tag x z e f = f ∙ literal-bytes tag z ∙ ap (λ (y : TypeDefault). puts (default_bytes y) z) (sym e)
-
-pub start-name : (t : TypeDefault) (v : ℕ) (x y z : State) → t ≡ sr.Name v → y ≡ put 1 z → x ≡ puts (two v) y → x ≡ puts (default_bytes t) z
-start-name t v x y z e f g = g ∙ ap (puts (two v)) f ∙ name-bytes v z ∙ ap (λ (y : TypeDefault). puts (default_bytes y) z) (sym e)
-
 module _ (ns : List Name) (s : List ℕ) (b : PackInfo) (offsets : List ℕ) where
-  pub init-start : (init c : ℕ) (t : TypeDefault) (x z : State) → init ≡ 0 → t ≡ default_t ns s b.enums offsets c → x ≡ puts (default_bytes t) z → x ≡ puts (init_bytes ns s b offsets init c) z
+  pub init-start : (init c : ℕ) (t : Maybe TypeDefault) (x z : State) → init ≡ 0 → t ≡ default_t ns s b.enums offsets c → x ≡ puts (default_bytes t) z → x ≡ puts (init_bytes ns s b offsets init c) z
   unfolding init_bytes
   init-start init c t x z e f g = g ∙ ap (λ y. puts y z) (yes init 0 _ _ _ e (ap default_bytes f))
 

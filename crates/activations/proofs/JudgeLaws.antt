@@ -6,10 +6,8 @@ use mathlib.Core.Path.{◌≡◌, refl, ap, ◌∙◌}
 use borrow.Author.Tests.{le-ltb, lt-ltb}
 use Rattle.wire.specs.Writer.{State, full}
 use Rattle.activations.specs.declared.locals.Passed.{Passed}
-use Rattle.activations.specs.declared.checks.Refused.{Refused}
-use Rattle.activations.specs.ChecksAt.{refused_t}
 use Rattle.activations.specs.LocalsAt.{Left, left_of}
-use Rattle.activations.specs.Verdicts.{LeftAs, quiet, refused_in, within_t}
+use Rattle.activations.specs.Verdicts.{LeftAs, quiet, within_t}
 
 pub within-over : (names x : ℕ) → names < x → names + 1 ≡ within_t names x
 unfolding within_t
@@ -18,10 +16,6 @@ within-over names x l = let e : names + 1 ≡ suc names = omega arith in rw (lt-
 pub within-under : (names x : ℕ) → x ≤ names → x ≡ within_t names x
 unfolding within_t
 within-under names x l = rw (le-ltb names x l) refl
-
-pub refuse-is : (names kind second third x y : ℕ) (r : Refused) → r ≡ refused_t kind x y → x ≡ within_t names second → y ≡ within_t names third → r ≡ refused_in names kind second third
-unfolding refused_in
-refuse-is names kind second third x y r e f g = e ∙ λ i. refused_t kind (f i) (g i)
 
 -- a pass that began with a full writer
 pub left-quiet : (F : Left → Left) (later later' out made : List ℕ) (r : Passed) (z : State) → left_of later' out made r ≡ F (record { later = later; state = z; count = 0 }) → z ≡ full → LeftAs r.count later' (F (quiet later))

@@ -12,13 +12,11 @@ use Rattle.pack_rules.specs.Names.{Name}
 use Rattle.machines.specs.EmitAt.{pack_name}
 use Rattle.machines.proofs.CheckedReadLaws.{no, yes}
 use Rattle.activations.specs.declared.pack_info.PackInfo.{PackInfo}
-use Rattle.activations.specs.declared.types.TypeDefault.{TypeDefault}
 use Rattle.activations.specs.Cells.{put_t}
 use Rattle.activations.specs.Ids.{old_or}
 use Rattle.activations.specs.Lookups.{place_built, place_in}
 use Rattle.activation_rules.specs.MadeNames.{last_var}
 use Rattle.activations.specs.TypeCodes.{typed_t}
-use Rattle.activations.specs.TypesAt.{default_t, is_missing}
 use Rattle.activations.specs.LastsAt.{word_t}
 use Rattle.activations.specs.TypeHoldersAt.{Hold, hold_code, hold_from, hold_of, hold_row, holder_number, holder_t, known_t, needs_t}
 
@@ -38,14 +36,6 @@ module _ (old s : List ℕ) (b : PackInfo) (offsets : List ℕ) (a : Name) where
   pub holder-is : (v r : ℕ) (n : Name) → n ≡ pack_name s offsets v → r ≡ holder_number old b (last_var a n) v → r ≡ holder_t old s b offsets a v
   unfolding holder_t
   holder-is v r n e f = f ∙ ap (λ y. holder_number old b (last_var a y) v) e
-
-pub needs-asked : (ns : List Name) (s : List ℕ) (b : PackInfo) (offsets : List ℕ) (init c : ℕ) (t : TypeDefault) (r : Bool) → init ≡ 0 → t ≡ default_t ns s b.enums offsets c → r ≡ is_missing t → r ≡ needs_t ns s b offsets init c
-unfolding needs_t
-needs-asked ns s b offsets init c t r e f g = yes init 0 _ _ r e (g ∙ ap is_missing f)
-
-pub needs-given : (ns : List Name) (s : List ℕ) (b : PackInfo) (offsets : List ℕ) (init c : ℕ) → (init ≡ 0 → ⊥) → false ≡ needs_t ns s b offsets init c
-unfolding needs_t
-needs-given ns s b offsets init c e = no init 0 _ _ false e refl
 
 pub known_is : (h v c id k : ℕ) (e d x y : List ℕ) → id ≡ k → y ≡ put_t d (3 * h + 2) id → x ≡ set e id (c % 65536) → hold_of x y 0 0 ≡ known_t h v c k e d
 unfolding known_t put_t

@@ -21,7 +21,7 @@ use crate::checks::Refusal;
 use crate::made_names::put_last;
 use crate::name_ids::holder_id;
 use crate::pack_info::PackInfo;
-use crate::types::{TypeDefault, default_of, is_missing, typed};
+use crate::types::{TypeDefault, default_of, typed};
 use machines::checked_read::after_expr;
 use machines::layout::{between, pack_name};
 use pack::cells::{cell, put_cell};
@@ -30,14 +30,11 @@ use wire::writer::{Writer, put_byte, put_bytes, put_u16};
 // --- Holders made known: each has a number, and the type of its variable.
 
 // Whether a holder of the type of code c has nothing to start from.
+#[tactic(auto, using(std::proofs::lemmas::Bool::Decides::nat_tests), unfolding(crate::specs::TypeHoldersAt::needs_t, crate::specs::TypesAt::is_missing))]
 fn needs_init(pack: &[u8], info: PackInfo, offsets: &[u16], init: usize, c: usize) -> bool
     ensures { (ns : List Name) → length ns ≡ info.names → result ≡ needs_t ns pack.now info offsets.now init c }
 {
-    if init == 0 {
-        let t = default_of(pack, info.names, info.enums, offsets, c);
-        return is_missing(t);
-    }
-    false
+    init == 0 && default_of(pack, info.names, info.enums, offsets, c).is_none()
 }
 
 // The row h of the variable v, of a type of code c, is known to what follows.
@@ -120,26 +117,23 @@ pub fn type_holders(
 fn put_zero(tag: usize, out: &mut [u8], writer: Writer) -> Writer
     ensures { (m : List ℕ) → state_of out.new m result ≡ puts (0 ∷ lit_bytes (zero_of tag)) (state_of out.old m writer) }
 {
-    if tag == 0 {
-        return put_bytes(b"\x00\x00\x00", out, writer);
+    match tag {
+        0 => put_bytes(b"\x00\x00\x00", out, writer),
+        1 => put_bytes(b"\x00\x01\x00\x00\x00\x00\x00\x00\x00\x00", out, writer),
+        2 => put_bytes(b"\x00\x02\x00\x00\x00\x00\x00\x00\x00\x00", out, writer),
+        _ => put_bytes(b"\x00\x03\x00", out, writer),
     }
-    if tag == 1 {
-        return put_bytes(b"\x00\x01\x00\x00\x00\x00\x00\x00\x00\x00", out, writer);
-    }
-    if tag == 2 {
-        return put_bytes(b"\x00\x02\x00\x00\x00\x00\x00\x00\x00\x00", out, writer);
-    }
-    put_bytes(b"\x00\x03\x00", out, writer)
 }
 
 // What a holder starts from.
-fn put_default(t: TypeDefault, out: &mut [u8], writer: Writer) -> Writer
+#[tactic(auto, unfolding(crate::specs::HoldersAt::default_bytes, wire::specs::Writer::puts))]
+fn put_default(t: Option<TypeDefault>, out: &mut [u8], writer: Writer) -> Writer
     ensures { (m : List ℕ) → state_of out.new m result ≡ puts (default_bytes t) (state_of out.old m writer) }
 {
     match t {
-        TypeDefault::Missing => writer,
-        TypeDefault::Literal(tag) => put_zero(tag, out, writer),
-        TypeDefault::Name(v) => {
+        None => writer,
+        Some(TypeDefault::Literal(tag)) => put_zero(tag, out, writer),
+        Some(TypeDefault::Name(v)) => {
             let c = put_byte(out, writer, 1);
             put_u16(out, c, v)
         }
