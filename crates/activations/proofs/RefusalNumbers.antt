@@ -1,12 +1,10 @@
 -- Laws of refusals by numbers.
 use Prim.Native.Nat.{ℕ, ◌≤◌}
 use native.Mathlib.Omega.{arith}
-use mathlib.Core.Path.{◌≡◌, sym, ap, subst, ◌∙◌}
-use Rattle.std.specs.Prelude.{Result, Ok, Err}
+use mathlib.Core.Path.{◌≡◌}
 use Rattle.activations.specs.declared.checks.Refusal.{Refusal}
 use Rattle.activations.specs.declared.checks.Refusal.TheVariants as rf
-use Rattle.activations.specs.Refusing.{OfVariable, RoomFor, held_kind, held_var, numbers_of}
-use Rattle.activations.specs.Verdicts.{refused_in, row_refused}
+use Rattle.activations.specs.Refusing.{RoomFor, numbers_of}
 
 -- 0 is no refusal's number
 pub kind-some : (names : ℕ) (r : Refusal) → (numbers_of names r).kind ≡ 0 → ⊥
@@ -32,18 +30,3 @@ room_for names rf.LastArgs l = tt
 room_for names (rf.LastUnknown v) l = tt
 room_for names (rf.LastNeedsInit v) l = tt
 room_for names rf.EmptyLeft l = tt
-
--- what is answered of holders, by its numbers
-module _ (names : ℕ) (h : Result (Unit {0}) Refusal) where
-  pub held-none : (u : Unit {0}) → h ≡ Ok u → held_kind names h ≡ 0
-  unfolding held_kind
-  held-none u e = ap (held_kind names) e
-
-  module _ (r : Refusal) (e : h ≡ Err r) where
-    pub held-some : held_kind names h ≡ 0 → ⊥
-    unfolding held_kind
-    held-some k = kind-some names r (sym (ap (held_kind names) e) ∙ k)
-
-    pub held-row : OfVariable h → row_refused names r ≡ refused_in names (held_kind names h) (held_var names h) names
-    unfolding held_kind held_var OfVariable row_refused
-    held-row o = let third = subst OfVariable e o names in λ j. refused_in names (held_kind names (sym e j)) (held_var names (sym e j)) (third j)

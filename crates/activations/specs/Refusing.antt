@@ -42,18 +42,18 @@ checked_as names (Ok u) = refused_t 0 names names
 checked_as names (Err r) = numbers_of names r
 
 -- what is answered of holders: nothing, or the kind of a refusal and its variable
-unfoldable pub held_kind : ℕ → Result (Unit {0}) Refusal → ℕ
+unfoldable pub held_kind : {T : Type 0} → ℕ → Result T Refusal → ℕ
 held_kind names (Ok u) = 0
 held_kind names (Err r) = (numbers_of names r).kind
 
-unfoldable pub held_var : ℕ → Result (Unit {0}) Refusal → ℕ
+unfoldable pub held_var : {T : Type 0} → ℕ → Result T Refusal → ℕ
 held_var names (Ok u) = 0
 held_var names (Err r) = (numbers_of names r).second
 
-abbrev pub hold_with : ℕ → List ℕ → List ℕ → Result (Unit {0}) Refusal → Hold
+abbrev pub hold_with : {T : Type 0} → ℕ → List ℕ → List ℕ → Result T Refusal → Hold
 hold_with names e d r = hold_of e d (held_kind names r) (held_var names r)
 
 -- a refusal with one name only
-unfoldable pub OfVariable : Result (Unit {0}) Refusal → Type 0
+unfoldable pub OfVariable : {T : Type 0} → Result T Refusal → Type 0
 OfVariable (Ok u) = Unit {0}
 OfVariable (Err r) = (names : ℕ) → (numbers_of names r).third ≡ names

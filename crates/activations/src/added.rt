@@ -121,13 +121,15 @@ fn put_row_locals(
     }
     let act = act_of(pack, info.names, acts, i);
     let a = pack_name(pack, offsets, act.name);
-    let h = prepare(old, pack, info, offsets, a, act, later, types, outs, lasts);
+    let Ok(rows) = prepare(old, pack, info, offsets, a, act, later, types, outs, lasts) else {
+        return writer;
+    };
     let p = Passed {
         w: writer,
         count: 0,
     };
     let r = put_act_locals(
-        old, pack, info, a, offsets, lasts, h.rows, types, outs, act, reads, sampled, later, out,
+        old, pack, info, a, offsets, lasts, rows, types, outs, act, reads, sampled, later, out,
         made, p,
     );
     r.w
@@ -162,13 +164,15 @@ fn put_row_equations(
     }
     let act = act_of(pack, info.names, acts, i);
     let a = pack_name(pack, offsets, act.name);
-    let h = prepare(old, pack, info, offsets, a, act, later, types, outs, lasts);
+    let Ok(rows) = prepare(old, pack, info, offsets, a, act, later, types, outs, lasts) else {
+        return writer;
+    };
     let v = put_act_equations(
-        old, pack, info, offsets, a, act, lasts, h.rows, types, outs, reads, sampled, out, made,
+        old, pack, info, offsets, a, act, lasts, rows, types, outs, reads, sampled, out, made,
         writer,
     );
     count_and_type_locals(
-        old, pack, info, a, offsets, lasts, h.rows, types, outs, act, reads, sampled, later,
+        old, pack, info, a, offsets, lasts, rows, types, outs, act, reads, sampled, later,
     );
     v
 }

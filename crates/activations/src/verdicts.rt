@@ -102,13 +102,12 @@ pub fn judge_act(
 {
     checks(pack, info, types, outs, act)?;
     let a = pack_name(pack, offsets, act.name);
-    let h = prepare(old, pack, info, offsets, a, act, later, types, outs, lasts);
-    h.held?;
+    let rows = prepare(old, pack, info, offsets, a, act, later, types, outs, lasts)?;
     if has_empty_left(pack, info.names, act) {
         return Err(Refusal::EmptyLeft);
     }
     let locals = count_and_type_locals(
-        old, pack, info, a, offsets, lasts, h.rows, types, outs, act, reads, sampled, later,
+        old, pack, info, a, offsets, lasts, rows, types, outs, act, reads, sampled, later,
     );
     Ok(locals)
 }
