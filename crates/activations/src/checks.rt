@@ -226,6 +226,7 @@ fn assign_branches(pack: &[u8], names: usize, sampled: &mut [u16], at: usize)
 }
 
 // For each name the first scope that does not assign it; branches count from 0, and the else scope follows them.
+#[tactic(auto, unfolding(crate::specs::ChecksAt::assigned_t))]
 fn assign_all(pack: &[u8], names: usize, sampled: &mut [u16], a: Act)
     requires { (length pack.now ≤ max_bytes) × (a.n < 2 ^ 63) }
     ensures { (ns : List Name) → length ns ≡ names → sampled.new ≡ assigned_t ns pack.now a sampled.old }

@@ -25,6 +25,7 @@ pub fn row_of(lasts: &[u16], n: usize, v: usize) -> usize
 }
 
 // An initial value for the row h, where it has none.
+#[tactic(auto, using(std::proofs::lemmas::Bool::Decides::nat_tests), unfolding(crate::specs::LastsAt::init_t, crate::specs::Cells::put_t))]
 fn give_init(lasts: &mut [u16], h: usize, init: usize)
     requires { h ≤ 8192 }
     ensures { lasts.new ≡ init_t h init lasts.old }
@@ -48,6 +49,7 @@ fn add_row(lasts: &mut [u16], n: usize, v: usize, init: usize) -> usize
 }
 
 // A variable is noted once, and the first given initial value stays. Answers how many rows there are then.
+#[tactic(auto, using(std::proofs::lemmas::Bool::Decides::nat_tests), unfolding(crate::specs::LastsAt::note_t, crate::specs::LastsAt::note_row))]
 fn note(lasts: &mut [u16], n: usize, v: usize, init: usize) -> usize
     requires { n ≤ 8192 }
     ensures { (result ≤ 8192) × (rows_of lasts.new result ≡ note_t v init (rows_of lasts.old n)) }
@@ -61,6 +63,7 @@ fn note(lasts: &mut [u16], n: usize, v: usize, init: usize) -> usize
 }
 
 // What one node adds.
+#[tactic(auto, unfolding(crate::specs::LastsAt::find_step))]
 fn find_in_node(lasts: &mut [u16], n: usize, m: ExprNode, at: usize) -> usize
     requires { n ≤ 8192 }
     ensures { (result ≤ 8192) × (rows_of lasts.new result ≡ find_step m at (rows_of lasts.old n)) }
@@ -141,6 +144,7 @@ fn find_in_bodies(pack: &[u8], info: PackInfo, lasts: &mut [u16], count: usize, 
 }
 
 // What all expressions of an activation ask for. Answers how many rows there are.
+#[tactic(auto, unfolding(crate::specs::LastsAt::find_all_lasts_t))]
 pub fn find_all_lasts(pack: &[u8], info: PackInfo, lasts: &mut [u16], a: Act) -> usize
     requires { length pack.now ≤ max_bytes }
     ensures few { result ≤ 8192 }

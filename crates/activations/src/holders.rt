@@ -38,6 +38,7 @@ fn needs_init(pack: &[u8], info: PackInfo, offsets: &[u16], init: usize, c: usiz
 }
 
 // The row h of the variable v, of a type of code c, is known to what follows.
+#[tactic(auto, unfolding(crate::specs::TypeHoldersAt::known_t, crate::specs::TypeHoldersAt::holder_t, crate::specs::Cells::put_t))]
 fn known(
     old: &[u8],
     pack: &[u8],

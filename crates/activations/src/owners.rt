@@ -37,6 +37,7 @@ const THIRD: usize = 26624;
 const LOCALS: usize = 33280;
 
 // Where the activation i stands.
+#[tactic(auto, unfolding(crate::specs::ActTable::spot_t))]
 pub fn act_spot(acts: &[u16], i: usize) -> usize
     ensures { result ≡ spot_t acts.now i }
 {
@@ -44,6 +45,7 @@ pub fn act_spot(acts: &[u16], i: usize) -> usize
 }
 
 // The node that it goes to.
+#[tactic(auto, unfolding(crate::specs::ActTable::goal_t))]
 pub fn act_node(acts: &[u16], i: usize) -> usize
     ensures { (result < word_range) × (result ≡ goal_t acts.now i) }
 {
@@ -51,6 +53,7 @@ pub fn act_node(acts: &[u16], i: usize) -> usize
 }
 
 // How many locals it makes.
+#[tactic(auto, unfolding(crate::specs::ActTable::made_t))]
 pub fn act_locals(acts: &[u16], i: usize) -> usize
     ensures { (result < word_range) × (result ≡ made_t acts.now i) }
 {
@@ -58,6 +61,7 @@ pub fn act_locals(acts: &[u16], i: usize) -> usize
 }
 
 // What was judged of it.
+#[tactic(auto, unfolding(crate::specs::ActTable::refusal_t))]
 pub fn judged(acts: &[u16], i: usize) -> Refused
     ensures { result ≡ refusal_t acts.now i }
 {
@@ -87,6 +91,7 @@ pub fn put_spot(acts: &mut [u16], i: usize, at: usize, node: usize)
 }
 
 // What is judged of it now.
+#[tactic(auto, unfolding(crate::specs::ActTable::judged_t))]
 pub fn put_judged(acts: &mut [u16], i: usize, r: Refused, locals: usize)
     ensures { acts.new ≡ judged_t acts.old i r locals }
 {

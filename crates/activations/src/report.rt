@@ -17,6 +17,7 @@ use pack::finish::Outcome;
 use pack::record::Pack;
 
 // A name by its number: the number of names is none, past it is `else`.
+#[tactic(auto, using(std::proofs::lemmas::Bool::Decides::nat_tests), unfolding(crate::specs::ReportAt::called_t))]
 fn called(names: usize, x: usize) -> NameRef
     ensures { result ≡ called_t names x }
 {
@@ -34,6 +35,7 @@ fn called(names: usize, x: usize) -> NameRef
 }
 
 // A refusal as one of a machine.
+#[tactic(auto, unfolding(crate::specs::ReportAt::judged_as))]
 fn judged_of(names: usize, r: Refused) -> VerdictRow
     ensures { result ≡ judged_as names r }
 {
@@ -43,6 +45,7 @@ fn judged_of(names: usize, r: Refused) -> VerdictRow
 }
 
 // Whether the activation i is refused, as a number.
+#[tactic(auto, using(std::proofs::lemmas::Bool::Decides::nat_tests), unfolding(crate::specs::ReportAt::is_refused_t))]
 fn is_refused(acts: &[u16], i: usize) -> usize
     ensures { (result ≤ 1) × (result ≡ is_refused_t acts.now i) }
 {

@@ -45,6 +45,7 @@ fn note_ports(pack: &[u8], names: usize, types: &mut [u16], at: usize) -> usize
 }
 
 // From a node to its inputs.
+#[tactic(auto, unfolding(crate::specs::TypesAt::inputs_in, machines::specs::CheckedReads::with, machines::specs::CheckedReads::byte_in))]
 fn to_inputs(pack: &[u8], at: usize) -> usize
     ensures { result ≡ inputs_in pack.now at }
 {
@@ -66,6 +67,7 @@ pub fn note_variables(pack: &[u8], names: usize, types: &mut [u16], at: usize)
 }
 
 // The port at p, where no type of its name is there yet.
+#[tactic(auto, using(std::proofs::lemmas::Bool::Decides::nat_tests), unfolding(crate::specs::TypesAt::first_port_t, machines::specs::CheckedReads::with, crate::specs::Cells::put_t))]
 fn note_first(pack: &[u8], outs: &mut [u16], p: usize)
     ensures { outs.new ≡ first_port_t pack.now p outs.old }
 {
@@ -98,6 +100,7 @@ fn output_type(outs: &[u16], names: usize, x: usize) -> usize
 }
 
 // The variable's type, else the output's.
+#[tactic(auto, unfolding(crate::specs::TypeCodes::typed_t))]
 pub fn typed(types: &[u16], outs: &[u16], names: usize, x: usize) -> usize
     ensures { result ≡ typed_t types.now outs.now names x }
 {
@@ -107,6 +110,7 @@ pub fn typed(types: &[u16], outs: &[u16], names: usize, x: usize) -> usize
 }
 
 // The output's type, else the variable's, else Bool.
+#[tactic(auto, unfolding(crate::specs::TypeCodes::value_type_t))]
 pub fn value_type(types: &[u16], outs: &[u16], names: usize, x: usize) -> usize
     ensures { result ≡ value_type_t types.now outs.now names x }
 {
@@ -116,6 +120,7 @@ pub fn value_type(types: &[u16], outs: &[u16], names: usize, x: usize) -> usize
 }
 
 // The type of a code, as it stands in the pack.
+#[tactic(auto, using(std::proofs::lemmas::Bool::Decides::nat_tests), unfolding(wire::specs::Writer::state_of, wire::specs::Writer::puts, crate::specs::TypesAt::type_bytes))]
 pub fn put_type(pack: &[u8], names: usize, c: usize, out: &mut [u8], writer: Writer) -> Writer
     requires { length pack.now ≤ max_bytes }
     ensures { (ns : List Name) → length ns ≡ names → (m : List ℕ) → state_of out.new m result ≡ puts (type_bytes ns pack.now c) (state_of out.old m writer) }
@@ -214,6 +219,7 @@ fn plain_default(tag: usize) -> Option<TypeDefault>
 }
 
 // What a holder of the type of a code starts from where no initial value is given.
+#[tactic(auto, using(std::proofs::lemmas::Bool::Decides::nat_tests), unfolding(crate::specs::TypesAt::default_t, crate::specs::TypesAt::default_at, machines::specs::CheckedReads::with, machines::specs::CheckedReads::byte_in))]
 pub fn default_of(
     pack: &[u8],
     names: usize,
@@ -257,6 +263,7 @@ fn keep_variant(pack: &[u8], offsets: &mut [u16], i: usize, k: usize, p: usize)
 }
 
 // That of the enum at p.
+#[tactic(auto, unfolding(crate::specs::FirstVariantsAt::first_t, machines::specs::CheckedReads::with))]
 fn keep_first(pack: &[u8], offsets: &mut [u16], p: usize)
     ensures { offsets.new ≡ first_t pack.now p offsets.old }
 {
