@@ -1,21 +1,11 @@
 -- Laws for the code that judges one activation.
-use Prim.Native.Nat.{ℕ, suc, ◌+◌, ◌<◌, ◌≤◌}
-use native.Mathlib.Omega.{arith}
+use Prim.Native.Nat.{ℕ}
 use mathlib.Core.List.{List}
-use mathlib.Core.Path.{◌≡◌, refl, ap, ◌∙◌}
-use borrow.Author.Tests.{le-ltb, lt-ltb}
+use mathlib.Core.Path.{◌≡◌, ap, ◌∙◌}
 use Rattle.wire.specs.Writer.{State, full}
 use Rattle.activations.specs.declared.locals.Passed.{Passed}
 use Rattle.activations.specs.LocalsAt.{Left, left_of}
-use Rattle.activations.specs.Verdicts.{LeftAs, quiet, within_t}
-
-pub within-over : (names x : ℕ) → names < x → names + 1 ≡ within_t names x
-unfolding within_t
-within-over names x l = let e : names + 1 ≡ suc names = omega arith in rw (lt-ltb names x l) e
-
-pub within-under : (names x : ℕ) → x ≤ names → x ≡ within_t names x
-unfolding within_t
-within-under names x l = rw (le-ltb names x l) refl
+use Rattle.activations.specs.Verdicts.{LeftAs, quiet}
 
 -- a pass that began with a full writer
 pub left-quiet : (F : Left → Left) (later later' out made : List ℕ) (r : Passed) (z : State) → left_of later' out made r ≡ F (record { later = later; state = z; count = 0 }) → z ≡ full → LeftAs r.count later' (F (quiet later))

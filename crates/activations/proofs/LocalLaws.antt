@@ -1,11 +1,10 @@
 -- Laws for the code that goes over the locals of an activation, step by step.
-use Prim.Native.Nat.{ℕ, zero, suc, ◌+◌, ◌%◌, ◌<◌, ◌≤◌}
+use Prim.Native.Nat.{ℕ, zero, suc, ◌+◌, ◌<◌, ◌≤◌}
 use native.Mathlib.Omega.{arith}
 use mathlib.Core.List.{List, [], ◌∷◌}
 use mathlib.Core.Bool.{Bool, true}
-use mathlib.Core.Path.{◌≡◌, refl, sym, ap, ◌∙◌}
-use lib.ListN.{length, get_or, set}
-use borrow.Author.Tests.{le-ltb, lt-ltb}
+use mathlib.Core.Path.{◌≡◌, sym, ap, ◌∙◌}
+use lib.ListN.{length, get_or}
 use Rattle.wire.specs.declared.writer.Writer.{Writer}
 use Rattle.wire.specs.Writer.{State, full, puts, st, state_of}
 use Rattle.pack_rules.specs.Names.{Name}
@@ -19,22 +18,9 @@ use Rattle.activations.specs.declared.made_names.Var.TheVariants as vr
 use Rattle.activations.specs.declared.locals.Passed.{Passed}
 use Rattle.activation_rules.specs.MadeNames.{last_var}
 use Rattle.activations.specs.Vars.{branch_var}
-use Rattle.activations.specs.Cells.{put_t}
 use Rattle.activations.specs.Lookups.{place_built, place_in}
 use Rattle.activations.specs.TypesAt.{type_bytes}
 use Rattle.activations.specs.LocalsAt.{Left, branch_local_t, built, clock_locals_t, flag_locals_t, holder_local_t, holder_locals_t, leave_t, left_of, local_t, more_t, named_t}
-
-pub more-is : (n : ℕ) → (n % 65536 + 1) % 65536 ≡ more_t n
-unfolding more_t
-more-is n = refl
-
-pub leave-some : (names x y c : ℕ) (t u : List ℕ) → x ≡ y → x < names → u ≡ set t x (c % 65536) → u ≡ leave_t names y c t
-unfolding leave_t put_t
-leave-some names x y c t u e l f = rw (lt-ltb y names (omega (arith, e))) (f ∙ ap (λ z. set t z (c % 65536)) e)
-
-pub leave_none : (names x y c : ℕ) (t : List ℕ) → x ≡ y → names ≤ x → t ≡ leave_t names y c t
-unfolding leave_t
-leave_none names x y c t e l = rw (le-ltb y names (omega (arith, e)))
 
 -- a full writer stays full
 name-full : (old n : List ℕ) → put_name old n full ≡ full

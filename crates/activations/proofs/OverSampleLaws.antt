@@ -26,7 +26,7 @@ use Rattle.activations.specs.ExprNodes.{is_const, onward_t}
 use Rattle.activations.specs.Walks.{or_step, walked, write_step}
 use Rattle.activations.specs.ByNumber.{onto_items}
 use Rattle.activations.specs.RewriteLastAt.{copy_items, met_items, rewrite_last_t}
-use Rattle.activations.specs.NameIdsAt.{id_items, last_id_t, sample_name_t, sample_t}
+use Rattle.activations.specs.NameIdsAt.{id_items, sample_name_t, sample_t}
 use Rattle.activations.specs.OverSamplesAt.{chosen_items, clocked_items, has_const_t, other_items, over_t, rename_items, rename_t, renamed_from, renamed_t, sampled_constant_items, sampled_constant_t, sampled_value_t}
 use Rattle.activations.proofs.Moving.{ended}
 use Rattle.activations.proofs.RewriteLastLaws.{copied-to}
@@ -138,20 +138,6 @@ module _ (old s offsets : List ℕ) (names : ℕ) (made : Bool) (a : Name) (n k 
   other-copied mt.Nothing p q h x z t f g j = copied-to old s p 0 h x z (g ∙ ap (λ y. slice_of s p (y - p)) f) j
 
   module _ (lasts : List ℕ) (rows : ℕ) where
-    pub rename-last : (m : ExprNode) (v i q p x : ℕ) (y z : State) → m ≡ mt.Last v i q → x ≡ last_id_t lasts rows v → y ≡ render old (raw (1 ∷ []) ∷ chosen_items old s offsets names made a n k ids x) z → y ≡ render old (rename_items old s offsets names made a n k ids lasts rows m p) z
-    unfolding rename_items
-    rename-last m v i q p x y z e f g = g ∙ ap (λ (j : ℕ). render old (raw (1 ∷ []) ∷ chosen_items old s offsets names made a n k ids j) z) f ∙ ap (λ (w : ExprNode). render old (rename_items old s offsets names made a n k ids lasts rows w p) z) (sym e)
-
-    pub rename-other : (m : ExprNode) (p : ℕ) (x z : State) → OneOf (1 ∷ 2 ∷ 3 ∷ 4 ∷ 5 ∷ 6 ∷ []) (tag_of Met-enum.the_type m) → x ≡ render old (other_items old s offsets names made a n k ids m p) z → x ≡ render old (rename_items old s offsets names made a n k ids lasts rows m p) z
-    unfolding rename_items
-    rename-other (mt.Last v i q) p x z h e = absurd (⊎_elim (λ d. omega arith) (λ d. ⊎_elim (λ d. omega arith) (λ d. ⊎_elim (λ d. omega arith) (λ d. ⊎_elim (λ d. omega arith) (λ d. ⊎_elim (λ d. omega arith) (λ d. omega arith) d) d) d) d) h)
-    rename-other (mt.Bad u q) p x z h e = e
-    rename-other (mt.Const q) p x z h e = e
-    rename-other (mt.Var i q) p x z h e = e
-    rename-other (mt.Clocked c u q) p x z h e = e
-    rename-other (mt.Other u q) p x z h e = e
-    rename-other mt.Nothing p x z h e = e
-
     module _ (ns : List Name) (last : ℕ) where
       pub rename-done : (c p at : ℕ) (z y : State) → c ≤ 0 → walked ns s last (write_step old (rename_items old s offsets names made a n k ids lasts rows)) c p z ≡ walked ns s last (write_step old (rename_items old s offsets names made a n k ids lasts rows)) 1 at y → z ≡ rename_t old s offsets names made a n k ids lasts rows ns last at y
       unfolding rename_t

@@ -2,7 +2,7 @@
 use Prim.Native.Nat.{ℕ, zero, suc, ◌+◌, ◌-◌, ◌<◌, ◌≤◌}
 use native.Mathlib.Omega.{arith}
 use mathlib.Core.List.{List, [], ◌∷◌}
-use mathlib.Core.Bool.{Bool, true, false}
+use mathlib.Core.Bool.{Bool}
 use mathlib.Core.Path.{◌≡◌, refl, sym, ap, ◌∙◌}
 use lib.ListN.{length, get_or, drop, drop_of_length-le}
 use lib.Seq.{drop-cons}
@@ -12,7 +12,6 @@ use Rattle.pack_rules.specs.Read.{expr_in}
 use Rattle.machines.specs.declared.checked_read.NumberAt.{NumberAt}
 use Rattle.machines.specs.ResolvedIn.{end_of}
 use Rattle.machines.specs.CheckedReads.{number_in}
-use Rattle.machines.specs.Fingerprints.{among}
 use Rattle.machines.specs.EmitAt.{pack_name}
 use Rattle.machines.proofs.CheckedReadLaws.{on}
 use Rattle.activations.specs.declared.parts.Act.{Act}
@@ -31,14 +30,6 @@ module _ (ns : List Name) (s old : List ℕ) (made : Bool) (a : Name) (offsets e
   sample-local-is k x names c y u z e f g h =
       named-is ns s old made (sample_name_t s offsets names a n k x) y c u z g h
       ∙ λ i. named_t ns s old made (sample_name_t s offsets (sym e i) a n k x) ((f ∙ ap (λ t. typed_t env outs t x) (sym e)) i) z
-
-  pub new-known : (k : ℕ) (sampled : List ℕ) (x : ℕ) (b : Bool) (z : Left) → b ≡ among x sampled → b ≡ true → z ≡ new_local_t ns s old made a offsets env outs n k sampled x z
-  unfolding new_local_t
-  new-known k sampled x b z e f = rw (sym e ∙ f)
-
-  pub new-local : (k : ℕ) (sampled : List ℕ) (x : ℕ) (b : Bool) (u z : Left) → b ≡ among x sampled → b ≡ false → u ≡ sample_local_t ns s old made a offsets env outs n k x z → u ≡ new_local_t ns s old made a offsets env outs n k sampled x z
-  unfolding new_local_t
-  new-local k sampled x b u z e f g = rw (sym e ∙ f) g
 
   new-step : (k : ℕ) (sampled : List ℕ) (x : ℕ) (xs : List ℕ) (z : Left) → new_locals_t ns s old made a offsets env outs n k sampled (x ∷ xs) z ≡ new_locals_t ns s old made a offsets env outs n k sampled xs (new_local_t ns s old made a offsets env outs n k sampled x z)
   unfolding new_locals_t

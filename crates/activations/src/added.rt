@@ -45,7 +45,7 @@ pub fn equation_count(pack: &[u8], acts: &[u16], i: usize) -> usize
 }
 
 // How many locals it brings to the node k.
-#[tactic(auto, using(std::proofs::lemmas::Bool::Decides::nat_tests), unfolding(crate::specs::CountsAt::adds_locals_t))]
+#[tactic(auto, unfolding(crate::specs::CountsAt::adds_locals_t))]
 fn adds_locals(acts: &[u16], k: usize, i: usize) -> usize
     ensures { (result < word_range) × (result ≡ adds_locals_t acts.now k i) }
 {
@@ -57,7 +57,7 @@ fn adds_locals(acts: &[u16], k: usize, i: usize) -> usize
 }
 
 // How many equations.
-#[tactic(auto, using(std::proofs::lemmas::Bool::Decides::nat_tests), unfolding(crate::specs::CountsAt::adds_equations_t))]
+#[tactic(auto, unfolding(crate::specs::CountsAt::adds_equations_t))]
 fn adds_equations(pack: &[u8], acts: &[u16], k: usize, i: usize) -> usize
     ensures { (result < 131072) × (result ≡ adds_equations_t pack.now acts.now k i) }
 {
@@ -264,7 +264,7 @@ fn receives(acts: &[u16], n: usize, k: usize) -> usize
 }
 
 // The same, where b was found before: activations are asked again only once k is past it.
-#[tactic(auto, using(std::proofs::lemmas::Bool::Decides::nat_tests), unfolding(machines::specs::ReceivingNodes::next_receiver_t, crate::specs::ActTable::goal_t))]
+#[tactic(auto, unfolding(machines::specs::ReceivingNodes::next_receiver_t, crate::specs::ActTable::goal_t))]
 pub fn next_receiver(acts: &[u16], n: usize, k: usize, b: usize) -> usize
     ensures { result ≡ next_receiver_t (goal_t acts.now) n k b }
 {

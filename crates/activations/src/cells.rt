@@ -18,7 +18,7 @@ pub fn word(t: &[u16], p: usize, k: usize) -> usize
 }
 
 // Sets that word to v, by 16 bits.
-#[tactic(auto, using(std::proofs::lemmas::Bool::Decides::nat_tests), unfolding(crate::specs::Cells::put_t))]
+#[tactic(auto, unfolding(crate::specs::Cells::put_t))]
 pub fn put_word(t: &mut [u16], p: usize, k: usize, v: usize)
     ensures { t.new ≡ put_t t.old (p + k) v }
 {

@@ -185,7 +185,7 @@ fn repeated(pack: &[u8], names: usize, sampled: &mut [u16], at: usize) -> usize
 }
 
 // The equation at p of the scope k: a single left name that all scopes before assign is assigned in one more.
-#[tactic(auto, using(std::proofs::lemmas::Bool::Decides::nat_tests), unfolding(crate::specs::ChecksAt::assign_t, crate::specs::Cells::put_t, machines::specs::CheckedReads::with))]
+#[tactic(auto, unfolding(crate::specs::ChecksAt::assign_t, crate::specs::Cells::put_t, machines::specs::CheckedReads::with))]
 fn assign(pack: &[u8], sampled: &mut [u16], k: usize, p: usize)
     requires { k < 2 ^ 63 }
     ensures { sampled.new ≡ assign_t pack.now k p sampled.old }

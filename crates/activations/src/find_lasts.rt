@@ -25,7 +25,7 @@ pub fn row_of(lasts: &[u16], n: usize, v: usize) -> usize
 }
 
 // An initial value for the row h, where it has none.
-#[tactic(auto, using(std::proofs::lemmas::Bool::Decides::nat_tests), unfolding(crate::specs::LastsAt::init_t, crate::specs::Cells::put_t))]
+#[tactic(auto, unfolding(crate::specs::LastsAt::init_t, crate::specs::Cells::put_t))]
 fn give_init(lasts: &mut [u16], h: usize, init: usize)
     requires { h ≤ 8192 }
     ensures { lasts.new ≡ init_t h init lasts.old }
@@ -49,7 +49,7 @@ fn add_row(lasts: &mut [u16], n: usize, v: usize, init: usize) -> usize
 }
 
 // A variable is noted once, and the first given initial value stays. Answers how many rows there are then.
-#[tactic(auto, using(std::proofs::lemmas::Bool::Decides::nat_tests), unfolding(crate::specs::LastsAt::note_t, crate::specs::LastsAt::note_row))]
+#[tactic(auto, unfolding(crate::specs::LastsAt::note_t, crate::specs::LastsAt::note_row))]
 fn note(lasts: &mut [u16], n: usize, v: usize, init: usize) -> usize
     requires { n ≤ 8192 }
     ensures { (result ≤ 8192) × (rows_of lasts.new result ≡ note_t v init (rows_of lasts.old n)) }

@@ -187,7 +187,7 @@ fn put_none_flag(
 }
 
 // Both, of the branch at p.
-#[tactic(auto, unfolding(wire::specs::Writer::state_of, crate::specs::FlagsAt::branch_flags_t, machines::specs::CheckedReads::with))]
+#[tactic(auto, unfolding(crate::specs::FlagsAt::branch_flags_t, machines::specs::CheckedReads::with))]
 fn put_branch_flags(
     old: &[u8],
     pack: &[u8],

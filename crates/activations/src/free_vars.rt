@@ -49,7 +49,7 @@ pub fn join(ids: &[u16], t: &mut [u16], n: usize) -> usize
 }
 
 // The number that a node reads.
-#[tactic(auto, using(std::proofs::lemmas::Bool::Decides::nat_tests), unfolding(crate::specs::FreeVarsAt::read_by))]
+#[tactic(auto, unfolding(crate::specs::FreeVarsAt::read_by))]
 fn read_by(lasts: &[u16], rows: usize, m: ExprNode) -> usize
     requires { rows < word_range }
     ensures { result ≡ read_by lasts.now rows m }
@@ -63,7 +63,7 @@ fn read_by(lasts: &[u16], rows: usize, m: ExprNode) -> usize
 }
 
 // One more after the first n, where it is a known variable's.
-#[tactic(auto, using(std::proofs::lemmas::Bool::Decides::nat_tests), unfolding(crate::specs::FreeVarsAt::note_t))]
+#[tactic(auto, unfolding(crate::specs::FreeVarsAt::note_t))]
 fn note(types: &[u16], outs: &[u16], names: usize, t: &mut [u16], n: usize, x: usize) -> usize
     requires in_bounds { 21848 ≤ length t.old }
     requires n_bound { n ≤ 21848 }

@@ -30,7 +30,7 @@ use wire::writer::{Writer, put_byte, put_bytes, put_u16};
 // --- Holders made known: each has a number, and the type of its variable.
 
 // Whether a holder of the type of code c has nothing to start from.
-#[tactic(auto, using(std::proofs::lemmas::Bool::Decides::nat_tests), unfolding(crate::specs::TypeHoldersAt::needs_t, crate::specs::TypesAt::is_missing))]
+#[tactic(auto, unfolding(crate::specs::TypeHoldersAt::needs_t, crate::specs::TypesAt::is_missing))]
 fn needs_init(pack: &[u8], info: PackInfo, offsets: &[u16], init: usize, c: usize) -> bool
     ensures { (ns : List Name) → length ns ≡ info.names → result ≡ needs_t ns pack.now info offsets.now init c }
 {

@@ -41,7 +41,7 @@ fn one_more(n: usize) -> usize
 }
 
 // The type's code c for a made name, where that is an old one.
-#[tactic(auto, using(std::proofs::lemmas::Bool::Decides::nat_tests), unfolding(crate::specs::LocalsAt::leave_t, crate::specs::Lookups::place_built, crate::specs::Lookups::place_in, wire::specs::Writer::state_of, crate::specs::Cells::put_t))]
+#[tactic(auto, unfolding(crate::specs::LocalsAt::leave_t, crate::specs::Lookups::place_built, crate::specs::Lookups::place_in, crate::specs::Cells::put_t))]
 fn leave(old: &[u8], info: PackInfo, buf: &[u8], t: Writer, c: usize, later: &mut [u16])
     ensures { later.new ≡ leave_t info.names (place_built (place_in old.now) info.names info.made (state_of buf.now [] t)) c later.old }
 {
@@ -265,7 +265,7 @@ fn put_sample_local(
 }
 
 // The same, where x is not among those sampled before.
-#[tactic(auto, using(std::proofs::lemmas::Bool::Decides::nat_tests), unfolding(crate::specs::LocalsAt::new_local_t))]
+#[tactic(auto, unfolding(crate::specs::LocalsAt::new_local_t))]
 fn put_new_local(
     old: &[u8],
     pack: &[u8],

@@ -97,7 +97,7 @@ pub fn put_var(
 }
 
 // The tag of the scope k of n branches; what follows the branches is the else scope.
-#[tactic(auto, using(std::proofs::lemmas::Bool::Decides::nat_tests), unfolding(wire::specs::Writer::state_of, wire::specs::Writer::puts, activation_rules::specs::MadeNames::tag, crate::specs::Vars::scope_at))]
+#[tactic(auto, unfolding(activation_rules::specs::MadeNames::tag, crate::specs::Vars::scope_at))]
 fn put_tag(out: &mut [u8], writer: Writer, n: usize, k: usize) -> Writer
     ensures { (m : List ℕ) → state_of out.new m result ≡ puts (tag (scope_at n k)) (state_of out.old m writer) }
 {

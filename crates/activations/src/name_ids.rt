@@ -22,7 +22,7 @@ use wire::number::WORD_RANGE;
 use wire::writer::{Writer, put_bytes, put_u16};
 
 // x where it is an old name's index, else v more than the number of names.
-#[tactic(auto, using(std::proofs::lemmas::Bool::Decides::nat_tests), unfolding(crate::specs::Ids::old_or))]
+#[tactic(auto, unfolding(crate::specs::Ids::old_or))]
 fn old_or(names: usize, x: usize, v: usize) -> usize
     requires { (names ≤ word_range) × (v ≤ word_range) }
     ensures { result ≡ old_or names x (names + v) }
@@ -93,7 +93,7 @@ pub fn put_id(
 }
 
 // Its text.
-#[tactic(auto, using(std::proofs::lemmas::Bool::Decides::nat_tests), unfolding(wire::specs::Writer::state_of, wire::specs::Writer::puts, crate::specs::NameIdsAt::name_t))]
+#[tactic(auto, unfolding(crate::specs::NameIdsAt::name_t))]
 fn put_id_text(
     out: &mut [u8],
     writer: Writer,
@@ -152,7 +152,7 @@ pub fn put_sample_of(
 }
 
 // Its number, where its name is an old one.
-#[tactic(auto, using(std::proofs::lemmas::Bool::Decides::nat_tests), unfolding(crate::specs::NameIdsAt::sample_t, crate::specs::Ids::old_or))]
+#[tactic(auto, unfolding(crate::specs::NameIdsAt::sample_t, crate::specs::Ids::old_or))]
 pub fn sample_id(
     old: &[u8],
     pack: &[u8],

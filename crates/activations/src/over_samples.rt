@@ -149,7 +149,7 @@ fn put_other_renamed(
 }
 
 // The node m that stands at `at`, its name renamed: a call of `last` becomes what stands for its holder.
-#[tactic(auto, unfolding(wire::specs::Writer::state_of, pack::specs::Intern::render, crate::specs::OverSamplesAt::rename_items))]
+#[tactic(auto, unfolding(crate::specs::OverSamplesAt::rename_items))]
 fn put_node_renamed(
     old: &[u8],
     pack: &[u8],

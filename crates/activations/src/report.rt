@@ -17,7 +17,7 @@ use pack::finish::Outcome;
 use pack::record::Pack;
 
 // A name by its number: the number of names is none, past it is `else`.
-#[tactic(auto, using(std::proofs::lemmas::Bool::Decides::nat_tests), unfolding(crate::specs::ReportAt::called_t))]
+#[tactic(auto, unfolding(crate::specs::ReportAt::called_t))]
 fn called(names: usize, x: usize) -> NameRef
     ensures { result ≡ called_t names x }
 {
@@ -45,7 +45,7 @@ fn judged_of(names: usize, r: Refused) -> VerdictRow
 }
 
 // Whether the activation i is refused, as a number.
-#[tactic(auto, using(std::proofs::lemmas::Bool::Decides::nat_tests), unfolding(crate::specs::ReportAt::is_refused_t))]
+#[tactic(auto, unfolding(crate::specs::ReportAt::is_refused_t))]
 fn is_refused(acts: &[u16], i: usize) -> usize
     ensures { (result ≤ 1) × (result ≡ is_refused_t acts.now i) }
 {

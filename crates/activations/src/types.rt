@@ -67,7 +67,7 @@ pub fn note_variables(pack: &[u8], names: usize, types: &mut [u16], at: usize)
 }
 
 // The port at p, where no type of its name is there yet.
-#[tactic(auto, using(std::proofs::lemmas::Bool::Decides::nat_tests), unfolding(crate::specs::TypesAt::first_port_t, machines::specs::CheckedReads::with, crate::specs::Cells::put_t))]
+#[tactic(auto, unfolding(crate::specs::TypesAt::first_port_t, machines::specs::CheckedReads::with, crate::specs::Cells::put_t))]
 fn note_first(pack: &[u8], outs: &mut [u16], p: usize)
     ensures { outs.new ≡ first_port_t pack.now p outs.old }
 {
@@ -92,7 +92,7 @@ pub fn note_outputs(pack: &[u8], names: usize, outs: &mut [u16], at: usize)
 }
 
 // An output's type; holders that are no old names are no outputs.
-#[tactic(auto, using(std::proofs::lemmas::Bool::Decides::nat_tests), unfolding(crate::specs::TypeCodes::out_t))]
+#[tactic(auto, unfolding(crate::specs::TypeCodes::out_t))]
 fn output_type(outs: &[u16], names: usize, x: usize) -> usize
     ensures { result ≡ out_t outs.now names x }
 {
@@ -120,7 +120,7 @@ pub fn value_type(types: &[u16], outs: &[u16], names: usize, x: usize) -> usize
 }
 
 // The type of a code, as it stands in the pack.
-#[tactic(auto, using(std::proofs::lemmas::Bool::Decides::nat_tests), unfolding(wire::specs::Writer::state_of, wire::specs::Writer::puts, crate::specs::TypesAt::type_bytes))]
+#[tactic(auto, unfolding(crate::specs::TypesAt::type_bytes, wire::specs::Writer::puts))]
 pub fn put_type(pack: &[u8], names: usize, c: usize, out: &mut [u8], writer: Writer) -> Writer
     requires { length pack.now ≤ max_bytes }
     ensures { (ns : List Name) → length ns ≡ names → (m : List ℕ) → state_of out.new m result ≡ puts (type_bytes ns pack.now c) (state_of out.old m writer) }
@@ -133,7 +133,7 @@ pub fn put_type(pack: &[u8], names: usize, c: usize, out: &mut [u8], writer: Wri
 }
 
 // The first of k variants at p.
-#[tactic(auto, using(std::proofs::lemmas::Bool::Decides::nat_tests), unfolding(crate::specs::TypesAt::variant_or))]
+#[tactic(auto, unfolding(crate::specs::TypesAt::variant_or))]
 fn variant_or(pack: &[u8], k: usize, p: usize, r: Option<TypeDefault>) -> Option<TypeDefault>
     ensures { result ≡ variant_or pack.now k p r }
 {
@@ -145,7 +145,7 @@ fn variant_or(pack: &[u8], k: usize, p: usize, r: Option<TypeDefault>) -> Option
 }
 
 // The enum at p, asked for its first variant where its name's index is x.
-#[tactic(auto, using(std::proofs::lemmas::Bool::Decides::nat_tests), unfolding(crate::specs::TypesAt::variant_at, machines::specs::CheckedReads::with))]
+#[tactic(auto, unfolding(crate::specs::TypesAt::variant_at, machines::specs::CheckedReads::with))]
 fn variant_at(pack: &[u8], x: usize, p: usize, r: Option<TypeDefault>) -> Option<TypeDefault>
     ensures { result ≡ variant_at pack.now x p r }
 {
@@ -174,7 +174,7 @@ fn first_variant(pack: &[u8], names: usize, enums: usize, x: usize) -> Option<Ty
 }
 
 // What a word of the table of first variants says: one more than the variant's index, 0 for none.
-#[tactic(auto, using(std::proofs::lemmas::Bool::Decides::nat_tests), unfolding(crate::specs::TypesAt::default_word))]
+#[tactic(auto, unfolding(crate::specs::TypesAt::default_word))]
 fn default_word(c: usize) -> Option<TypeDefault>
     ensures { result ≡ default_word c }
 {
@@ -187,7 +187,7 @@ fn default_word(c: usize) -> Option<TypeDefault>
 
 // The first variant by the table of names, which past their places has it for 17,408 names. A call has no room on the stack for
 // more; of others it is sought.
-#[tactic(auto, using(std::proofs::lemmas::Bool::Decides::nat_tests), unfolding(crate::specs::TypesAt::variant_t))]
+#[tactic(auto, unfolding(crate::specs::TypesAt::variant_t))]
 fn variant_of(
     pack: &[u8],
     names: usize,
@@ -205,7 +205,7 @@ fn variant_of(
 }
 
 // What a holder of a type with this tag starts from, where the type is no named one.
-#[tactic(auto, using(std::proofs::lemmas::Bool::Decides::nat_tests), unfolding(crate::specs::TypesAt::plain_start))]
+#[tactic(auto, unfolding(crate::specs::TypesAt::plain_start))]
 fn plain_default(tag: usize) -> Option<TypeDefault>
     ensures { result ≡ plain_start tag }
 {
@@ -219,7 +219,7 @@ fn plain_default(tag: usize) -> Option<TypeDefault>
 }
 
 // What a holder of the type of a code starts from where no initial value is given.
-#[tactic(auto, using(std::proofs::lemmas::Bool::Decides::nat_tests), unfolding(crate::specs::TypesAt::default_t, crate::specs::TypesAt::default_at, machines::specs::CheckedReads::with, machines::specs::CheckedReads::byte_in))]
+#[tactic(auto, unfolding(crate::specs::TypesAt::default_t, crate::specs::TypesAt::default_at, machines::specs::CheckedReads::with, machines::specs::CheckedReads::byte_in))]
 pub fn default_of(
     pack: &[u8],
     names: usize,

@@ -30,7 +30,7 @@ use wire::writer::{Writer, stopped};
 // the same owner stays in `later`.
 
 // A name's number, which fits 16 bits.
-#[tactic(auto, using(std::proofs::lemmas::Bool::Decides::nat_tests), unfolding(crate::specs::Verdicts::within_t))]
+#[tactic(auto, unfolding(crate::specs::Verdicts::within_t))]
 fn within(names: usize, x: usize) -> usize
     requires { names ≤ word_range }
     ensures { result ≡ within_t names x }
