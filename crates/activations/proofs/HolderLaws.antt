@@ -1,5 +1,5 @@
 -- Laws for the code that writes the equations of holders, step by step.
-use Prim.Native.Nat.{ℕ, ◌-◌}
+use Prim.Native.Nat.{ℕ}
 use mathlib.Core.List.{List, [], ◌∷◌}
 use mathlib.Core.Path.{◌≡◌, refl, ap, ◌∙◌}
 use lib.ListN.{get_or}
@@ -7,20 +7,14 @@ use borrow.Author.Tests.{ne_eqb}
 use Rattle.wire.specs.Bytes.{bytes, two}
 use Rattle.wire.specs.Writer.{State, put, puts}
 use Rattle.pack_rules.specs.Names.{Name}
-use Rattle.pack_rules.specs.Read.{expr_in}
 use Rattle.pack_rules.specs.Write.{flag_byte, lit_bytes}
 use Rattle.pack.specs.Intern.{put_item, put_name, render}
-use Rattle.machines.specs.Layout.{slice_of}
-use Rattle.machines.specs.ResolvedIn.{end_of}
 use Rattle.machines.specs.EmitAt.{pack_name}
-use Rattle.machines.proofs.CheckedReadLaws.{no, yes}
 use Rattle.activations.specs.declared.pack_info.PackInfo.{PackInfo}
-use Rattle.std.specs.Prelude.{Option as Maybe}
-use Rattle.activations.specs.declared.types.TypeDefault.{TypeDefault}
 use Rattle.activation_rules.specs.MadeNames.{last_var}
-use Rattle.activations.specs.TypesAt.{default_t, zero_of}
+use Rattle.activations.specs.TypesAt.{zero_of}
 use Rattle.activations.specs.LastsAt.{word_t}
-use Rattle.activations.specs.HoldersAt.{default_bytes, holder_items, init_bytes, row_items}
+use Rattle.activations.specs.HoldersAt.{holder_items, init_bytes, row_items}
 
 pub zero-bool : (tag : ℕ) (x z : State) → tag ≡ 0 → x ≡ puts (0 ∷ 0 ∷ 0 ∷ []) z → x ≡ puts (0 ∷ lit_bytes (zero_of tag)) z
 unfolding zero_of lit_bytes flag_byte
@@ -39,14 +33,6 @@ unfolding zero_of lit_bytes
 zero-char tag x z a b c f = rw (ne_eqb tag 0 a, ne_eqb tag 1 b, ne_eqb tag 2 c) f
 
 module _ (ns : List Name) (s : List ℕ) (b : PackInfo) (offsets : List ℕ) where
-  pub init-start : (init c : ℕ) (t : Maybe TypeDefault) (x z : State) → init ≡ 0 → t ≡ default_t ns s b.enums offsets c → x ≡ puts (default_bytes t) z → x ≡ puts (init_bytes ns s b offsets init c) z
-  unfolding init_bytes
-  init-start init c t x z e f g = g ∙ ap (λ y. puts y z) (yes init 0 _ _ _ e (ap default_bytes f))
-
-  pub init-copied : (init c e : ℕ) (bs : List ℕ) (x z : State) → (init ≡ 0 → ⊥) → e ≡ end_of (expr_in ns s init) → bs ≡ slice_of s init (e - init) → x ≡ puts bs z → x ≡ puts (init_bytes ns s b offsets init c) z
-  unfolding init_bytes
-  init-copied init c e bs x z n f g h = h ∙ ap (λ y. puts y z) (no init 0 _ _ _ n (g ∙ ap (λ y. slice_of s init (y - init)) f))
-
   pub row-items : (old : List ℕ) (a : Name) (env lasts : List ℕ) (h v i j c : ℕ) (x z : State) → v ≡ word_t lasts h 0 → i ≡ word_t lasts h 1 → j ≡ word_t lasts h 2 → c ≡ get_or env j 0
       → x ≡ render old (holder_items s offsets a v (init_bytes ns s b offsets i c)) z → x ≡ render old (row_items ns s b offsets a env lasts h) z
   unfolding row_items

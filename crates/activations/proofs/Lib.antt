@@ -73,7 +73,6 @@ pub mod Splits
 pub mod NodesJudged
 pub mod AddedPartsKnown
 pub mod ActCounts
-pub mod JudgeLaws
 pub mod ActsPlaced
 pub mod OwnerLaws
 pub mod ReportKnown

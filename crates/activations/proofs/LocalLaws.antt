@@ -4,7 +4,7 @@ use native.Mathlib.Omega.{arith}
 use mathlib.Core.List.{List, [], ◌∷◌}
 use mathlib.Core.Bool.{Bool, true}
 use mathlib.Core.Path.{◌≡◌, sym, ap, ◌∙◌}
-use lib.ListN.{length, get_or}
+use lib.ListN.{get_or}
 use Rattle.wire.specs.declared.writer.Writer.{Writer}
 use Rattle.wire.specs.Writer.{State, full, puts, st, state_of}
 use Rattle.pack_rules.specs.Names.{Name}
@@ -15,12 +15,9 @@ use Rattle.pack.proofs.Written.{render-full}
 use Rattle.machines.specs.EmitAt.{pack_name}
 use Rattle.activations.specs.declared.made_names.Var.{Var}
 use Rattle.activations.specs.declared.made_names.Var.TheVariants as vr
-use Rattle.activations.specs.declared.locals.Passed.{Passed}
 use Rattle.activation_rules.specs.MadeNames.{last_var}
 use Rattle.activations.specs.Vars.{branch_var}
-use Rattle.activations.specs.Lookups.{place_built, place_in}
-use Rattle.activations.specs.TypesAt.{type_bytes}
-use Rattle.activations.specs.LocalsAt.{Left, branch_local_t, built, clock_locals_t, flag_locals_t, holder_local_t, holder_locals_t, leave_t, left_of, local_t, more_t, named_t}
+use Rattle.activations.specs.LocalsAt.{Left, branch_local_t, built, clock_locals_t, flag_locals_t, holder_local_t, holder_locals_t, local_t, named_t}
 
 -- a full writer stays full
 name-full : (old n : List ℕ) → put_name old n full ≡ full
@@ -36,13 +33,7 @@ pub port-put : (bs : List ℕ) (x y z : State) → y ≡ z → x ≡ puts bs y �
 port-put bs x y z e f = f ∙ ap (puts bs) e
 
 module _ (ns : List Name) (s old : List ℕ) (made : Bool) where
-  -- one local
-  pub local-is : (names c n : ℕ) (x : State) (l l' o m o' m' : List ℕ) (p : Passed) (w : Writer) → length ns ≡ names → l' ≡ leave_t names (place_built (place_in old) names made x) c l → n ≡ more_t p.count → state_of o' m' w ≡ puts (type_bytes ns s c) (put_built old x (state_of o m p.w))
-      → left_of l' o' m' (record { w = w; count = n }) ≡ local_t ns s old made x c (left_of l o m p)
-  unfolding local_t
-  local-is names c n x l l' o m o' m' p w e f g h =
-      λ i. record { later = (f ∙ ap (λ y. leave_t y (place_built (place_in old) y made x) c l) (sym e)) i; state = h i; count = g i }
-
+  -- the local of a name that is known
   pub named-is : (y : Name) (x : State) (c : ℕ) (u z : Left) → x ≡ puts y (st 255 0 [] []) → u ≡ local_t ns s old made x c z → u ≡ named_t ns s old made y c z
   unfolding named_t built
   named-is y x c u z e f = f ∙ ap (λ (v : State). local_t ns s old made v c z) e

@@ -12,9 +12,6 @@ use Rattle.activations.specs.declared.made_names.Var.TheVariants as vr
 use Rattle.activation_rules.specs.MadeNames.{Scope, act_prefix, clock_var, flag_var, last_infix, last_var, made_name, none_var, sample_var, tag, value_var}
 use Rattle.activations.specs.Vars.{branch_var}
 
-pub start-text : (a : Name) (s : State) → puts a (puts act_prefix s) ≡ puts (act_prefix ++ a) s
-start-text a s = sym (puts-append act_prefix a s)
-
 pub after-start : (a rest : Name) (s : State) → puts rest (puts (act_prefix ++ a) s) ≡ puts (act_prefix ++ (a ++ rest)) s
 after-start a rest s =
     ap (puts rest) (puts-append act_prefix a s)

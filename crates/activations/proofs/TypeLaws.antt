@@ -1,7 +1,7 @@
 -- Laws for the code that fills and reads tables of types, step by step.
 use Prim.Native.Nat.{ℕ, ◌%◌, ◌≤◌}
 use mathlib.Core.List.{List}
-use mathlib.Core.Path.{◌≡◌, ◌∙◌}
+use mathlib.Core.Path.{◌≡◌}
 use lib.ListN.{set}
 use Rattle.pack_rules.specs.Names.{Name}
 use Rattle.pack_rules.specs.Read.{port_in}
@@ -11,9 +11,9 @@ use Rattle.machines.specs.CheckedReads.{number_in}
 use Rattle.machines.proofs.CheckedReadLaws.{on}
 use Rattle.std.specs.Prelude.{Option as Maybe, None}
 use Rattle.activations.specs.declared.types.TypeDefault.{TypeDefault}
-use Rattle.activations.specs.Cells.{clear_t, put_t}
+use Rattle.activations.specs.Cells.{put_t}
 use Rattle.activations.specs.Places.{along, each_of, right_side_in}
-use Rattle.activations.specs.TypesAt.{enum_end, first_port_t, first_ports_t, first_variant_t, inputs_in, port_end, port_t, ports_end, ports_t, three_ports_t, variables_t, variant_at}
+use Rattle.activations.specs.TypesAt.{enum_end, first_port_t, first_ports_t, first_variant_t, port_end, port_t, ports_end, ports_t, variant_at}
 use Rattle.activations.proofs.PlaceLaws.{along-end, each-end}
 
 pub port-is : (s : List ℕ) (p : ℕ) (x : NumberAt) (t u : List ℕ) → x ≡ number_in s p → u ≡ set t x.value (x.next % 65536) → u ≡ port_t s p t
@@ -32,14 +32,6 @@ module _ (ns : List Name) (s : List ℕ) where
   pub firsts-done : (at : ℕ) (c : NumberAt) (n p : ℕ) (t z : List ℕ) → c ≡ number_in s at → n ≤ 0 → each_of (first_port_t s) (port_end ns s) n p t ≡ each_of (first_port_t s) (port_end ns s) c.value c.next z → t ≡ first_ports_t ns s at z
   unfolding first_ports_t
   firsts-done at c n p t z e l h = on c _ _ _ e (each-end (first_port_t s) (port_end ns s) n p t _ l h)
-
-  pub variables-is : (at names i o l : ℕ) (z t u v w : List ℕ) → t ≡ clear_t names z → i ≡ inputs_in s at → o ≡ ports_end ns s i → u ≡ ports_t ns s i t → l ≡ ports_end ns s o → v ≡ ports_t ns s o u → w ≡ ports_t ns s l v → w ≡ variables_t ns s at (clear_t names z)
-  unfolding variables_t three_ports_t
-  variables-is at names i o l z t u v w e f g h a b d =
-      d
-      ∙ (λ j. ports_t ns s (a j) (b j))
-      ∙ (λ j. ports_t ns s (ports_end ns s (g j)) (ports_t ns s (g j) (h j)))
-      ∙ (λ j. ports_t ns s (ports_end ns s (ports_end ns s (f j))) (ports_t ns s (ports_end ns s (f j)) (ports_t ns s (f j) (e j))))
 
   pub port-end : (at q : ℕ) → q ≡ end_of (port_in ns s at) → q ≡ port_end ns s at
   unfolding port_end

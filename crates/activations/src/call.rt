@@ -35,13 +35,11 @@ use wire::number::WORD_RANGE;
 fn base_of(old: &[u8], pack: &[u8], sections: Pack, offsets: &[u16]) -> PackInfo
     ensures { result ≡ base_t old.now pack.now sections offsets.now }
 {
-    let last = lookup(old, b"last");
-    let made = some_made(pack, sections.names, offsets);
     PackInfo {
         names: sections.names,
-        last,
+        last: lookup(old, b"last"),
         enums: sections.enums,
-        made,
+        made: some_made(pack, sections.names, offsets),
     }
 }
 
@@ -162,10 +160,7 @@ fn lower_out_of_line(pack: &[u8], sections: Pack, output: &mut [u8], report: &mu
 {
     if Pack::BYTES < pack.len() {
         let r = lower_out_of_line(&pack[..Pack::BYTES], sections, output, report);
-        return Outcome {
-            number: r.number,
-            value: 0,
-        };
+        return Outcome { value: 0, ..r };
     }
     lower_with_scratch(pack, sections, output, report)
 }
@@ -176,12 +171,11 @@ fn lower_checked(pack: &[u8], sections: Pack, output: &mut [u8], report: &mut [u
     ensures answers { Answers (lower_activations pack.now (length output.old) (length report.old)) result.number result.value output.old output.new report.old report.new }
     ensures fits { (result.number ≤ 9) × (result.value < 4294967296) }
 {
-    let a = number(pack, sections.activations);
-    let count = a.value;
-    if count == 0 {
-        return copy_pack(pack, output);
+    if number(pack, sections.activations).value == 0 {
+        copy_pack(pack, output)
+    } else {
+        lower_out_of_line(pack, sections, output, report)
     }
-    lower_out_of_line(pack, sections, output, report)
 }
 
 // Lowers the activations of a pack: the lowered pack in `output`, or a report of what is refused in `report`.
@@ -190,12 +184,10 @@ pub fn lower_activations(pack: &[u8], output: &mut [u8], report: &mut [u8]) -> O
     ensures fits { (result.number ≤ 9) × (result.value < 4294967296) }
 {
     let opened = read_pack(pack);
-    let k = opened.pack;
-    let v = opened.verdict;
-    let Verdict::Whole = v else {
-        return answer(v, pack.len());
+    let Verdict::Whole = opened.verdict else {
+        return answer(opened.verdict, pack.len());
     };
-    lower_checked(pack, k, output, report)
+    lower_checked(pack, opened.pack, output, report)
 }
 
 // The same with number and value in one word.

@@ -142,6 +142,7 @@ fn put_default(t: Option<TypeDefault>, out: &mut [u8], writer: Writer) -> Writer
 }
 
 // The given initial value as it stands, else what the type of code c starts from.
+#[tactic(auto, unfolding(wire::specs::Writer::puts, crate::specs::HoldersAt::init_bytes))]
 fn put_init(
     pack: &[u8],
     info: PackInfo,

@@ -74,6 +74,7 @@ fn put_port(
 }
 
 // The local of the made name in `buf` and the type of the code c.
+#[tactic(auto, unfolding(crate::specs::LocalsAt::local_t, wire::specs::Writer::state_of))]
 pub fn put_local(
     old: &[u8],
     pack: &[u8],
@@ -354,6 +355,7 @@ fn put_value_local(
 }
 
 // Those of the equation at `at`, which reads these.
+#[tactic(auto, unfolding(crate::specs::LocalsAt::equation_local_t))]
 fn put_equation_locals(
     old: &[u8],
     pack: &[u8],
@@ -475,6 +477,7 @@ fn put_branch_locals(
 }
 
 // All locals of the activation A of the name a.
+#[tactic(auto, unfolding(crate::specs::LocalsAt::act_locals_t))]
 pub fn put_act_locals(
     old: &[u8],
     pack: &[u8],

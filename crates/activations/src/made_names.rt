@@ -19,6 +19,7 @@ pub enum Var {
 }
 
 // `__act_` and the activation's name a.
+#[tactic(auto, unfolding(wire::specs::Writer::puts, activation_rules::specs::MadeNames::act_prefix))]
 fn put_start(out: &mut [u8], writer: Writer, a: &[u8]) -> Writer
     ensures { (m : List ℕ) → state_of out.new m result ≡ puts (act_prefix ++ a.now) (state_of out.old m writer) }
 {

@@ -70,6 +70,7 @@ fn put_renamed_id(
 }
 
 // The same as an expression.
+#[tactic(auto, unfolding(crate::specs::OverSamplesAt::chosen_items, pack::specs::Intern::render, pack::specs::Intern::put_item, wire::specs::Writer::puts))]
 fn put_renamed_var(
     old: &[u8],
     pack: &[u8],
@@ -288,6 +289,7 @@ fn put_sampled_constants(
 }
 
 // The right side at an offset where it reads nothing: its constants on the scope's clock, or all of it where it has none.
+#[tactic(auto, unfolding(crate::specs::OverSamplesAt::sampled_value_t))]
 fn put_sampled_value(
     old: &[u8],
     pack: &[u8],
@@ -313,6 +315,7 @@ fn put_sampled_value(
 }
 
 // The right side at an offset, which reads these, in the scope k of n branches.
+#[tactic(auto, unfolding(crate::specs::OverSamplesAt::over_t))]
 pub fn put_over_samples(
     old: &[u8],
     pack: &[u8],

@@ -55,6 +55,7 @@ fn to_inputs(pack: &[u8], at: usize) -> usize
 }
 
 // The variables of the node at an offset: inputs, outputs and locals.
+#[tactic(auto, unfolding(crate::specs::TypesAt::variables_t, crate::specs::Cells::clear_t, crate::specs::TypesAt::three_ports_t))]
 pub fn note_variables(pack: &[u8], names: usize, types: &mut [u16], at: usize)
     requires { length pack.now ≤ max_bytes }
     ensures { (ns : List Name) → length ns ≡ names → types.new ≡ variables_t ns pack.now at (clear_t names types.old) }

@@ -35,7 +35,7 @@ fn within(names: usize, x: usize) -> usize
     requires { names ≤ word_range }
     ensures { result ≡ within_t names x }
 {
-    if names < x { names + 1 } else { x }
+    x.min(names + 1)
 }
 
 // What is refused, by numbers that fit 16 bits.
@@ -53,6 +53,7 @@ fn refuse(names: usize, r: Refusal) -> Refused
 }
 
 // All locals left to the next, and counted; nothing is written.
+#[tactic(auto, unfolding(crate::specs::LocalsAt::act_locals_t, crate::specs::Verdicts::quiet))]
 pub fn count_and_type_locals(
     old: &[u8],
     pack: &[u8],
