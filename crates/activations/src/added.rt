@@ -50,10 +50,7 @@ fn adds_locals(acts: &[u16], k: usize, i: usize) -> usize
     ensures { (result < word_range) × (result ≡ adds_locals_t acts.now k i) }
 {
     let g = act_node(acts, i);
-    if g == k {
-        return act_locals(acts, i);
-    }
-    0
+    if g == k { act_locals(acts, i) } else { 0 }
 }
 
 // How many equations.
@@ -63,9 +60,10 @@ fn adds_equations(pack: &[u8], acts: &[u16], k: usize, i: usize) -> usize
 {
     let g = act_node(acts, i);
     if g == k {
-        return equation_count(pack, acts, i);
+        equation_count(pack, acts, i)
+    } else {
+        0
     }
-    0
 }
 
 // How many locals the first n activations bring to the node k.

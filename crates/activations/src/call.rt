@@ -160,9 +160,10 @@ fn lower_out_of_line(pack: &[u8], sections: Pack, output: &mut [u8], report: &mu
 {
     if Pack::BYTES < pack.len() {
         let r = lower_out_of_line(&pack[..Pack::BYTES], sections, output, report);
-        return Outcome { value: 0, ..r };
+        Outcome { value: 0, ..r }
+    } else {
+        lower_with_scratch(pack, sections, output, report)
     }
-    lower_with_scratch(pack, sections, output, report)
 }
 
 // A pack that was opened. One without activations stays as it is, and needs no scratch.

@@ -108,9 +108,10 @@ fn call_kind(pack: &[u8], info: PackInfo, f: usize, under: usize, at: usize) -> 
     ensures { (ns : List Name) → length ns ≡ info.names → result ≡ call_t ns pack.now info.last f under at }
 {
     if f == info.last {
-        return last_shape(pack, info.names, under, at);
+        last_shape(pack, info.names, under, at)
+    } else {
+        ExprNode::Other { under, next: at }
     }
-    ExprNode::Other { under, next: at }
 }
 
 // A node of which only the number of expressions under it was read; a constant by its tag.
@@ -119,9 +120,10 @@ fn plain(pack: &[u8], at: usize, under: usize, next: usize) -> ExprNode
     ensures { result ≡ plain_t pack.now at under next }
 {
     if byte_at(pack, at) == 0 {
-        return ExprNode::Const(next);
+        ExprNode::Const(next)
+    } else {
+        ExprNode::Other { under, next }
     }
-    ExprNode::Other { under, next }
 }
 
 // The node at an offset.

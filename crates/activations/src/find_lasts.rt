@@ -57,9 +57,10 @@ fn note(lasts: &mut [u16], n: usize, v: usize, init: usize) -> usize
     let h = row_of(lasts, n, v);
     if h < n {
         give_init(lasts, h, init);
-        return n;
+        n
+    } else {
+        add_row(lasts, n, v, init)
     }
-    add_row(lasts, n, v, init)
 }
 
 // What one node adds.

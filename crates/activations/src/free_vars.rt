@@ -70,9 +70,10 @@ fn note(types: &[u16], outs: &[u16], names: usize, t: &mut [u16], n: usize, x: u
     ensures { (result ≤ 21848) × (take result t.new ≡ note_t types.now outs.now names x (take n t.old)) }
 {
     if typed(types, outs, names, x) == 0 {
-        return n;
+        n
+    } else {
+        push(t, n, x)
     }
-    push(t, n, x)
 }
 
 // What the right side at an offset reads: how many there are.

@@ -157,10 +157,11 @@ fn put_init(
 {
     if init == 0 {
         let t = default_of(pack, info.names, info.enums, offsets, c);
-        return put_default(t, out, writer);
+        put_default(t, out, writer)
+    } else {
+        let e = after_expr(pack, info.names, init);
+        put_bytes(between(pack, init, e), out, writer)
     }
-    let e = after_expr(pack, info.names, init);
-    put_bytes(between(pack, init, e), out, writer)
 }
 
 // The equation of the holder of v, whose initial value stands at `init` or is that of the type of code c.

@@ -288,11 +288,12 @@ fn put_new_local(
     ensures { (ns : List Name) → length ns ≡ info.names → left_of later.new out.new made.new result ≡ new_local_t ns pack.now old.now info.made a.now offsets.now types.now outs.now n k sampled.now x (left_of later.old out.old made.old p) }
 {
     if is_in(sampled, x) {
-        return p;
+        p
+    } else {
+        put_sample_local(
+            old, pack, info, a, offsets, types, outs, n, k, x, later, out, made, p,
+        )
     }
-    put_sample_local(
-        old, pack, info, a, offsets, types, outs, n, k, x, later, out, made, p,
-    )
 }
 
 // Those of the numbers that are not among those sampled before.

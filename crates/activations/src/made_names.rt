@@ -103,9 +103,10 @@ fn put_tag(out: &mut [u8], writer: Writer, n: usize, k: usize) -> Writer
     ensures { (m : List ℕ) → state_of out.new m result ≡ puts (tag (scope_at n k)) (state_of out.old m writer) }
 {
     if k < n {
-        return put_digits(out, writer, k + 1);
+        put_digits(out, writer, k + 1)
+    } else {
+        put_bytes(b"e", out, writer)
     }
-    put_bytes(b"e", out, writer)
 }
 
 // `__act_<a>`, some letters, the scope's tag, an underscore and the name v.

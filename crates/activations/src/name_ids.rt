@@ -178,10 +178,7 @@ pub fn sample_id(
         x,
     );
     let i = lookup_made(old, info, &buf, t);
-    if i < info.names {
-        return i;
-    }
-    NO_NUMBER
+    if i < info.names { i } else { NO_NUMBER }
 }
 
 // The number of the holder of v, by the first row of v.

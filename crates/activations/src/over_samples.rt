@@ -308,10 +308,11 @@ fn put_sampled_value(
     ensures { (ns : List Name) → length ns ≡ info.names → state_of out.new made.new result ≡ sampled_value_t old.now pack.now offsets.now a.now n k ns info.last at (state_of out.old made.old writer) }
 {
     if has_const(pack, info, at) {
-        return put_sampled_constants(old, pack, offsets, info, a, n, k, at, out, made, writer);
+        put_sampled_constants(old, pack, offsets, info, a, n, k, at, out, made, writer)
+    } else {
+        let c = put_onto(old, a, n, k, out, made, writer);
+        rewrite_last(old, pack, info, offsets, a, at, out, made, c)
     }
-    let c = put_onto(old, a, n, k, out, made, writer);
-    rewrite_last(old, pack, info, offsets, a, at, out, made, c)
 }
 
 // The right side at an offset, which reads these, in the scope k of n branches.
@@ -337,10 +338,11 @@ pub fn put_over_samples(
     requires n_bound { n < 2 ^ 63 }
     ensures { (ns : List Name) → length ns ≡ info.names → state_of out.new made.new result ≡ over_t old.now pack.now offsets.now info.names info.made a.now n k ids.now lasts.now rows ns info.last at (state_of out.old made.old writer) }
 {
-    if ids.len() == 0 {
-        return put_sampled_value(old, pack, offsets, info, a, n, k, at, out, made, writer);
+    if ids.is_empty() {
+        put_sampled_value(old, pack, offsets, info, a, n, k, at, out, made, writer)
+    } else {
+        put_renamed(
+            old, pack, offsets, info, a, n, k, ids, lasts, rows, at, out, made, writer,
+        )
     }
-    put_renamed(
-        old, pack, offsets, info, a, n, k, ids, lasts, rows, at, out, made, writer,
-    )
 }

@@ -127,10 +127,11 @@ pub fn put_type(pack: &[u8], names: usize, c: usize, out: &mut [u8], writer: Wri
     ensures { (ns : List Name) → length ns ≡ names → (m : List ℕ) → state_of out.new m result ≡ puts (type_bytes ns pack.now c) (state_of out.old m writer) }
 {
     if c < 2 {
-        return put_byte(out, writer, 0);
+        put_byte(out, writer, 0)
+    } else {
+        let e = after_type(pack, names, c);
+        put_bytes(between(pack, c, e), out, writer)
     }
-    let e = after_type(pack, names, c);
-    put_bytes(between(pack, c, e), out, writer)
 }
 
 // The first of k variants at p.
