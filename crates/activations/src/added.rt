@@ -262,7 +262,7 @@ fn receives(acts: &[u16], n: usize, k: usize) -> usize
 }
 
 // The same, where b was found before: activations are asked again only once k is past it.
-#[tactic(auto, unfolding(machines::specs::ReceivingNodes::next_receiver_t, crate::specs::ActTable::goal_t))]
+#[tactic(auto, unfolding(machines::specs::ReceivingNodes::next_receiver_t))]
 pub fn next_receiver(acts: &[u16], n: usize, k: usize, b: usize) -> usize
     ensures { result ≡ next_receiver_t (goal_t acts.now) n k b }
 {

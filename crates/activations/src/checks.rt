@@ -23,7 +23,7 @@ use pack::cells::{cell, put_cell};
 pub enum Refusal {
     NoBranches,
     NoOutputs,
-    // An output that a branch does not assign, or the else scope, where no branch is named.
+    // An output that this branch does not assign; where none is named, the else scope.
     OutputUnassigned {
         output: usize,
         branch: Option<usize>,
