@@ -1,6 +1,6 @@
 // The variables that calls of `last` ask for, in the order found: rows of three words, the variable's index, where its initial value
 // stands (0 where none is given), and its holder's number, which is set later.
-ghost use Rattle.std.specs.Prelude.{List, ◌≡◌, ◌≤◌, length};
+ghost use Rattle.std.specs.Prelude.{IfSome, unwrap_or, ◌<◌, List, ◌≡◌, ◌≤◌, length};
 ghost use Rattle.pack_rules.specs.Names.{Name};
 ghost use Rattle.pack_rules.specs.Limits.{max_bytes};
 ghost use Rattle.activations.specs.LastsAt.{rows_of, row_t, init_t, row_more, note_t, find_step, find_lasts_t, find_in_scope_t, find_in_condition_t, find_in_body_t, each_branch_t, find_all_lasts_t};
@@ -11,17 +11,18 @@ use crate::pack_info::PackInfo;
 use crate::parts::{Act, after_branch, branch_equations, first_branch, right_side};
 use machines::checked_read::{after_expr, number};
 
-// The row of the variable v among n, n where there is none.
-pub fn row_of(lasts: &[u16], n: usize, v: usize) -> usize
+// The row of the variable v among n.
+pub fn row_of(lasts: &[u16], n: usize, v: usize) -> Option<usize>
     requires { n ≤ 8192 }
-    ensures { (result ≤ n) × (result ≡ row_t lasts.now v n 0) }
+    ensures below { IfSome result (λ h. h < n) }
+    ensures value { unwrap_or result n ≡ row_t lasts.now v n 0 }
 {
     for h in 0..n {
         if word(lasts, 3 * h, 0) == v {
-            return h;
+            return Some(h);
         }
     }
-    n
+    None
 }
 
 // An initial value for the row h, where it has none.
@@ -54,8 +55,7 @@ fn note(lasts: &mut [u16], n: usize, v: usize, init: usize) -> usize
     requires { n ≤ 8192 }
     ensures { (result ≤ 8192) × (rows_of lasts.new result ≡ note_t v init (rows_of lasts.old n)) }
 {
-    let h = row_of(lasts, n, v);
-    if h < n {
+    if let Some(h) = row_of(lasts, n, v) {
         give_init(lasts, h, init);
         n
     } else {

@@ -5,7 +5,7 @@
 //   KIND            what is refused of it, 0 for nothing; refused for its owner until it is judged
 //   SECOND, THIRD   the names of the refusal
 //   LOCALS          how many locals it makes
-ghost use Rattle.std.specs.Prelude.{List, ◌≡◌, ◌+◌, ◌<◌, ◌≤◌, length};
+ghost use Rattle.std.specs.Prelude.{unwrap_or, List, ◌≡◌, ◌+◌, ◌<◌, ◌≤◌, length};
 ghost use Rattle.wire.specs.Bytes.{word_range};
 ghost use Rattle.pack_rules.specs.Names.{Name};
 ghost use Rattle.pack_rules.specs.Limits.{max_bytes};
@@ -117,18 +117,18 @@ pub fn place_nodes(pack: &[u8], names: usize, at: usize, nodes: &mut [u16]) -> u
     c.value
 }
 
-// The first of n nodes of the name x, n where there is none.
-fn node_named(pack: &[u8], nodes: &[u16], n: usize, x: usize) -> usize
-    ensures { result ≡ named_t pack.now nodes.now n x }
+// The first of n nodes of the name x.
+fn node_named(pack: &[u8], nodes: &[u16], n: usize, x: usize) -> Option<usize>
+    ensures { unwrap_or result n ≡ named_t pack.now nodes.now n x }
 {
     for k in 0..n {
         let at = cell(nodes, k);
         let i = number(pack, at);
         if i.value == x {
-            return k;
+            return Some(k);
         }
     }
-    n
+    None
 }
 
 // The activation at p, among n nodes, is that of the row i. It is refused for its owner until it is judged.
@@ -138,7 +138,7 @@ fn draw(pack: &[u8], names: usize, nodes: &[u16], n: usize, acts: &mut [u16], i:
 {
     let a = number(pack, p);
     let o = number(pack, a.next);
-    let k = node_named(pack, nodes, n, o.value);
+    let k = node_named(pack, nodes, n, o.value).unwrap_or(n);
     let r = Refusal::UnknownOwner(o.value);
     put_spot(acts, i, p, k);
     put_judged(acts, i, r.numbers(names), 0);
