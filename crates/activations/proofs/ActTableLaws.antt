@@ -2,7 +2,7 @@
 use Prim.Native.Nat.{ℕ, ◌+◌, ◌<◌, ◌≤◌}
 use native.Mathlib.Omega.{arith}
 use mathlib.Core.List.{List, []}
-use mathlib.Core.Path.{◌≡◌, refl, sym, ap, subst, ◌∙◌}
+use mathlib.Core.Path.{◌≡◌, refl, sym, subst, ◌∙◌}
 use lib.ListN.{length, get_or, length-replicate, replicate}
 use Rattle.pack_rules.specs.Names.{Name}
 use Rattle.machines.specs.CheckedReads.{with}
@@ -14,29 +14,6 @@ use Rattle.activations.specs.Places.{act_at, act_of}
 use Rattle.activations.specs.ActTable.{goal_t, judged_t, made_t, refusal_t, spot_t}
 use Rattle.machines.proofs.CheckedReadLaws.{number_small}
 use Rattle.activations.proofs.RowsNoted.{put-length, put_other, put_same}
-
--- what the code finds in a row, and puts there
-module _ (acts : List ℕ) (i : ℕ) where
-  pub spot_is : (r : ℕ) → r ≡ get_or acts i 0 → r ≡ spot_t acts i
-  unfolding spot_t
-  spot_is r e = e
-
-  pub goal-is : (r : ℕ) → r ≡ get_or acts (6656 + i) 0 → r ≡ goal_t acts i
-  unfolding goal_t
-  goal-is r e = e
-
-  pub made-is : (r : ℕ) → r ≡ get_or acts (33280 + i) 0 → r ≡ made_t acts i
-  unfolding made_t
-  made-is r e = e
-
-  pub refusal_is : (k x y : ℕ) (r : Refused) → k ≡ get_or acts (13312 + i) 0 → x ≡ get_or acts (19968 + i) 0 → y ≡ get_or acts (26624 + i) 0 → r ≡ refused_t k x y → r ≡ refusal_t acts i
-  unfolding refusal_t
-  refusal_is k x y r a b c e = e ∙ λ j. refused_t (a j) (b j) (c j)
-
-  pub judged-is : (r : Refused) (n : ℕ) (a b c d : List ℕ) → a ≡ put_t acts (13312 + i) r.kind → b ≡ put_t a (19968 + i) r.second → c ≡ put_t b (26624 + i) r.third → d ≡ put_t c (33280 + i) n → d ≡ judged_t acts i r n
-  unfolding judged_t
-  judged-is r n a b c d e f g h =
-      h ∙ ap (λ t. put_t t (33280 + i) n) (g ∙ ap (λ t. put_t t (26624 + i) r.third) (f ∙ ap (λ t. put_t t (19968 + i) r.second) e))
 
 -- an activation has few branches
 at-few : (ns : List Name) (s : List ℕ) (at : ℕ) → ((i : ℕ) → get_or s i 0 < 256) → (act_at ns s at).n < 65536

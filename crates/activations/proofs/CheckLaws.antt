@@ -1,5 +1,5 @@
 -- Laws for the code that checks activations, step by step.
-use Prim.Native.Nat.{ℕ, zero, suc, ◌+◌, ◌%◌, ◌<◌, ◌≤◌}
+use Prim.Native.Nat.{ℕ, zero, suc, ◌%◌, ◌<◌, ◌≤◌}
 use native.Mathlib.Omega.{arith}
 use mathlib.Core.List.{List}
 use mathlib.Core.Bool.{Bool, true, false, cond, ◌||◌}
@@ -56,11 +56,7 @@ module _ (ns : List Name) (s : List ℕ) where
   unfolding assign_branches_t
   branches-over at c t u e f = on c _ _ _ e f
 
-  pub all-over : (a : Act) (names : ℕ) (t u v w : List ℕ) → length ns ≡ names → u ≡ clear_t names t → v ≡ assign_branches_t ns s a.branches u → w ≡ assign_scope_t ns s a.n a.other v → w ≡ assigned_t ns s a t
-  unfolding assigned_t
-  all-over a names t u v w d e f g = g ∙ ap (assign_scope_t ns s a.n a.other) (f ∙ ap (assign_branches_t ns s a.branches) (e ∙ ap (λ y. clear_t y t) (sym d)))
-
-  pub else-named : (a : Act) (k names : ℕ) → length ns ≡ names → a.n ≤ k → names + 1 ≡ scope_name_t ns s a k
+  pub else-named : (a : Act) (k names : ℕ) → length ns ≡ names → a.n ≤ k → suc names ≡ scope_name_t ns s a k
   unfolding scope_name_t
   else-named a k names e l = rw (le-ltb k a.n l) (omega (arith, e))
 

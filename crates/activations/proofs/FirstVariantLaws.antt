@@ -20,10 +20,6 @@ pub kept-some : (s : List ℕ) (i k p : ℕ) (v : Number) (t u : List ℕ) → (
 unfolding kept_t
 kept-some s i k p v t u n e f = no k 0 _ _ u n (f ∙ ap (λ (y : Number). put_t t (32768 + i) (y.value + 1)) e)
 
-pub first-is : (s : List ℕ) (p : ℕ) (i k : Number) (t u : List ℕ) → i ≡ number_in s p → k ≡ number_in s i.next → u ≡ kept_t s i.value k.value k.next t → u ≡ first_t s p t
-unfolding first_t
-first-is s p i k t u e f g = on i _ _ _ e (on k _ _ _ f g)
-
 pub firsts-done : (ns : List Name) (s : List ℕ) (enums : ℕ) (c : Number) (n p : ℕ) (t z : List ℕ) → c ≡ number_in s enums → n ≤ 0 → each_of (first_t s) (enum_end ns s) n p t ≡ each_of (first_t s) (enum_end ns s) c.value c.next z → t ≡ firsts_t ns s enums z
 unfolding firsts_t
 firsts-done ns s enums c n p t z e l h = on c _ _ _ e (each-end (first_t s) (enum_end ns s) n p t _ l h)

@@ -16,6 +16,7 @@ use Rattle.machines.specs.CheckedReads.{number_in, with}
 use Rattle.machines.specs.Tables.{names_placed, next_name}
 use Rattle.machines.proofs.Reading.{many-cut, many_more, many-over, name-number}
 use Rattle.machines.proofs.CheckedReadLaws.{number-num, number-to}
+use Rattle.std.specs.Prelude.{Option as Maybe, Some, None}
 use Rattle.activations.specs.declared.types.TypeDefault.{TypeDefault}
 use Rattle.activations.specs.declared.types.TypeDefault.TheVariants as sr
 use Rattle.activations.specs.Cells.{put_t}
@@ -26,13 +27,13 @@ use Rattle.activations.proofs.ActRead.{counted-value}
 use Rattle.activations.proofs.RowsNoted.{put-length, put_other, put_same}
 use Rattle.activations.proofs.Starts.{enum-read}
 
-word-zero : (c : ℕ) → c ≡ 0 → default_word c ≡ sr.Missing
+word-zero : (c : ℕ) → c ≡ 0 → default_word c ≡ None
 unfolding default_word
 word-zero c e = rw e
 
-word_more : (v : ℕ) → default_word (v + 1) ≡ sr.Name v
+word_more : (v : ℕ) → default_word (v + 1) ≡ (Some (sr.Name v))
 unfolding default_word
-word_more v = rw (ne_eqb (v + 1) 0 (λ e. omega arith)) (ap sr.Name (let e : v + 1 - 1 ≡ v = omega arith in e))
+word_more v = rw (ne_eqb (v + 1) 0 (λ e. omega arith)) (ap (λ y. Some (sr.Name y)) (let e : v + 1 - 1 ≡ v = omega arith in e))
 
 kept-length : (s : List ℕ) (i k p : ℕ) (t : List ℕ) → length (kept_t s i k p t) ≡ length t
 unfolding kept_t
@@ -57,21 +58,21 @@ firsts-length ns s enums t = each-length ns s (number_in s enums).value (number_
 
 module _ (ns : List Name) (few : length ns + length ns < 65536) (s : List ℕ) (x : ℕ) (near : x < 17408) where
   -- the word of x and what was found so far
-  abbrev Says : List ℕ → TypeDefault → Type 0
+  abbrev Says : List ℕ → Maybe TypeDefault → Type 0
   Says t r = default_word (get_or t (32768 + x) 0) ≡ r
 
   -- a variant kept for the name of index i
-  put-says : (i v : ℕ) (t : List ℕ) (r : TypeDefault) → v < length ns → 50176 ≤ length t → Says t r → Says (put_t t (32768 + i) (v + 1)) (cond (eqb i x) (sr.Name v) r)
+  put-says : (i v : ℕ) (t : List ℕ) (r : Maybe TypeDefault) → v < length ns → 50176 ≤ length t → Says t r → Says (put_t t (32768 + i) (v + 1)) (cond (eqb i x) (Some (sr.Name v)) r)
   put-says i v t r l m h = go (eqb i x) refl
     where
-      go : (b : Bool) → eqb i x ≡ b → Says (put_t t (32768 + i) (v + 1)) (cond b (sr.Name v) r)
+      go : (b : Bool) → eqb i x ≡ b → Says (put_t t (32768 + i) (v + 1)) (cond b (Some (sr.Name v)) r)
       go true e =
           let w : i ≡ x = eqb-true i x e in
           ap (λ y. default_word (get_or (put_t t (32768 + y) (v + 1)) (32768 + x) 0)) w ∙ ap default_word (put_same t (32768 + x) (v + 1) (omega arith) (omega arith)) ∙ word_more v
       go false e = ap default_word (put_other t (32768 + i) (v + 1) (32768 + x) (λ w. eqb-false i x e (omega arith))) ∙ h
 
   -- the first of the variants of an enum of the name of index i
-  variants-say : (i at q : ℕ) (vs : List Name) (t : List ℕ) (r : TypeDefault) → many (name_in ns s) (length vs) at ≡ value vs q → 50176 ≤ length t → Says t r → Says (kept_t s i (length vs) at t) (cond (eqb i x) (variant_or s (length vs) at r) r)
+  variants-say : (i at q : ℕ) (vs : List Name) (t : List ℕ) (r : Maybe TypeDefault) → many (name_in ns s) (length vs) at ≡ value vs q → 50176 ≤ length t → Says t r → Says (kept_t s i (length vs) at t) (cond (eqb i x) (variant_or s (length vs) at r) r)
   unfolding kept_t variant_or
   variants-say i at q [] t r e m h = h ∙ go (eqb i x)
     where
@@ -84,7 +85,7 @@ module _ (ns : List Name) (few : length ns + length ns < 65536) (s : List ℕ) (
       let g : (number_in s at).value ≡ n.i = ap (λ y. y.value) (number-num s at n.i a.0 n.is) in
       rw (ne_eqb (suc (length vs)) 0 (λ z. omega arith)) (put-says i (number_in s at).value t r (subst (λ y. y < length ns) (sym g) n.small) m h)
 
-  enum-says : (p : ℕ) (e : Enum) (q : ℕ) (t : List ℕ) (r : TypeDefault) → enum_in ns s p ≡ value e q → 50176 ≤ length t → Says t r → Says (first_t s p t) (variant_at s x p r)
+  enum-says : (p : ℕ) (e : Enum) (q : ℕ) (t : List ℕ) (r : Maybe TypeDefault) → enum_in ns s p ≡ value e q → 50176 ≤ length t → Says t r → Says (first_t s p t) (variant_at s x p r)
   unfolding first_t variant_at
   enum-says p e q t r d m h =
       let k = enum-read ns s p e q d in
@@ -95,7 +96,7 @@ module _ (ns : List Name) (few : length ns + length ns < 65536) (s : List ℕ) (
       number-to s p k.i k.to (λ i q. with (number_in s q) λ j v. cond (eqb i x) (variant_or s j v r) r) k.is ∙ number-to s k.to n k.b (λ j v. cond (eqb k.i x) (variant_or s j v r) r) k.count in
       ap (λ y. default_word (get_or y (32768 + x) 0)) f ∙ variants-say k.i k.b q e.variants t r k.variants m h ∙ sym g
 
-  enums-say : (n p : ℕ) (es : List Enum) (q : ℕ) (t : List ℕ) (r : TypeDefault) → many (enum_in ns s) n p ≡ value es q → 50176 ≤ length t → Says t r → Says (each_of (first_t s) (enum_end ns s) n p t) (each_of (variant_at s x) (enum_end ns s) n p r)
+  enums-say : (n p : ℕ) (es : List Enum) (q : ℕ) (t : List ℕ) (r : Maybe TypeDefault) → many (enum_in ns s) n p ≡ value es q → 50176 ≤ length t → Says t r → Says (each_of (first_t s) (enum_end ns s) n p t) (each_of (variant_at s x) (enum_end ns s) n p r)
   unfolding each_of
   enums-say zero p [] q t r d m h = h
   enums-say zero p (e ∷ es) q t r d m h = absurd (many-cut (enum_in ns s) p e es q d)
@@ -121,5 +122,5 @@ firsts-kept ns few s enums es q d names low t m bare x l =
     let n = length es in
     ap default_word (placed-after s names 2 0 (firsts_t ns s enums t) (32768 + x) (omega arith))
     ∙ ap (λ y. default_word (get_or y (32768 + x) 0)) (number-to s enums n a.0 (λ n p. each_of (first_t s) (enum_end ns s) n p t) a.1)
-    ∙ enums-say ns few s x l n a.0 es q t sr.Missing a.2 m (word-zero (get_or t (32768 + x) 0) (bare x))
-    ∙ sym (number-to s enums n a.0 (λ n p. each_of (variant_at s x) (enum_end ns s) n p sr.Missing) a.1)
+    ∙ enums-say ns few s x l n a.0 es q t None a.2 m (word-zero (get_or t (32768 + x) 0) (bare x))
+    ∙ sym (number-to s enums n a.0 (λ n p. each_of (variant_at s x) (enum_end ns s) n p None) a.1)

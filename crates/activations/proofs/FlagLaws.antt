@@ -74,10 +74,6 @@ module _ (old : List ℕ) (a : Name) where
         joins : puts (2 ∷ 0 ∷ []) (render old (prior_items a k) (render old (list name_items (branch_var vr.Untaken a k ∷ [])) w)) ≡ render old (list name_items (branch_var vr.Untaken a k ∷ []) ++ (prior_items a k ++ (raw (2 ∷ 0 ∷ []) ∷ []))) w
         joins = sym (render-append old (list name_items (branch_var vr.Untaken a k ∷ [])) (prior_items a k ++ (raw (2 ∷ 0 ∷ []) ∷ [])) w ∙ render-append old (prior_items a k) (raw (2 ∷ 0 ∷ []) ∷ []) (render old (list name_items (branch_var vr.Untaken a k ∷ [])) w) ∙ raw-only old (2 ∷ 0 ∷ []) (render old (prior_items a k) (render old (list name_items (branch_var vr.Untaken a k ∷ [])) w)))
 
-    pub branch-is : (n k p : ℕ) (i : Number) (w x y : State) → i ≡ number_in s p → x ≡ flag_t ns s last old offsets a k i.next w → y ≡ none_flag_t ns s last old offsets a n k i.next x → y ≡ branch_flags_t ns s last old offsets a n k p w
-    unfolding branch_flags_t
-    branch-is n k p i w x y e f g = on i _ _ _ e (g ∙ ap (none_flag_t ns s last old offsets a n k i.next) f)
-
 pub flags-over : (ns : List Name) (s : List ℕ) (last : ℕ) (old offsets : List ℕ) (a : Name) (at : ℕ) (c : Number) (z y : State) → c ≡ number_in s at → y ≡ pass_t (branch_flags_t ns s last old offsets a) (branch_end ns s) c.value 0 c.next z → y ≡ flags_t ns s last old offsets a at z
 unfolding flags_t
 flags-over ns s last old offsets a at c z y e f = on c _ _ _ e f

@@ -1,30 +1,20 @@
 -- Laws for the code that writes the equations of holders, step by step.
-use Prim.Native.Nat.{ℕ, ◌-◌}
-use native.Mathlib.Omega.{arith}
+use Prim.Native.Nat.{ℕ}
 use mathlib.Core.List.{List, [], ◌∷◌}
-use mathlib.Core.Path.{◌≡◌, refl, sym, ap, ◌∙◌}
+use mathlib.Core.Path.{◌≡◌, refl, ap, ◌∙◌}
 use lib.ListN.{get_or}
 use borrow.Author.Tests.{ne_eqb}
-use types.Run.{OneOf}
-use denote.Enum.Declared.{tag_of}
 use Rattle.wire.specs.Bytes.{bytes, two}
 use Rattle.wire.specs.Writer.{State, put, puts}
 use Rattle.pack_rules.specs.Names.{Name}
-use Rattle.pack_rules.specs.Read.{expr_in}
 use Rattle.pack_rules.specs.Write.{flag_byte, lit_bytes}
 use Rattle.pack.specs.Intern.{put_item, put_name, render}
-use Rattle.machines.specs.Layout.{slice_of}
-use Rattle.machines.specs.ResolvedIn.{end_of}
 use Rattle.machines.specs.EmitAt.{pack_name}
-use Rattle.machines.proofs.CheckedReadLaws.{no, yes}
-use Rattle.activations.specs.contracts.types.TypeDefault as Start-enum
 use Rattle.activations.specs.declared.pack_info.PackInfo.{PackInfo}
-use Rattle.activations.specs.declared.types.TypeDefault.{TypeDefault}
-use Rattle.activations.specs.declared.types.TypeDefault.TheVariants as sr
 use Rattle.activation_rules.specs.MadeNames.{last_var}
-use Rattle.activations.specs.TypesAt.{default_t, zero_of}
+use Rattle.activations.specs.TypesAt.{zero_of}
 use Rattle.activations.specs.LastsAt.{word_t}
-use Rattle.activations.specs.HoldersAt.{default_bytes, holder_items, init_bytes, row_items}
+use Rattle.activations.specs.HoldersAt.{holder_items, init_bytes, row_items}
 
 pub zero-bool : (tag : ℕ) (x z : State) → tag ≡ 0 → x ≡ puts (0 ∷ 0 ∷ 0 ∷ []) z → x ≡ puts (0 ∷ lit_bytes (zero_of tag)) z
 unfolding zero_of lit_bytes flag_byte
@@ -42,35 +32,7 @@ pub zero-char : (tag : ℕ) (x z : State) → (tag ≡ 0 → ⊥) → (tag ≡ 1
 unfolding zero_of lit_bytes
 zero-char tag x z a b c f = rw (ne_eqb tag 0 a, ne_eqb tag 1 b, ne_eqb tag 2 c) f
 
-pub start_none : (t : TypeDefault) (z : State) → OneOf (0 ∷ []) (tag_of Start-enum.the_type t) → z ≡ puts (default_bytes t) z
-unfolding default_bytes puts
-start_none sr.Missing z h = refl
-start_none (sr.Literal k) z h = absurd (omega arith)
-start_none (sr.Name v) z h = absurd (omega arith)
-
-literal-bytes : (tag : ℕ) (z : State) → puts (0 ∷ lit_bytes (zero_of tag)) z ≡ puts (default_bytes (sr.Literal tag)) z
-unfolding default_bytes
-literal-bytes tag z = refl
-
-name-bytes : (v : ℕ) (z : State) → puts (two v) (put 1 z) ≡ puts (default_bytes (sr.Name v)) z
-unfolding default_bytes puts
-name-bytes v z = refl
-
-pub start-literal : (t : TypeDefault) (tag : ℕ) (x z : State) → t ≡ sr.Literal tag → x ≡ puts (0 ∷ lit_bytes (zero_of tag)) z → x ≡ puts (default_bytes t) z
-start-literal t tag x z e f = f ∙ literal-bytes tag z ∙ ap (λ (y : TypeDefault). puts (default_bytes y) z) (sym e)
-
-pub start-name : (t : TypeDefault) (v : ℕ) (x y z : State) → t ≡ sr.Name v → y ≡ put 1 z → x ≡ puts (two v) y → x ≡ puts (default_bytes t) z
-start-name t v x y z e f g = g ∙ ap (puts (two v)) f ∙ name-bytes v z ∙ ap (λ (y : TypeDefault). puts (default_bytes y) z) (sym e)
-
 module _ (ns : List Name) (s : List ℕ) (b : PackInfo) (offsets : List ℕ) where
-  pub init-start : (init c : ℕ) (t : TypeDefault) (x z : State) → init ≡ 0 → t ≡ default_t ns s b.enums offsets c → x ≡ puts (default_bytes t) z → x ≡ puts (init_bytes ns s b offsets init c) z
-  unfolding init_bytes
-  init-start init c t x z e f g = g ∙ ap (λ y. puts y z) (yes init 0 _ _ _ e (ap default_bytes f))
-
-  pub init-copied : (init c e : ℕ) (bs : List ℕ) (x z : State) → (init ≡ 0 → ⊥) → e ≡ end_of (expr_in ns s init) → bs ≡ slice_of s init (e - init) → x ≡ puts bs z → x ≡ puts (init_bytes ns s b offsets init c) z
-  unfolding init_bytes
-  init-copied init c e bs x z n f g h = h ∙ ap (λ y. puts y z) (no init 0 _ _ _ n (g ∙ ap (λ y. slice_of s init (y - init)) f))
-
   pub row-items : (old : List ℕ) (a : Name) (env lasts : List ℕ) (h v i j c : ℕ) (x z : State) → v ≡ word_t lasts h 0 → i ≡ word_t lasts h 1 → j ≡ word_t lasts h 2 → c ≡ get_or env j 0
       → x ≡ render old (holder_items s offsets a v (init_bytes ns s b offsets i c)) z → x ≡ render old (row_items ns s b offsets a env lasts h) z
   unfolding row_items

@@ -26,6 +26,7 @@ use Rattle.machines.specs.EmitAt.{pack_name}
 use Rattle.machines.proofs.CheckedReadLaws.{end-to}
 use Rattle.machines.proofs.MachineEmitted.{numbered}
 use Rattle.activations.specs.declared.pack_info.PackInfo.{PackInfo}
+use Rattle.std.specs.Prelude.{Option as Maybe, Some, None}
 use Rattle.activations.specs.declared.types.TypeDefault.{TypeDefault}
 use Rattle.activations.specs.declared.types.TypeDefault.TheVariants as sr
 use Rattle.activation_rules.specs.MadeNames.{last_var}
@@ -58,11 +59,11 @@ module _ (ns : List Name) (fresh : Fresh [] ns) (legal : All LegalName ns) (few 
   unfolding expr_items render put_item puts
   name-written v l z = numbered ns fresh legal few s by v l (put 1 z)
 
-  start-written : (t : TypeDefault) (e : Expr) → default_expr ns t ≡ some e → DefaultIn ns t → (z : State) → puts (default_bytes t) z ≡ render (tabled ns) (expr_items e) z
+  start-written : (t : Maybe TypeDefault) (e : Expr) → default_expr ns t ≡ some e → DefaultIn ns t → (z : State) → puts (default_bytes t) z ≡ render (tabled ns) (expr_items e) z
   unfolding default_expr DefaultIn default_bytes expr_or
-  start-written sr.Missing e h i z = absurd (none-ne-some e h)
-  start-written (sr.Literal tag) e h i z = literal-written tag z ∙ ap (λ y. render (tabled ns) (expr_items (expr_or e y)) z) h
-  start-written (sr.Name v) e h i z = name-written v i z ∙ ap (λ y. render (tabled ns) (expr_items (expr_or e y)) z) h
+  start-written None e h i z = absurd (none-ne-some e h)
+  start-written (Some (sr.Literal tag)) e h i z = literal-written tag z ∙ ap (λ y. render (tabled ns) (expr_items (expr_or e y)) z) h
+  start-written (Some (sr.Name v)) e h i z = name-written v i z ∙ ap (λ y. render (tabled ns) (expr_items (expr_or e y)) z) h
 
   module _ (b : PackInfo) (enums : List Enum) (q : ℕ) (E : counted (enum_in ns s) s b.enums ≡ value enums q) (offsets : List ℕ) (F : FirstsAre ns s b.enums offsets) where
     init-written : (i : Option Expr) (init c : ℕ) (t : Ty) (e : Expr) → RowInit ns s i init → Coded ns s c (some t) → first_of i (default_of enums t) ≡ some e → (z : State) → puts (init_bytes ns s b offsets init c) z ≡ render (tabled ns) (expr_items e) z

@@ -1,27 +1,21 @@
 -- Laws for the code that finds the variables that calls of `last` ask for, step by step.
 use Prim.Native.Nat.{ℕ, suc, ◌+◌, ◌*◌, ◌-◌, ◌<◌, ◌≤◌}
 use native.Mathlib.Omega.{arith}
-use mathlib.Core.List.{List, [], ◌∷◌}
+use mathlib.Core.List.{List}
 use mathlib.Core.Bool.{cond}
-use mathlib.Core.Logic.{⊎_elim}
 use mathlib.Core.Path.{◌≡◌, refl, sym, ap, ◌∙◌}
 use lib.Dec.{eqb}
 use borrow.Author.Tests.{le-ltb, lt-ltb}
-use types.Run.{OneOf}
-use denote.Enum.Declared.{tag_of}
 use Rattle.pack_rules.specs.Names.{Name}
 use Rattle.wire.specs.declared.answer.Number.{Number}
 use Rattle.machines.specs.CheckedReads.{number_in}
 use Rattle.machines.proofs.CheckedReadLaws.{no, on, yes}
-use Rattle.activations.specs.contracts.expr_node.ExprNode as Met-enum
 use Rattle.activations.specs.declared.expr_node.ExprNode.{ExprNode}
-use Rattle.activations.specs.declared.expr_node.ExprNode.TheVariants as mt
-use Rattle.activations.specs.declared.parts.Act.{Act}
 use Rattle.activations.specs.Cells.{put_t}
 use Rattle.activations.specs.ExprNodes.{expr_node_at, onward_t, open_t}
 use Rattle.activations.specs.Places.{body_in, branch_end, each_of, equation_end, right_side_in}
 use Rattle.activations.specs.Walks.{walked}
-use Rattle.activations.specs.LastsAt.{Rows, each_branch_t, find_all_lasts_t, find_in_body_t, find_in_condition_t, find_in_equation_t, find_in_scope_t, find_lasts_t, find_step, init_t, max_rows, note_row, note_t, row_more, row_t, rows_of, word_t}
+use Rattle.activations.specs.LastsAt.{Rows, each_branch_t, find_in_body_t, find_in_condition_t, find_in_equation_t, find_in_scope_t, find_lasts_t, find_step, max_rows, row_more, row_t, rows_of, word_t}
 use Rattle.activations.proofs.Moving.{ended, went}
 use Rattle.activations.proofs.PlaceLaws.{each-end}
 
@@ -47,14 +41,6 @@ pub row-none : (t : List ℕ) (v n h z : ℕ) → n ≤ h → row_t t v (n - h) 
 unfolding row_t
 row-none t v n h z l g = let k : n - h ≡ 0 = omega arith in ap (λ y. row_t t v y h) (sym k) ∙ g
 
-pub init-put : (h init w : ℕ) (t u : List ℕ) → w ≡ word_t t h 1 → w ≡ 0 → u ≡ put_t t (3 * h + 1) init → u ≡ init_t h init t
-unfolding init_t
-init-put h init w t u e f g = yes (word_t t h 1) 0 _ _ u (sym e ∙ f) g
-
-pub init-kept : (h init w : ℕ) (t : List ℕ) → w ≡ word_t t h 1 → (w ≡ 0 → ⊥) → t ≡ init_t h init t
-unfolding init_t
-init-kept h init w t e f = no (word_t t h 1) 0 _ _ t (λ d. f (e ∙ d)) refl
-
 pub row_put_lem : (v init n : ℕ) (t u w : List ℕ) → n < 8192 → u ≡ put_t t (3 * n + 0) v → w ≡ put_t u (3 * n + 1) init → rows_of w (n + 1) ≡ row_more v init (rows_of t n)
 unfolding row_more max_rows
 row_put_lem v init n t u w l e f = rw (lt-ltb n 8192 l) (λ j. rows_of ((f ∙ ap (λ y. put_t y (3 * n + 1) init) e) j) (n + 1))
@@ -62,31 +48,6 @@ row_put_lem v init n t u w l e f = rw (lt-ltb n 8192 l) (λ j. rows_of ((f ∙ a
 pub row-full : (v init n : ℕ) (t : List ℕ) → 8192 ≤ n → rows_of t n ≡ row_more v init (rows_of t n)
 unfolding row_more max_rows
 row-full v init n t l = rw (le-ltb n 8192 l)
-
-pub note-old : (v init n h : ℕ) (t u : List ℕ) → h ≡ row_t t v n 0 → h < n → u ≡ init_t h init t → rows_of u n ≡ note_t v init (rows_of t n)
-unfolding note_t note_row
-note-old v init n h t u e l f = rw (← e, lt-ltb h n l) (ap (λ y. rows_of y n) f)
-
-pub note-new : (v init n h : ℕ) (t : List ℕ) (z : Rows) → h ≡ row_t t v n 0 → n ≤ h → z ≡ row_more v init (rows_of t n) → z ≡ note_t v init (rows_of t n)
-unfolding note_t note_row
-note-new v init n h t z e l f = rw (← e, le-ltb h n l) f
-
-pub step-none : (m : ExprNode) (p : ℕ) (z : Rows) → OneOf (1 ∷ 2 ∷ 3 ∷ 4 ∷ 5 ∷ 6 ∷ []) (tag_of Met-enum.the_type m) → z ≡ find_step m p z
-unfolding find_step
-step-none (mt.Last v i e) p z k = absurd (⊎_elim (λ d. omega arith) (λ d. ⊎_elim (λ d. omega arith) (λ d. ⊎_elim (λ d. omega arith) (λ d. ⊎_elim (λ d. omega arith) (λ d. ⊎_elim (λ d. omega arith) (λ d. omega arith) d) d) d) d) k)
-step-none (mt.Bad u q) p z k = refl
-step-none (mt.Const q) p z k = refl
-step-none (mt.Var i q) p z k = refl
-step-none (mt.Clocked c u q) p z k = refl
-step-none (mt.Other u q) p z k = refl
-step-none mt.Nothing p z k = refl
-
-last_step : (v i q p : ℕ) (z : Rows) → note_t v i z ≡ find_step (mt.Last v i q) p z
-unfolding find_step
-last_step v i q p z = refl
-
-pub step-last : (m : ExprNode) (v i q p : ℕ) (y z : Rows) → m ≡ mt.Last v i q → y ≡ note_t v i z → y ≡ find_step m p z
-step-last m v i q p y z e f = f ∙ last_step v i q p z ∙ ap (λ (w : ExprNode). find_step w p z) (sym e)
 
 module _ (ns : List Name) (s : List ℕ) (last : ℕ) where
   pub seek-on : (n p : ℕ) (m : ExprNode) (k q : ℕ) (z y t : Rows) → 0 < n → m ≡ expr_node_at ns s last p → y ≡ find_step m p z → k ≡ open_t m n → q ≡ onward_t m → walked ns s last find_step n p z ≡ t → walked ns s last find_step k q y ≡ t
@@ -111,10 +72,6 @@ module _ (ns : List Name) (s : List ℕ) (last : ℕ) where
   pub scope-sought : (at : ℕ) (c : Number) (n p : ℕ) (z y : Rows) → c ≡ number_in s at → n ≤ 0 → each_of (find_in_equation_t ns s last) (equation_end ns s) n p z ≡ each_of (find_in_equation_t ns s last) (equation_end ns s) c.value c.next y → z ≡ find_in_scope_t ns s last at y
   unfolding find_in_scope_t
   scope-sought at c n p z y e l h = on c _ _ z e (each-end (find_in_equation_t ns s last) (equation_end ns s) n p z _ l h)
-
-  pub all-sought : (a : Act) (x y z w : Rows) → x ≡ each_branch_t ns s (find_in_condition_t ns s last) a.branches w → y ≡ each_branch_t ns s (find_in_body_t ns s last) a.branches x → z ≡ find_in_scope_t ns s last a.other y → z ≡ find_all_lasts_t ns s last a w
-  unfolding find_all_lasts_t
-  all-sought a x y z w e f g = g ∙ ap (find_in_scope_t ns s last a.other) (f ∙ ap (each_branch_t ns s (find_in_body_t ns s last) a.branches) e)
 
 pub branches-done : {S : Type 0} (ns : List Name) (s : List ℕ) (f : ℕ → S → S) (at : ℕ) (c : Number) (n p : ℕ) (z y : S) → c ≡ number_in s at → n ≤ 0 → each_of f (branch_end ns s) n p z ≡ each_of f (branch_end ns s) c.value c.next y → z ≡ each_branch_t ns s f at y
 unfolding each_branch_t

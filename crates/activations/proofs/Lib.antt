@@ -5,6 +5,7 @@ pub mod MergeLaws
 pub mod MergesEmitted
 pub mod CountLaws
 pub mod Counting
+pub mod RefusalNumbers
 pub mod CellLaws
 pub mod PackInfoLaws
 pub mod NodesRead
@@ -72,7 +73,6 @@ pub mod Splits
 pub mod NodesJudged
 pub mod AddedPartsKnown
 pub mod ActCounts
-pub mod JudgeLaws
 pub mod ActsPlaced
 pub mod OwnerLaws
 pub mod ReportKnown

@@ -1,11 +1,10 @@
 -- Laws for the code that goes over the locals of an activation, step by step.
-use Prim.Native.Nat.{ℕ, zero, suc, ◌+◌, ◌%◌, ◌<◌, ◌≤◌}
+use Prim.Native.Nat.{ℕ, zero, suc, ◌+◌, ◌<◌, ◌≤◌}
 use native.Mathlib.Omega.{arith}
 use mathlib.Core.List.{List, [], ◌∷◌}
 use mathlib.Core.Bool.{Bool, true}
-use mathlib.Core.Path.{◌≡◌, refl, sym, ap, ◌∙◌}
-use lib.ListN.{length, get_or, set}
-use borrow.Author.Tests.{le-ltb, lt-ltb}
+use mathlib.Core.Path.{◌≡◌, sym, ap, ◌∙◌}
+use lib.ListN.{get_or}
 use Rattle.wire.specs.declared.writer.Writer.{Writer}
 use Rattle.wire.specs.Writer.{State, full, puts, st, state_of}
 use Rattle.pack_rules.specs.Names.{Name}
@@ -16,25 +15,9 @@ use Rattle.pack.proofs.Written.{render-full}
 use Rattle.machines.specs.EmitAt.{pack_name}
 use Rattle.activations.specs.declared.made_names.Var.{Var}
 use Rattle.activations.specs.declared.made_names.Var.TheVariants as vr
-use Rattle.activations.specs.declared.locals.Passed.{Passed}
 use Rattle.activation_rules.specs.MadeNames.{last_var}
 use Rattle.activations.specs.Vars.{branch_var}
-use Rattle.activations.specs.Cells.{put_t}
-use Rattle.activations.specs.Lookups.{place_built, place_in}
-use Rattle.activations.specs.TypesAt.{type_bytes}
-use Rattle.activations.specs.LocalsAt.{Left, branch_local_t, built, clock_locals_t, flag_locals_t, holder_local_t, holder_locals_t, leave_t, left_of, local_t, more_t, named_t}
-
-pub more-is : (n : ℕ) → (n % 65536 + 1) % 65536 ≡ more_t n
-unfolding more_t
-more-is n = refl
-
-pub leave-some : (names x y c : ℕ) (t u : List ℕ) → x ≡ y → x < names → u ≡ set t x (c % 65536) → u ≡ leave_t names y c t
-unfolding leave_t put_t
-leave-some names x y c t u e l f = rw (lt-ltb y names (omega (arith, e))) (f ∙ ap (λ z. set t z (c % 65536)) e)
-
-pub leave_none : (names x y c : ℕ) (t : List ℕ) → x ≡ y → names ≤ x → t ≡ leave_t names y c t
-unfolding leave_t
-leave_none names x y c t e l = rw (le-ltb y names (omega (arith, e)))
+use Rattle.activations.specs.LocalsAt.{Left, branch_local_t, built, clock_locals_t, flag_locals_t, holder_local_t, holder_locals_t, local_t, named_t}
 
 -- a full writer stays full
 name-full : (old n : List ℕ) → put_name old n full ≡ full
@@ -50,13 +33,7 @@ pub port-put : (bs : List ℕ) (x y z : State) → y ≡ z → x ≡ puts bs y �
 port-put bs x y z e f = f ∙ ap (puts bs) e
 
 module _ (ns : List Name) (s old : List ℕ) (made : Bool) where
-  -- one local
-  pub local-is : (names c n : ℕ) (x : State) (l l' o m o' m' : List ℕ) (p : Passed) (w : Writer) → length ns ≡ names → l' ≡ leave_t names (place_built (place_in old) names made x) c l → n ≡ more_t p.count → state_of o' m' w ≡ puts (type_bytes ns s c) (put_built old x (state_of o m p.w))
-      → left_of l' o' m' (record { w = w; count = n }) ≡ local_t ns s old made x c (left_of l o m p)
-  unfolding local_t
-  local-is names c n x l l' o m o' m' p w e f g h =
-      λ i. record { later = (f ∙ ap (λ y. leave_t y (place_built (place_in old) y made x) c l) (sym e)) i; state = h i; count = g i }
-
+  -- the local of a name that is known
   pub named-is : (y : Name) (x : State) (c : ℕ) (u z : Left) → x ≡ puts y (st 255 0 [] []) → u ≡ local_t ns s old made x c z → u ≡ named_t ns s old made y c z
   unfolding named_t built
   named-is y x c u z e f = f ∙ ap (λ (v : State). local_t ns s old made v c z) e

@@ -1,9 +1,8 @@
 -- Laws of made names: the texts that the code puts together are the names of the definition.
-use Prim.Native.Nat.{ℕ, zero, suc, ◌+◌, ◌<◌, ◌≤◌}
+use Prim.Native.Nat.{ℕ, zero, suc, ◌+◌}
 use native.Mathlib.Omega.{arith}
 use mathlib.Core.List.{[], ◌∷◌, ◌++◌}
 use mathlib.Core.Path.{◌≡◌, refl, sym, ap, ◌∙◌}
-use borrow.Author.Tests.{le-ltb, lt-ltb}
 use Rattle.wire.specs.Writer.{State, puts}
 use Rattle.wire.specs.Decimal.{decimal}
 use Rattle.wire.proofs.Writers.{puts-append}
@@ -11,10 +10,7 @@ use Rattle.pack_rules.specs.Names.{Name}
 use Rattle.activations.specs.declared.made_names.Var.{Var}
 use Rattle.activations.specs.declared.made_names.Var.TheVariants as vr
 use Rattle.activation_rules.specs.MadeNames.{Scope, act_prefix, clock_var, flag_var, last_infix, last_var, made_name, none_var, sample_var, tag, value_var}
-use Rattle.activations.specs.Vars.{branch_var, scope_at}
-
-pub start-text : (a : Name) (s : State) → puts a (puts act_prefix s) ≡ puts (act_prefix ++ a) s
-start-text a s = sym (puts-append act_prefix a s)
+use Rattle.activations.specs.Vars.{branch_var}
 
 pub after-start : (a rest : Name) (s : State) → puts rest (puts (act_prefix ++ a) s) ≡ puts (act_prefix ++ (a ++ rest)) s
 after-start a rest s =
@@ -53,15 +49,6 @@ pub clock-later : (a : Name) (k : ℕ) → (k ≡ 0 → ⊥) → act_prefix ++ (
 unfolding branch_var clock_var made_name
 clock-later a zero h = absurd (h refl)
 clock-later a (suc k) h = refl
-
--- the tag of a scope
-pub tag-branch : (n k : ℕ) (s : State) → k < n → puts (decimal (k + 1)) s ≡ puts (tag (scope_at n k)) s
-unfolding tag scope_at
-tag-branch n k s p = rw (lt-ltb k n p) (ap (λ (j : ℕ). puts (decimal j) s) (omega arith))
-
-pub tag-other : (n k : ℕ) (s : State) → n ≤ k → puts (101 ∷ []) s ≡ puts (tag (scope_at n k)) s
-unfolding tag scope_at
-tag-other n k s p = rw (le-ltb k n p)
 
 -- letters, a tag and a name
 pub scoped-text : (a letters t v : Name) (s : State) → puts v (puts (95 ∷ []) (puts t (puts letters (puts (act_prefix ++ a) s)))) ≡ puts (act_prefix ++ (a ++ (letters ++ (t ++ (95 ∷ v))))) s

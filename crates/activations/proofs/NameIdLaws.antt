@@ -5,18 +5,15 @@ use mathlib.Core.List.{List, [], ◌∷◌, ◌++◌}
 use mathlib.Core.Bool.{Bool, cond}
 use mathlib.Core.Path.{◌≡◌, sym, ap, ◌∙◌}
 use lib.ListN.{get_or}
-use lib.Dec.{ltb}
 use borrow.Author.Tests.{eq-eqb, le-ltb, lt-ltb, ne_eqb}
 use Rattle.wire.specs.Bytes.{two}
-use Rattle.wire.specs.Writer.{State, puts, st}
+use Rattle.wire.specs.Writer.{State, puts}
 use Rattle.pack_rules.specs.Names.{Name}
 use Rattle.pack.specs.Intern.{put_item, put_name, render}
 use Rattle.machines.specs.EmitAt.{pack_name}
 use Rattle.activation_rules.specs.MadeNames.{Scope, act_prefix, last_var, made_name, sample_var, tag}
 use Rattle.activations.specs.Vars.{scope_at}
-use Rattle.activations.specs.Lookups.{place_built, place_in}
-use Rattle.activations.specs.Ids.{old_or}
-use Rattle.activations.specs.NameIdsAt.{id_items, last_id_t, last_row_t, name_t, sample_name_t, sample_t}
+use Rattle.activations.specs.NameIdsAt.{id_items, last_id_t, last_row_t, name_t, sample_name_t}
 use Rattle.activations.proofs.MadeLaws.{scoped-text}
 
 -- a sample's name is its beginning and the variable's name
@@ -37,29 +34,9 @@ module _ (s offsets : List ℕ) (names : ℕ) (a : Name) where
   unfolding id_items render put_item
   id-held old x v y z l e f = rw (le-ltb x names l) (f ∙ ap (λ (n : Name). put_name old (last_var a n) z) e)
 
-  pub text-old : (x : ℕ) (v : Name) (y z : State) → x < names → v ≡ pack_name s offsets x → y ≡ puts v z → y ≡ puts (name_t s offsets names a x) z
-  unfolding name_t
-  text-old x v y z l e f = rw (lt-ltb x names l) (f ∙ ap (λ (n : Name). puts n z) e)
-
-  pub text-held : (x : ℕ) (v : Name) (y z : State) → names ≤ x → v ≡ pack_name s offsets (x - names) → y ≡ puts (last_var a v) z → y ≡ puts (name_t s offsets names a x) z
-  unfolding name_t
-  text-held x v y z l e f = rw (le-ltb x names l) (f ∙ ap (λ (n : Name). puts (last_var a n) z) e)
-
   pub sample-is : (n k x : ℕ) (w y z : State) → y ≡ puts (sample_var a (scope_at n k) []) z → w ≡ puts (name_t s offsets names a x) y → w ≡ puts (sample_name_t s offsets names a n k x) z
   unfolding sample_name_t
   sample-is n k x w y z e f = f ∙ ap (puts (name_t s offsets names a x)) e ∙ sample-whole a (scope_at n k) (name_t s offsets names a x) z
-
-  pub sample-old : (old : List ℕ) (made : Bool) (n k x i : ℕ) (y : State) → y ≡ puts (sample_name_t s offsets names a n k x) (st 255 0 [] []) → i ≡ place_built (place_in old) names made y → i < names → i ≡ sample_t s offsets names a old made n k x
-  unfolding sample_t old_or
-  sample-old old made n k x i y e f l =
-      let g = f ∙ ap (place_built (place_in old) names made) e in
-      sym (ap (λ (b : Bool). cond b i 65536) (lt-ltb i names l)) ∙ ap (λ (j : ℕ). cond (ltb j names) j 65536) g
-
-  pub sample-none : (old : List ℕ) (made : Bool) (n k x i : ℕ) (y : State) → y ≡ puts (sample_name_t s offsets names a n k x) (st 255 0 [] []) → i ≡ place_built (place_in old) names made y → names ≤ i → 65536 ≡ sample_t s offsets names a old made n k x
-  unfolding sample_t old_or
-  sample-none old made n k x i y e f l =
-      let g = f ∙ ap (place_built (place_in old) names made) e in
-      sym (ap (λ (b : Bool). cond b i 65536) (le-ltb i names l)) ∙ ap (λ (j : ℕ). cond (ltb j names) j 65536) g
 
 -- the search for a row: found, one more, and the end
 module _ (lasts : List ℕ) (v : ℕ) where

@@ -3,16 +3,16 @@ use Prim.Native.Nat.{ℕ, suc, ◌+◌, ◌-◌, ◌<◌, ◌≤◌}
 use native.Mathlib.Numerals.{add-one}
 use native.Mathlib.Omega.{arith}
 use mathlib.Core.List.{List, [], ◌∷◌}
-use mathlib.Core.Bool.{Bool, true, false, cond}
+use mathlib.Core.Bool.{Bool, false, cond}
 use mathlib.Core.Logic.{⊎_elim}
-use mathlib.Core.Path.{◌≡◌, refl, sym, ap, ◌∙◌}
+use mathlib.Core.Path.{◌≡◌, sym, ap, ◌∙◌}
 use lib.ListN.{length, get_or, drop, drop_of_length-le}
 use lib.Seq.{drop-cons}
 use lib.Dec.{eqb}
 use borrow.Author.Tests.{eq-eqb, ne_eqb}
 use types.Run.{OneOf}
 use denote.Enum.Declared.{tag_of}
-use Rattle.wire.specs.Writer.{State, put, puts}
+use Rattle.wire.specs.Writer.{State, puts}
 use Rattle.pack_rules.specs.Names.{Name}
 use Rattle.pack_rules.specs.Write.{raw}
 use Rattle.pack.specs.Intern.{put_item, put_name, render}
@@ -25,9 +25,9 @@ use Rattle.activations.specs.Vars.{scope_at}
 use Rattle.activations.specs.ExprNodes.{is_const, onward_t}
 use Rattle.activations.specs.Walks.{or_step, walked, write_step}
 use Rattle.activations.specs.ByNumber.{onto_items}
-use Rattle.activations.specs.RewriteLastAt.{copy_items, met_items, rewrite_last_t}
-use Rattle.activations.specs.NameIdsAt.{id_items, last_id_t, sample_name_t, sample_t}
-use Rattle.activations.specs.OverSamplesAt.{chosen_items, clocked_items, has_const_t, other_items, over_t, rename_items, rename_t, renamed_from, renamed_t, sampled_constant_items, sampled_constant_t, sampled_value_t}
+use Rattle.activations.specs.RewriteLastAt.{copy_items, met_items}
+use Rattle.activations.specs.NameIdsAt.{id_items, sample_name_t, sample_t}
+use Rattle.activations.specs.OverSamplesAt.{chosen_items, clocked_items, has_const_t, other_items, rename_items, rename_t, renamed_from, renamed_t, sampled_constant_items, sampled_constant_t}
 use Rattle.activations.proofs.Moving.{ended}
 use Rattle.activations.proofs.RewriteLastLaws.{copied-to}
 
@@ -83,16 +83,6 @@ module _ (old s offsets : List ℕ) (a : Name) (n k : ℕ) where
     unfolding sampled_constant_t
     pin-done c p at z y l e = ended ns s last (write_step old (sampled_constant_items s offsets a n k)) c p z _ l e
 
-    pub pinned-consts : (at : ℕ) (b : Bool) (x z : State) → b ≡ has_const_t ns s last at → b ≡ true → x ≡ sampled_constant_t old s offsets a n k ns last at z → x ≡ sampled_value_t old s offsets a n k ns last at z
-    unfolding sampled_value_t
-    pinned-consts at b x z e f g = g ∙ sym (ap (λ (c : Bool). cond c (sampled_constant_t old s offsets a n k ns last at z) (rewrite_last_t ns s last old offsets a at (render old (onto_items a n (scope_at n k)) z))) (sym e ∙ f))
-
-    pub pinned-whole : (at : ℕ) (b : Bool) (x y z : State) → b ≡ has_const_t ns s last at → b ≡ false → y ≡ render old (onto_items a n (scope_at n k)) z → x ≡ rewrite_last_t ns s last old offsets a at y → x ≡ sampled_value_t old s offsets a n k ns last at z
-    unfolding sampled_value_t
-    pinned-whole at b x y z e f g h =
-        h ∙ ap (rewrite_last_t ns s last old offsets a at) g
-        ∙ sym (ap (λ (c : Bool). cond c (sampled_constant_t old s offsets a n k ns last at z) (rewrite_last_t ns s last old offsets a at (render old (onto_items a n (scope_at n k)) z))) (sym e ∙ f))
-
 -- what is written for a number, and a node whose name is renamed
 module _ (old s offsets : List ℕ) (names : ℕ) (made : Bool) (a : Name) (n k : ℕ) (ids : List ℕ) where
   pub renamed-is : (x r : ℕ) → r ≡ renamed_from (sample_t s offsets names a old made n k) ids x 65536 → r ≡ renamed_t old s offsets names made a n k ids x
@@ -106,10 +96,6 @@ module _ (old s offsets : List ℕ) (names : ℕ) (made : Bool) (a : Name) (n k 
   pub chosen-sample : (x y : ℕ) (v z : State) → y ≡ renamed_t old s offsets names made a n k ids x → (y ≡ 65536 → ⊥) → v ≡ put_name old (sample_name_t s offsets names a n k y) z → v ≡ render old (chosen_items old s offsets names made a n k ids x) z
   unfolding chosen_items render put_item
   chosen-sample x y v z e f g = rw (ne_eqb (renamed_t old s offsets names made a n k ids x) 65536 (λ h. f (e ∙ h))) (g ∙ ap (λ (i : ℕ). put_name old (sample_name_t s offsets names a n k i) z) e)
-
-  pub var-chosen : (x : ℕ) (v y z : State) → y ≡ put 1 z → v ≡ render old (chosen_items old s offsets names made a n k ids x) y → v ≡ render old (raw (1 ∷ []) ∷ chosen_items old s offsets names made a n k ids x) z
-  unfolding render put_item puts
-  var-chosen x v y z e f = f ∙ ap (render old (chosen_items old s offsets names made a n k ids x)) e
 
   pub clock-chosen : (x : ℕ) (h t f : List ℕ) (v u y z : State) → t ≡ slice_of h 0 1 → y ≡ puts t z → u ≡ render old (chosen_items old s offsets names made a n k ids x) y → f ≡ slice_of h 3 1 → v ≡ puts f u → v ≡ render old (clocked_items old s offsets names made a n k ids x h) z
   unfolding clocked_items render put_item
@@ -138,33 +124,7 @@ module _ (old s offsets : List ℕ) (names : ℕ) (made : Bool) (a : Name) (n k 
   other-copied mt.Nothing p q h x z t f g j = copied-to old s p 0 h x z (g ∙ ap (λ y. slice_of s p (y - p)) f) j
 
   module _ (lasts : List ℕ) (rows : ℕ) where
-    pub rename-last : (m : ExprNode) (v i q p x : ℕ) (y z : State) → m ≡ mt.Last v i q → x ≡ last_id_t lasts rows v → y ≡ render old (raw (1 ∷ []) ∷ chosen_items old s offsets names made a n k ids x) z → y ≡ render old (rename_items old s offsets names made a n k ids lasts rows m p) z
-    unfolding rename_items
-    rename-last m v i q p x y z e f g = g ∙ ap (λ (j : ℕ). render old (raw (1 ∷ []) ∷ chosen_items old s offsets names made a n k ids j) z) f ∙ ap (λ (w : ExprNode). render old (rename_items old s offsets names made a n k ids lasts rows w p) z) (sym e)
-
-    pub rename-other : (m : ExprNode) (p : ℕ) (x z : State) → OneOf (1 ∷ 2 ∷ 3 ∷ 4 ∷ 5 ∷ 6 ∷ []) (tag_of Met-enum.the_type m) → x ≡ render old (other_items old s offsets names made a n k ids m p) z → x ≡ render old (rename_items old s offsets names made a n k ids lasts rows m p) z
-    unfolding rename_items
-    rename-other (mt.Last v i q) p x z h e = absurd (⊎_elim (λ d. omega arith) (λ d. ⊎_elim (λ d. omega arith) (λ d. ⊎_elim (λ d. omega arith) (λ d. ⊎_elim (λ d. omega arith) (λ d. ⊎_elim (λ d. omega arith) (λ d. omega arith) d) d) d) d) h)
-    rename-other (mt.Bad u q) p x z h e = e
-    rename-other (mt.Const q) p x z h e = e
-    rename-other (mt.Var i q) p x z h e = e
-    rename-other (mt.Clocked c u q) p x z h e = e
-    rename-other (mt.Other u q) p x z h e = e
-    rename-other mt.Nothing p x z h e = e
-
     module _ (ns : List Name) (last : ℕ) where
       pub rename-done : (c p at : ℕ) (z y : State) → c ≤ 0 → walked ns s last (write_step old (rename_items old s offsets names made a n k ids lasts rows)) c p z ≡ walked ns s last (write_step old (rename_items old s offsets names made a n k ids lasts rows)) 1 at y → z ≡ rename_t old s offsets names made a n k ids lasts rows ns last at y
       unfolding rename_t
       rename-done c p at z y l e = ended ns s last (write_step old (rename_items old s offsets names made a n k ids lasts rows)) c p z _ l e
-
--- by whether something is read
-module _ (old s offsets : List ℕ) (names : ℕ) (made : Bool) (a : Name) (n k : ℕ) (lasts : List ℕ) (rows : ℕ) (ns : List Name) (last : ℕ) where
-  pub over_none : (ids : List ℕ) (at : ℕ) (x z : State) → length ids ≡ 0 → x ≡ sampled_value_t old s offsets a n k ns last at z → x ≡ over_t old s offsets names made a n k ids lasts rows ns last at z
-  unfolding over_t
-  over_none [] at x z l e = e
-  over_none (v ∷ vs) at x z l e = absurd (omega (arith, l))
-
-  pub over-some : (ids : List ℕ) (at : ℕ) (x z : State) → (length ids ≡ 0 → ⊥) → x ≡ rename_t old s offsets names made a n k ids lasts rows ns last at z → x ≡ over_t old s offsets names made a n k ids lasts rows ns last at z
-  unfolding over_t
-  over-some [] at x z l e = absurd (l refl)
-  over-some (v ∷ vs) at x z l e = e

@@ -5,18 +5,13 @@ use mathlib.Core.List.{List}
 use mathlib.Core.Path.{◌≡◌, refl, sym, ap, ◌∙◌}
 use Rattle.wire.specs.Code.{Skipped, skip}
 use Rattle.pack_rules.specs.Names.{Name}
-use Rattle.pack_rules.specs.Read.{equations_in, expr_in, names_in, ports_in}
+use Rattle.pack_rules.specs.Read.{expr_in, names_in}
 use Rattle.pack.specs.Verdict.{offset_of}
 use Rattle.wire.specs.declared.answer.Number.{Number}
 use Rattle.machines.specs.ResolvedIn.{end_of}
 use Rattle.machines.specs.CheckedReads.{number_in}
 use Rattle.machines.proofs.CheckedReadLaws.{end_is, on}
-use Rattle.activations.specs.declared.parts.Act.{Act}
-use Rattle.activations.specs.Places.{act_at, act_end, act_of, along, body_in, branch_end, branches_end, each_of, equation_end, first_left_in, right_side_in}
-
-pub left_is : (s : List ℕ) (at : ℕ) (c x : Number) → c ≡ number_in s at → x ≡ number_in s c.next → x.value ≡ first_left_in s at
-unfolding first_left_in
-left_is s at c x e f = on c _ _ _ e (on x _ _ _ f refl)
+use Rattle.activations.specs.Places.{along, branch_end, branches_end, each_of, equation_end, right_side_in}
 
 along-step : (next : ℕ → ℕ) (n p : ℕ) → along next (suc n) p ≡ along next n (next p)
 unfolding along
@@ -57,26 +52,6 @@ module _ (ns : List Name) (s : List ℕ) where
   unfolding equation_end
   equation-over at e r f g = g ∙ ap (λ y. end_of (expr_in ns s y)) f
 
-  pub body_is : (at : ℕ) (i : Number) (r : ℕ) → i ≡ number_in s at → r ≡ end_of (expr_in ns s i.next) → r ≡ body_in ns s at
-  unfolding body_in
-  body_is at i r e f = on i _ _ r e f
-
-  pub branch-over : (at e r : ℕ) → e ≡ body_in ns s at → r ≡ end_of (equations_in ns s e) → r ≡ branch_end ns s at
-  unfolding branch_end
-  branch-over at e r f g = g ∙ ap (λ y. end_of (equations_in ns s y)) f
-
   pub branches-over : (at : ℕ) (c : Number) (r : ℕ) → c ≡ number_in s at → r ≡ along (branch_end ns s) c.value c.next → r ≡ branches_end ns s at
   unfolding branches_end
   branches-over at c r e f = on c _ _ r e f
-
-  pub act-is : (at : ℕ) (a o : Number) (b : ℕ) (n : Number) (d : ℕ) → a ≡ number_in s at → o ≡ number_in s a.next → b ≡ end_of (ports_in ns s o.next) → n ≡ number_in s b → d ≡ branches_end ns s b
-      → ◌≡◌ {A = Act} (record { name = a.value; outputs = o.next; branches = b; other = d; n = n.value }) (act_at ns s at)
-  unfolding act_at act_of
-  act-is at a o b n d e f g h i =
-      on a _ _ _ e (on o _ _ _ f
-      ((λ j. record { name = a.value; outputs = o.next; branches = b; other = i j; n = (h j).value })
-      ∙ ap (λ y. act_of ns s a.value o.next y) g))
-
-  pub act-over : (at : ℕ) (a : Act) (r : ℕ) → a ≡ act_at ns s at → r ≡ end_of (equations_in ns s a.other) → r ≡ act_end ns s at
-  unfolding act_end
-  act-over at a r e f = f ∙ ap (λ (y : Act). end_of (equations_in ns s y.other)) e

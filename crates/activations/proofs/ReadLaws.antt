@@ -4,24 +4,17 @@ use native.Mathlib.Numerals.{add-one}
 use native.Mathlib.Omega.{arith}
 use mathlib.Core.List.{List, [], ◌∷◌, ◌++◌}
 use mathlib.Core.Bool.{Bool, true, false, cond, ◌||◌}
-use mathlib.Core.Logic.{⊎_elim}
 use mathlib.Core.Path.{◌≡◌, refl, sym, ap, ◌∙◌}
 use lib.ListN.{length, get_or, set, take, drop, drop_of_length-le}
 use lib.Seq.{drop-cons, length-take-le, take-suc-set}
 use lib.Dec.{eqb, ltb}
-use borrow.Author.Tests.{eq-eqb, le-ltb, lt-ltb, ne_eqb}
+use borrow.Author.Tests.{le-ltb, lt-ltb}
 use Rattle.std.specs.List.{list_any}
-use types.Run.{OneOf}
-use denote.Enum.Declared.{tag_of}
 use Rattle.pack_rules.specs.Names.{Name}
 use Rattle.machines.specs.Fingerprints.{among}
-use Rattle.activations.specs.contracts.expr_node.ExprNode as Met-enum
 use Rattle.activations.specs.declared.expr_node.ExprNode.{ExprNode}
-use Rattle.activations.specs.declared.expr_node.ExprNode.TheVariants as mt
 use Rattle.activations.specs.ExprNodes.{expr_node_at, onward_t, open_t}
 use Rattle.activations.specs.Walks.{walked}
-use Rattle.activations.specs.TypeCodes.{typed_t}
-use Rattle.activations.specs.NameIdsAt.{last_id_t}
 use Rattle.activations.specs.FreeVarsAt.{free_vars_t, join_t, note_t, push_t, read_by, read_step}
 use Rattle.activations.proofs.Moving.{ended, went}
 
@@ -64,40 +57,6 @@ join_more ids l m z i x h e f g =
 pub join-end : (ids l z : List ℕ) (i : ℕ) → length ids ≤ i → join_t (drop i ids) l ≡ z → l ≡ z
 unfolding join_t
 join-end ids l z i h g = ap (λ (y : List ℕ). join_t y l) (sym (drop_of_length-le ids h)) ∙ g
-
--- what a node reads
-module _ (lasts : List ℕ) (rows : ℕ) where
-  pub by_last : (m : ExprNode) (v i q r : ℕ) → m ≡ mt.Last v i q → r ≡ last_id_t lasts rows v → r ≡ read_by lasts rows m
-  unfolding read_by
-  by_last m v i q r e f = f ∙ ap (read_by lasts rows) (sym e)
-
-  pub by-var : (m : ExprNode) (i q : ℕ) → m ≡ mt.Var i q → i ≡ read_by lasts rows m
-  unfolding read_by
-  by-var m i q e = ap (read_by lasts rows) (sym e)
-
-  pub by-clock : (m : ExprNode) (c u q : ℕ) → m ≡ mt.Clocked c u q → c ≡ read_by lasts rows m
-  unfolding read_by
-  by-clock m c u q e = ap (read_by lasts rows) (sym e)
-
-  pub by-none : (m : ExprNode) → OneOf (1 ∷ 2 ∷ 5 ∷ 6 ∷ []) (tag_of Met-enum.the_type m) → 65536 ≡ read_by lasts rows m
-  unfolding read_by
-  by-none (mt.Last v i q) k = absurd (⊎_elim (λ d. omega arith) (λ d. ⊎_elim (λ d. omega arith) (λ d. ⊎_elim (λ d. omega arith) (λ d. omega arith) d) d) k)
-  by-none (mt.Bad u q) k = refl
-  by-none (mt.Const q) k = refl
-  by-none (mt.Var i q) k = absurd (⊎_elim (λ d. omega arith) (λ d. ⊎_elim (λ d. omega arith) (λ d. ⊎_elim (λ d. omega arith) (λ d. omega arith) d) d) k)
-  by-none (mt.Clocked c u q) k = absurd (⊎_elim (λ d. omega arith) (λ d. ⊎_elim (λ d. omega arith) (λ d. ⊎_elim (λ d. omega arith) (λ d. omega arith) d) d) k)
-  by-none (mt.Other u q) k = refl
-  by-none mt.Nothing k = refl
-
--- a known variable, or none
-module _ (env outs : List ℕ) (names x : ℕ) where
-  pub note-none : (l : List ℕ) (c : ℕ) → c ≡ typed_t env outs names x → c ≡ 0 → l ≡ note_t env outs names x l
-  unfolding note_t
-  note-none l c e f = sym (ap (λ (b : Bool). cond b l (push_t x l)) (eq-eqb (typed_t env outs names x) 0 (sym e ∙ f)))
-
-  pub note-known : (l m : List ℕ) (c : ℕ) → c ≡ typed_t env outs names x → (c ≡ 0 → ⊥) → m ≡ push_t x l → m ≡ note_t env outs names x l
-  unfolding note_t
-  note-known l m c e f g = g ∙ sym (ap (λ (b : Bool). cond b l (push_t x l)) (ne_eqb (typed_t env outs names x) 0 (λ h. f (e ∙ h))))
 
 -- the pass over nodes: one more, and the end
 module _ (lasts : List ℕ) (rows : ℕ) (env outs : List ℕ) (names : ℕ) (ns : List Name) (s : List ℕ) (last : ℕ) where

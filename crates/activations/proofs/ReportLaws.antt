@@ -4,36 +4,17 @@ use native.Mathlib.Omega.{arith}
 use mathlib.Core.List.{List, [], ◌∷◌}
 use mathlib.Core.Path.{◌≡◌, refl, sym, ap, ◌∙◌}
 use lib.ListN.{length}
-use borrow.Author.Tests.{eq-eqb, le-ltb, lt-ltb, ne_eqb}
-use Rattle.machines.specs.declared.verdicts.NameRef.{NameRef}
+use borrow.Author.Tests.{eq-eqb, ne_eqb}
 use Rattle.machines.specs.declared.verdicts.VerdictRow.{VerdictRow}
 use Rattle.wire.specs.declared.answer.Number.{Number}
 use Rattle.machines.specs.ReportEntries.{entry_bytes}
-use Rattle.machines.specs.VerdictAt.{named, no_name, refused_by}
 use Rattle.machines.specs.ReportAt.{bytes_t}
 use Rattle.machines.specs.CheckedReads.{number_in}
 use Rattle.machines.proofs.ReportingLaws.{room-here}
 use Rattle.activations.specs.declared.checks.Refused.{Refused}
 use Rattle.activation_rules.specs.Checks.{else_name}
 use Rattle.activations.specs.ActTable.{refusal_t, spot_t}
-use Rattle.activations.specs.ReportAt.{called_t, else_called, entry_t, is_refused_t, judged_as}
-
-module _ (names x : ℕ) where
-  pub called-old : (c : NameRef) → x < names → c ≡ named x → c ≡ called_t names x
-  unfolding called_t
-  called-old c l e = rw (lt-ltb x names l) e
-
-  pub called-none : (c : NameRef) → names ≤ x → x ≡ names → c ≡ no_name → c ≡ called_t names x
-  unfolding called_t
-  called-none c l h e = rw (le-ltb x names l, eq-eqb x names h) e
-
-  pub called-else : names ≤ x → (x ≡ names → ⊥) → else_called ≡ called_t names x
-  unfolding called_t
-  called-else l h = rw (le-ltb x names l, ne_eqb x names h) refl
-
-pub judged-as : (names : ℕ) (r : Refused) (a b : NameRef) (j : VerdictRow) → a ≡ called_t names r.second → b ≡ called_t names r.third → j ≡ refused_by r.kind a b → j ≡ judged_as names r
-unfolding judged_as
-judged-as names r a b j e f g = g ∙ λ i. refused_by r.kind (e i) (f i)
+use Rattle.activations.specs.ReportAt.{entry_t, judged_as}
 
 module _ (acts : List ℕ) (i : ℕ) (r : Refused) (e : r ≡ refusal_t acts i) where
   no_kind : r.kind ≡ 0 → (refusal_t acts i).kind ≡ 0
@@ -41,14 +22,6 @@ module _ (acts : List ℕ) (i : ℕ) (r : Refused) (e : r ≡ refusal_t acts i) 
 
   some-kind : (r.kind ≡ 0 → ⊥) → (refusal_t acts i).kind ≡ 0 → ⊥
   some-kind h z = h (ap (λ (y : Refused). y.kind) e ∙ z)
-
-  pub counts-none : r.kind ≡ 0 → 0 ≡ is_refused_t acts i
-  unfolding is_refused_t
-  counts-none h = rw (eq-eqb (refusal_t acts i).kind 0 (no_kind h))
-
-  pub counts-one : (r.kind ≡ 0 → ⊥) → 1 ≡ is_refused_t acts i
-  unfolding is_refused_t
-  counts-one h = rw (ne_eqb (refusal_t acts i).kind 0 (some-kind h))
 
   module _ (names : ℕ) (s offsets : List ℕ) where
     pub entry-none : r.kind ≡ 0 → entry_t names s offsets acts i ≡ []

@@ -81,10 +81,6 @@ module _ (old s offsets : List ℕ) (names : ℕ) (a : Name) (n k : ℕ) where
 
 -- an equation
 module _ (old s offsets : List ℕ) (names : ℕ) (made : Bool) (ns : List Name) (last : ℕ) (lasts : List ℕ) (rows : ℕ) (a : Name) (n k : ℕ) where
-  pub equation-written : (ids sampled : List ℕ) (p e : ℕ) (c d r z : State) → c ≡ render old (new_items s offsets names a n k sampled ids) z → d ≡ render old (value_items s offsets names a n k p) c → e ≡ right_side_in ns s p → r ≡ over_t old s offsets names made a n k ids lasts rows ns last e d → r ≡ equation_t old s offsets names made ns last lasts rows a n k ids sampled p z
-  unfolding equation_t
-  equation-written ids sampled p e c d r z f g h i = i ∙ (λ j. over_t old s offsets names made a n k ids lasts rows ns last (h j) ((g ∙ ap (render old (value_items s offsets names a n k p)) f) j))
-
   -- a full writer stays full
   pinned-full : (at : ℕ) → sampled_value_t old s offsets a n k ns last at full ≡ full
   unfolding sampled_value_t sampled_constant_t

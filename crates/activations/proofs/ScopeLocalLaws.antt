@@ -1,8 +1,8 @@
 -- Laws for the code that goes over the locals of scopes, step by step.
-use Prim.Native.Nat.{ℕ, zero, suc, ◌+◌, ◌-◌, ◌<◌, ◌≤◌}
+use Prim.Native.Nat.{ℕ, zero, suc, ◌+◌, ◌<◌, ◌≤◌}
 use native.Mathlib.Omega.{arith}
 use mathlib.Core.List.{List, [], ◌∷◌}
-use mathlib.Core.Bool.{Bool, true, false}
+use mathlib.Core.Bool.{Bool}
 use mathlib.Core.Path.{◌≡◌, refl, sym, ap, ◌∙◌}
 use lib.ListN.{length, get_or, drop, drop_of_length-le}
 use lib.Seq.{drop-cons}
@@ -12,17 +12,15 @@ use Rattle.pack_rules.specs.Read.{expr_in}
 use Rattle.wire.specs.declared.answer.Number.{Number}
 use Rattle.machines.specs.ResolvedIn.{end_of}
 use Rattle.machines.specs.CheckedReads.{number_in}
-use Rattle.machines.specs.Fingerprints.{among}
 use Rattle.machines.specs.EmitAt.{pack_name}
 use Rattle.machines.proofs.CheckedReadLaws.{on}
-use Rattle.activations.specs.declared.parts.Act.{Act}
 use Rattle.activation_rules.specs.MadeNames.{value_var}
 use Rattle.activations.specs.Vars.{scope_at}
 use Rattle.activations.specs.Places.{body_in, branch_end, equation_end, first_left_in, right_side_in}
 use Rattle.activations.specs.TypeCodes.{typed_t, value_type_t}
 use Rattle.activations.specs.NameIdsAt.{sample_name_t}
 use Rattle.activations.specs.FreeVarsAt.{free_vars_at, free_vars_t, join_t}
-use Rattle.activations.specs.LocalsAt.{Left, act_locals_t, branch_locals_t, clock_locals_t, equation_local_t, equation_locals_t, flag_locals_t, holder_locals_t, local_t, named_t, new_local_t, new_locals_t, sample_local_t, scope_locals_t, value_local_t}
+use Rattle.activations.specs.LocalsAt.{Left, branch_locals_t, equation_local_t, equation_locals_t, local_t, named_t, new_local_t, new_locals_t, sample_local_t, scope_locals_t, value_local_t}
 use Rattle.activations.proofs.LocalLaws.{named-is}
 
 module _ (ns : List Name) (s old : List ℕ) (made : Bool) (a : Name) (offsets env outs : List ℕ) (n : ℕ) where
@@ -31,14 +29,6 @@ module _ (ns : List Name) (s old : List ℕ) (made : Bool) (a : Name) (offsets e
   sample-local-is k x names c y u z e f g h =
       named-is ns s old made (sample_name_t s offsets names a n k x) y c u z g h
       ∙ λ i. named_t ns s old made (sample_name_t s offsets (sym e i) a n k x) ((f ∙ ap (λ t. typed_t env outs t x) (sym e)) i) z
-
-  pub new-known : (k : ℕ) (sampled : List ℕ) (x : ℕ) (b : Bool) (z : Left) → b ≡ among x sampled → b ≡ true → z ≡ new_local_t ns s old made a offsets env outs n k sampled x z
-  unfolding new_local_t
-  new-known k sampled x b z e f = rw (sym e ∙ f)
-
-  pub new-local : (k : ℕ) (sampled : List ℕ) (x : ℕ) (b : Bool) (u z : Left) → b ≡ among x sampled → b ≡ false → u ≡ sample_local_t ns s old made a offsets env outs n k x z → u ≡ new_local_t ns s old made a offsets env outs n k sampled x z
-  unfolding new_local_t
-  new-local k sampled x b u z e f g = rw (sym e ∙ f) g
 
   new-step : (k : ℕ) (sampled : List ℕ) (x : ℕ) (xs : List ℕ) (z : Left) → new_locals_t ns s old made a offsets env outs n k sampled (x ∷ xs) z ≡ new_locals_t ns s old made a offsets env outs n k sampled xs (new_local_t ns s old made a offsets env outs n k sampled x z)
   unfolding new_locals_t
@@ -61,10 +51,6 @@ module _ (ns : List Name) (s old : List ℕ) (made : Bool) (a : Name) (offsets e
   value-local-is k p x names c o y u z e f g h d l =
       named-is ns s old made (value_var a (scope_at n k) o) y c u z d l
       ∙ λ i. named_t ns s old made (value_var a (scope_at n k) ((h ∙ ap (pack_name s offsets) f) i)) ((g ∙ λ j. value_type_t env outs (sym e j) (f j)) i) z
-
-  pub equation-local-is : (k : ℕ) (ids sampled : List ℕ) (p : ℕ) (u v z : Left) → u ≡ new_locals_t ns s old made a offsets env outs n k sampled ids z → v ≡ value_local_t ns s old made a offsets env outs n k p u → v ≡ equation_local_t ns s old made a offsets env outs n k ids sampled p z
-  unfolding equation_local_t
-  equation-local-is k ids sampled p u v z e f = f ∙ ap (value_local_t ns s old made a offsets env outs n k p) e
 
   module _ (last : ℕ) (lasts : List ℕ) (rows : ℕ) where
     -- the loop over equations
@@ -99,11 +85,3 @@ module _ (ns : List Name) (s old : List ℕ) (made : Bool) (a : Name) (offsets e
     unfolding branch_locals_t
     branches-over k zero p z t l r = r
     branches-over k (suc c) p z t l r = absurd (omega arith)
-
-pub act-locals-are : (ns : List Name) (s old : List ℕ) (made : Bool) (a : Name) (offsets env outs : List ℕ) (last : ℕ) (lasts : List ℕ) (rows : ℕ) (A : Act) (f : Number) (z u v w x y : Left) → f ≡ number_in s A.branches → u ≡ holder_locals_t ns s old made a offsets lasts env 0 rows z → v ≡ flag_locals_t ns s old made a 0 A.n u → w ≡ clock_locals_t ns s old made a 1 (A.n - 1) v
-    → x ≡ branch_locals_t ns s old made a offsets env outs A.n last lasts rows 0 A.n f.next w → y ≡ scope_locals_t ns s old made a offsets env outs A.n last lasts rows A.n A.other x → y ≡ act_locals_t ns s old made a offsets env outs last lasts rows A z
-unfolding act_locals_t
-act-locals-are ns s old made a offsets env outs last lasts rows A f z u v w x y e g h i j k =
-    k
-    ∙ ap (scope_locals_t ns s old made a offsets env outs A.n last lasts rows A.n A.other)
-    (j ∙ λ t. branch_locals_t ns s old made a offsets env outs A.n last lasts rows 0 A.n (e t).next ((i ∙ ap (clock_locals_t ns s old made a 1 (A.n - 1)) (h ∙ ap (flag_locals_t ns s old made a 0 A.n) g)) t))

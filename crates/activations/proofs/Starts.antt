@@ -30,6 +30,7 @@ use Rattle.machines.proofs.NamesPlaced.{alone}
 use Rattle.machines.proofs.Reading.{many-cut, many_more, many-over, name-number}
 use Rattle.machines.proofs.CheckedReadLaws.{byte-to, end-to, number-num, number-to}
 use Rattle.machines.proofs.Validated.{first-none}
+use Rattle.std.specs.Prelude.{Option as Maybe, Some, None}
 use Rattle.activations.specs.declared.types.TypeDefault.{TypeDefault}
 use Rattle.activations.specs.declared.types.TypeDefault.TheVariants as sr
 use Rattle.activations.specs.Places.{each_of}
@@ -73,15 +74,15 @@ enum-read ns s at x q e =
 
 module _ (ns : List Name) (fresh : Fresh [] ns) (few : length ns < 65536) (s : List ℕ) (by : Bytes s) where
   -- a start and the name it stands for
-  unfoldable Varies : TypeDefault → Option Name → Type 0
-  Varies sr.Missing none = Unit {0}
-  Varies sr.Missing (some n) = ⊥
-  Varies (sr.Literal t) o = ⊥
-  Varies (sr.Name v) none = ⊥
-  Varies (sr.Name v) (some n) = (v < length ns) × (name_at ns v ≡ n)
+  unfoldable Varies : Maybe TypeDefault → Option Name → Type 0
+  Varies None none = Unit {0}
+  Varies None (some n) = ⊥
+  Varies (Some (sr.Literal t)) o = ⊥
+  Varies (Some (sr.Name v)) none = ⊥
+  Varies (Some (sr.Name v)) (some n) = (v < length ns) × (name_at ns v ≡ n)
 
   -- the first variant of an enum, or what was there
-  first-or : (at q : ℕ) (vs : List Name) (r : TypeDefault) (o : Option Name) → many (name_in ns s) (length vs) at ≡ value vs q → Varies r o → Varies (variant_or s (length vs) at r) (first_of (first_name vs) o)
+  first-or : (at q : ℕ) (vs : List Name) (r : Maybe TypeDefault) (o : Option Name) → many (name_in ns s) (length vs) at ≡ value vs q → Varies r o → Varies (variant_or s (length vs) at r) (first_of (first_name vs) o)
   unfolding Varies variant_or first_name first_of
   first-or at q [] r o e h = h
   first-or at q (v ∷ vs) r o e h =
@@ -90,7 +91,7 @@ module _ (ns : List Name) (fresh : Fresh [] ns) (few : length ns < 65536) (s : L
       let g : (number_in s at).value ≡ n.i = ap (λ y. y.value) (number-num s at n.i a.0 n.is) in
       rw (ne_eqb (suc (length vs)) 0 (λ z. omega arith)) (subst (λ y. y < length ns) (sym g) n.small, ap (name_at ns) g ∙ n.named)
 
-  variant-read : (x p : ℕ) (e : Enum) (q : ℕ) (r : TypeDefault) (o : Option Name) → x < length ns → enum_in ns s p ≡ value e q → Varies r o → Varies (variant_at s x p r) (first_of (cond (eq_name e.name (name_at ns x)) (first_name e.variants) none) o)
+  variant-read : (x p : ℕ) (e : Enum) (q : ℕ) (r : Maybe TypeDefault) (o : Option Name) → x < length ns → enum_in ns s p ≡ value e q → Varies r o → Varies (variant_at s x p r) (first_of (cond (eq_name e.name (name_at ns x)) (first_name e.variants) none) o)
   unfolding variant_at first_of
   variant-read x p e q r o l d h =
       let k = enum-read ns s p e q d in
@@ -102,7 +103,7 @@ module _ (ns : List Name) (fresh : Fresh [] ns) (few : length ns < 65536) (s : L
       (subst (λ y. Varies (cond (eqb k.i x) (variant_or s (length e.variants) k.b r) r) (first_of (cond y (first_name e.variants) none) o)) (sym a ∙ ap (λ y. eq_name y (name_at ns x)) k.named)
       (go (eqb k.i x) (variant_or s (length e.variants) k.b r) (first-or k.b q e.variants r o k.variants h)))
     where
-      go : (b : Bool) (u : TypeDefault) → Varies u (first_of (first_name e.variants) o) → Varies (cond b u r) (first_of (cond b (first_name e.variants) none) o)
+      go : (b : Bool) (u : Maybe TypeDefault) → Varies u (first_of (first_name e.variants) o) → Varies (cond b u r) (first_of (cond b (first_name e.variants) none) o)
       go true u v = v
       go false u v = h
 
@@ -115,15 +116,15 @@ module _ (ns : List Name) (fresh : Fresh [] ns) (few : length ns < 65536) (s : L
       go none = refl
       go (some y) = refl
 
-  none_left : (r : TypeDefault) (o : Option Name) (x : ℕ) → Varies r o → Varies r (first_of (first_variant [] (name_at ns x)) o)
+  none_left : (r : Maybe TypeDefault) (o : Option Name) (x : ℕ) → Varies r o → Varies r (first_of (first_variant [] (name_at ns x)) o)
   unfolding first_variant first_of
   none_left r o x h = h
 
-  missing : Varies sr.Missing none
+  missing : Varies None none
   unfolding Varies
   missing = tt
 
-  variants-read : (x n p : ℕ) (es : List Enum) (q : ℕ) (r : TypeDefault) (o : Option Name) → x < length ns → many (enum_in ns s) n p ≡ value es q → Varies r o → Varies (each_of (variant_at s x) (enum_end ns s) n p r) (first_of (first_variant es (name_at ns x)) o)
+  variants-read : (x n p : ℕ) (es : List Enum) (q : ℕ) (r : Maybe TypeDefault) (o : Option Name) → x < length ns → many (enum_in ns s) n p ≡ value es q → Varies r o → Varies (each_of (variant_at s x) (enum_end ns s) n p r) (first_of (first_variant es (name_at ns x)) o)
   unfolding each_of
   variants-read x zero p [] q r o l d h = none_left r o x h
   variants-read x zero p (e ∷ es) q r o l d h = absurd (many-cut (enum_in ns s) p e es q d)
@@ -140,9 +141,9 @@ module _ (ns : List Name) (fresh : Fresh [] ns) (few : length ns < 65536) (s : L
     unfolding first_variant_t
     variant_is x l =
         let a = counted-value (enum_in ns s) s enums es q E in
-        subst (λ y. Varies y (first_variant es (name_at ns x))) (sym (number-to s enums (length es) a.0 (λ n p. each_of (variant_at s x) (enum_end ns s) n p sr.Missing) a.1))
-        (subst (Varies (each_of (variant_at s x) (enum_end ns s) (length es) a.0 sr.Missing)) (first-none (first_variant es (name_at ns x)))
-        (variants-read x (length es) a.0 es q sr.Missing none l a.2 missing))
+        subst (λ y. Varies y (first_variant es (name_at ns x))) (sym (number-to s enums (length es) a.0 (λ n p. each_of (variant_at s x) (enum_end ns s) n p None) a.1))
+        (subst (Varies (each_of (variant_at s x) (enum_end ns s) (length es) a.0 None)) (first-none (first_variant es (name_at ns x)))
+        (variants-read x (length es) a.0 es q None none l a.2 missing))
 
     -- what is looked up is what is sought
     looked-up : (x : ℕ) → variant_t ns s enums offsets x ≡ first_variant_t ns s enums x
@@ -150,16 +151,16 @@ module _ (ns : List Name) (fresh : Fresh [] ns) (few : length ns < 65536) (s : L
     looked-up x = ⊎_elim (λ l. rw (lt-ltb x 17408 l) (F x l)) (λ l. rw (le-ltb x 17408 l)) (lt-or-le x 17408)
 
     -- what is read of a start
-    abbrev pub StartIs : TypeDefault → Option Expr → Type 0
+    abbrev pub StartIs : Maybe TypeDefault → Option Expr → Type 0
     StartIs t o = (default_expr ns t ≡ o) × DefaultIn ns t
 
-    varies-start : (t : TypeDefault) (o : Option Name) → Varies t o → StartIs t (as_variable o)
+    varies-start : (t : Maybe TypeDefault) (o : Option Name) → Varies t o → StartIs t (as_variable o)
     unfolding Varies default_expr DefaultIn as_variable
-    varies-start sr.Missing none h = (refl, tt)
-    varies-start sr.Missing (some n) h = absurd h
-    varies-start (sr.Literal k) o h = absurd h
-    varies-start (sr.Name v) none h = absurd h
-    varies-start (sr.Name v) (some n) h = (ap (λ y. some (e_var y)) h.1, h.0)
+    varies-start None none h = (refl, tt)
+    varies-start None (some n) h = absurd h
+    varies-start (Some (sr.Literal k)) o h = absurd h
+    varies-start (Some (sr.Name v)) none h = absurd h
+    varies-start (Some (sr.Name v)) (some n) h = (ap (λ y. some (e_var y)) h.1, h.0)
 
     -- by the tag of a type
     plain-read : (c k : ℕ) (rest : List ℕ) → drop c s ≡ k ∷ rest → k < 256 → (k ≡ 13 → ⊥) → default_at ns s enums offsets c ≡ plain_start k
@@ -204,7 +205,7 @@ module _ (ns : List Name) (fresh : Fresh [] ns) (few : length ns < 65536) (s : L
 
     bool-start : (c : ℕ) (t : Ty) → Coded ns s c (some t) → c < 2 → StartIs (default_t ns s enums offsets c) (default_of es t)
     unfolding default_t default_expr DefaultIn zero_of default_of
-    bool-start c t h l = rw (lt-ltb c 2 l) (subst (λ y. StartIs (sr.Literal 0) (default_of es y)) (sym (coded-one ns s c t h l)) (refl, tt))
+    bool-start c t h l = rw (lt-ltb c 2 l) (subst (λ y. StartIs (Some (sr.Literal 0)) (default_of es y)) (sym (coded-one ns s c t h l)) (refl, tt))
 
     read-start : (c : ℕ) (t : Ty) → Coded ns s c (some t) → 2 ≤ c → StartIs (default_t ns s enums offsets c) (default_of es t)
     unfolding default_t

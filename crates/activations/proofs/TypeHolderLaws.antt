@@ -1,55 +1,16 @@
 -- Laws for the code that numbers holders and makes them known, step by step.
-use Prim.Native.Nat.{ℕ, suc, ◌+◌, ◌*◌, ◌-◌, ◌%◌, ◌<◌, ◌≤◌}
+use Prim.Native.Nat.{ℕ, suc, ◌+◌, ◌-◌, ◌<◌, ◌≤◌}
 use native.Mathlib.Omega.{arith}
-use mathlib.Core.List.{List, []}
+use mathlib.Core.List.{List}
 use mathlib.Core.Bool.{Bool, true, false, cond}
 use mathlib.Core.Path.{◌≡◌, refl, sym, ap, ◌∙◌}
-use lib.ListN.{set}
 use lib.Dec.{eqb}
-use borrow.Author.Tests.{le-ltb, lt-ltb}
-use Rattle.wire.specs.Writer.{State, puts, st}
 use Rattle.pack_rules.specs.Names.{Name}
-use Rattle.machines.specs.EmitAt.{pack_name}
 use Rattle.machines.proofs.CheckedReadLaws.{no, yes}
 use Rattle.activations.specs.declared.pack_info.PackInfo.{PackInfo}
-use Rattle.activations.specs.declared.types.TypeDefault.{TypeDefault}
-use Rattle.activations.specs.Cells.{put_t}
-use Rattle.activations.specs.Ids.{old_or}
-use Rattle.activations.specs.Lookups.{place_built, place_in}
-use Rattle.activation_rules.specs.MadeNames.{last_var}
 use Rattle.activations.specs.TypeCodes.{typed_t}
-use Rattle.activations.specs.TypesAt.{default_t, is_missing}
 use Rattle.activations.specs.LastsAt.{word_t}
-use Rattle.activations.specs.TypeHoldersAt.{Hold, hold_code, hold_from, hold_of, hold_row, holder_number, holder_t, known_t, needs_t}
-
-pub old-is : (n i x : ℕ) → i < n → i ≡ old_or n i x
-unfolding old_or
-old-is n i x l = rw (lt-ltb i n l)
-
-pub other-is : (n i x : ℕ) → n ≤ i → x ≡ old_or n i x
-unfolding old_or
-other-is n i x l = rw (le-ltb i n l)
-
-pub number-found : (old : List ℕ) (b : PackInfo) (n : Name) (v x r : ℕ) (t : State) → t ≡ puts n (st 255 0 [] []) → x ≡ place_built (place_in old) b.names b.made t → r ≡ old_or b.names x (b.names + v) → r ≡ holder_number old b n v
-unfolding holder_number
-number-found old b n v x r t e f g = g ∙ ap (λ y. old_or b.names y (b.names + v)) (f ∙ ap (place_built (place_in old) b.names b.made) e)
-
-module _ (old s : List ℕ) (b : PackInfo) (offsets : List ℕ) (a : Name) where
-  pub holder-is : (v r : ℕ) (n : Name) → n ≡ pack_name s offsets v → r ≡ holder_number old b (last_var a n) v → r ≡ holder_t old s b offsets a v
-  unfolding holder_t
-  holder-is v r n e f = f ∙ ap (λ y. holder_number old b (last_var a y) v) e
-
-pub needs-asked : (ns : List Name) (s : List ℕ) (b : PackInfo) (offsets : List ℕ) (init c : ℕ) (t : TypeDefault) (r : Bool) → init ≡ 0 → t ≡ default_t ns s b.enums offsets c → r ≡ is_missing t → r ≡ needs_t ns s b offsets init c
-unfolding needs_t
-needs-asked ns s b offsets init c t r e f g = yes init 0 _ _ r e (g ∙ ap is_missing f)
-
-pub needs-given : (ns : List Name) (s : List ℕ) (b : PackInfo) (offsets : List ℕ) (init c : ℕ) → (init ≡ 0 → ⊥) → false ≡ needs_t ns s b offsets init c
-unfolding needs_t
-needs-given ns s b offsets init c e = no init 0 _ _ false e refl
-
-pub known_is : (h v c id k : ℕ) (e d x y : List ℕ) → id ≡ k → y ≡ put_t d (3 * h + 2) id → x ≡ set e id (c % 65536) → hold_of x y 0 v ≡ known_t h v c k e d
-unfolding known_t put_t
-known_is h v c id k e d x y f g i = (λ j. hold_of (i j) (g j) 0 v) ∙ (λ j. hold_of (set e (f j) (c % 65536)) (set d (3 * h + 2) (f j % 65536)) 0 v)
+use Rattle.activations.specs.TypeHoldersAt.{Hold, hold_code, hold_from, hold_of, hold_row, holder_t, known_t, needs_t}
 
 module _ (ns : List Name) (old s : List ℕ) (b : PackInfo) (offsets : List ℕ) (a : Name) (outs : List ℕ) where
   at_row : (h v c : ℕ) (e d : List ℕ) (z : Hold) → v ≡ word_t d h 0 → c ≡ typed_t e outs b.names v → z ≡ hold_code ns old s b offsets a outs h v c e d → z ≡ hold_row ns old s b offsets a outs h e d

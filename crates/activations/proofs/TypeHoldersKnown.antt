@@ -22,6 +22,7 @@ use Rattle.pack.specs.Table.{tabled}
 use Rattle.machines.specs.ResolvedIn.{end_of}
 use Rattle.machines.specs.EmitAt.{pack_name}
 use Rattle.activations.specs.declared.pack_info.PackInfo.{PackInfo}
+use Rattle.std.specs.Prelude.{Option as Maybe, Some, None}
 use Rattle.activations.specs.declared.types.TypeDefault.{TypeDefault}
 use Rattle.activations.specs.declared.types.TypeDefault.TheVariants as sr
 use Rattle.activation_rules.specs.Refusals.{last_needs_init, last_unknown}
@@ -61,11 +62,11 @@ data Choice (b : Bool) (o : Option Expr) : Type 0 where
   nothing : b ≡ true → o ≡ none → Choice b o
   something : (e : Expr) → b ≡ false → o ≡ some e → Choice b o
 
-start-choice : (ns : List Name) (t : TypeDefault) (o : Option Expr) → default_expr ns t ≡ o → Choice (is_missing t) o
+start-choice : (ns : List Name) (t : Maybe TypeDefault) (o : Option Expr) → default_expr ns t ≡ o → Choice (is_missing t) o
 unfolding default_expr is_missing
-start-choice ns sr.Missing o e = nothing refl (sym e)
-start-choice ns (sr.Literal k) o e = something _ refl (sym e)
-start-choice ns (sr.Name v) o e = something _ refl (sym e)
+start-choice ns None o e = nothing refl (sym e)
+start-choice ns (Some (sr.Literal k)) o e = something _ refl (sym e)
+start-choice ns (Some (sr.Name v)) o e = something _ refl (sym e)
 
 module _ (ns : List Name) (fresh : Fresh [] ns) (legal : All LegalName ns) (few : length ns + length ns < 65536) (s : List ℕ) (by : Bytes s) (short : length s ≤ 65536)
     (offsets : List ℕ) (placed : (i : ℕ) → i < length ns → pack_name s offsets i ≡ name_at ns i) (b : PackInfo) (names : b.names ≡ length ns) (M : MadeIs ns b.made)
@@ -206,7 +207,7 @@ module _ (ns : List Name) (fresh : Fresh [] ns) (legal : All LegalName ns) (few 
     goes : (c ≡ 0 → ⊥) → needs_t ns s b offsets (word_t d h 1) c ≡ false → result ≡ hold_from ns (tabled ns) s b offsets a outs n (suc h) (put_t e (holder_id ns a v) c) (put_t d (3 * h + 2) (holder_id ns a v))
     unfolding result c v known_t
     goes z w =
-        step-to n h e d (hold_of (put_t e (holder_t (tabled ns) s b offsets a v) c) (put_t d (3 * h + 2) (holder_t (tabled ns) s b offsets a v)) 0 v) (row-known ns (tabled ns) s b offsets a outs h v c (word_t d h 1) false e d _ refl refl z refl (sym w) refl refl)
+        step-to n h e d (hold_of (put_t e (holder_t (tabled ns) s b offsets a v) c) (put_t d (3 * h + 2) (holder_t (tabled ns) s b offsets a v)) 0 0) (row-known ns (tabled ns) s b offsets a outs h v c (word_t d h 1) false e d _ refl refl z refl (sym w) refl refl)
         ∙ (λ j. hold_from ns (tabled ns) s b offsets a outs n (suc h) (put_t e (holder_known ns legal s offsets placed b names M a v small j) c) (put_t d (3 * h + 2) (holder_known ns legal s offsets placed b names M a v small j)))
 
     words : (w : ℕ) → word_t (put_t d (3 * h + 2) (holder_id ns a v)) w 0 ≡ word_t d w 0

@@ -9,6 +9,7 @@ use Rattle.machines.specs.Layout.{slice_of}
 use Rattle.machines.specs.ResolvedIn.{end_of}
 use Rattle.machines.specs.EmitAt.{pack_name}
 use Rattle.activations.specs.declared.pack_info.PackInfo.{PackInfo}
+use Rattle.std.specs.Prelude.{Option as Maybe, Some, None}
 use Rattle.activations.specs.declared.types.TypeDefault.{TypeDefault}
 use Rattle.activations.specs.declared.types.TypeDefault.TheVariants as sr
 use Rattle.activation_rules.specs.MadeNames.{last_var}
@@ -16,10 +17,10 @@ use Rattle.activations.specs.TypesAt.{default_t, zero_of}
 use Rattle.activations.specs.LastsAt.{word_t}
 
 -- what a holder starts from, as an expression's bytes
-unfoldable pub default_bytes : TypeDefault → List ℕ
-default_bytes sr.Missing = []
-default_bytes (sr.Literal tag) = 0 ∷ lit_bytes (zero_of tag)
-default_bytes (sr.Name v) = 1 ∷ two v
+unfoldable pub default_bytes : Maybe TypeDefault → List ℕ
+default_bytes None = []
+default_bytes (Some (sr.Literal tag)) = 0 ∷ lit_bytes (zero_of tag)
+default_bytes (Some (sr.Name v)) = 1 ∷ two v
 
 -- the given initial value as it stands, else what the type of code c starts from
 unfoldable pub init_bytes : List Name → List ℕ → PackInfo → List ℕ → ℕ → ℕ → List ℕ

@@ -22,6 +22,7 @@ pub mod OverSamplesAt
 pub mod LocalsAt
 pub mod LastsAt
 pub mod TypeHoldersAt
+pub mod Refusing
 pub mod HoldersTyped
 pub mod HoldersAt
 pub mod ScopesAt

@@ -1,6 +1,6 @@
 -- Internal: nothing here has to be believed; laws tie it to what docs/TRUSTED.md lists.
 -- A right side over samples of what it reads, node by node, as the code writes it.
-use Rattle.std.specs.Prelude.{ℕ, ◌-◌, List, [], ◌∷◌, ◌++◌, Bool, false, cond, eqb}
+use Rattle.std.specs.Prelude.{Option, Some, None, ℕ, ◌-◌, List, [], ◌∷◌, ◌++◌, Bool, false, cond, eqb}
 use Rattle.wire.specs.Writer.{State}
 use Rattle.pack_rules.specs.Names.{Name}
 use Rattle.pack_rules.specs.Write.{Item, nm, raw}
@@ -14,6 +14,11 @@ use Rattle.activations.specs.Walks.{or_step, walked, write_step}
 use Rattle.activations.specs.ByNumber.{onto_items}
 use Rattle.activations.specs.RewriteLastAt.{copy_items, met_items, rewrite_last_t}
 use Rattle.activations.specs.NameIdsAt.{id_items, last_id_t, no_number, sample_name_t, sample_t}
+
+-- a number, `no_number` for none
+unfoldable pub number_or : Option ℕ → ℕ
+number_or None = no_number
+number_or (Some y) = y
 
 -- what was read, one number after the other: the last whose sample took its own place, y where none did; f is the sample's number
 unfoldable pub renamed_from : (ℕ → ℕ) → List ℕ → ℕ → ℕ → ℕ

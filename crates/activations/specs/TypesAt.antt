@@ -9,6 +9,7 @@ use Rattle.pack_rules.specs.Read.{names_in, port_in, type_in}
 use Rattle.machines.specs.Layout.{slice_of}
 use Rattle.machines.specs.ResolvedIn.{end_of}
 use Rattle.machines.specs.CheckedReads.{byte_in, number_in, with}
+use Rattle.std.specs.Prelude.{Option as Maybe, Some, None}
 use Rattle.activations.specs.declared.types.TypeDefault.{TypeDefault}
 use Rattle.activations.specs.declared.types.TypeDefault.TheVariants as sr
 use Rattle.activations.specs.Cells.{put_t}
@@ -59,66 +60,65 @@ module _ (ns : List Name) (s : List ℕ) where
   enum_end at = with (number_in s at) λ i p. end_of (names_in ns s p)
 
 -- what a holder of a type with this tag starts from: literals of 0, none of arrays
-unfoldable pub plain_start : ℕ → TypeDefault
+unfoldable pub plain_start : ℕ → Maybe TypeDefault
 plain_start tag =
-    cond (eqb tag 0) (sr.Literal 0)
-    (cond (eqb tag 9) (sr.Literal 2)
-    (cond (eqb tag 10) (sr.Literal 2)
-    (cond (eqb tag 11) (sr.Literal 3)
-    (cond (eqb tag 12) sr.Missing
-    (sr.Literal 1)))))
+    cond (eqb tag 0) (Some (sr.Literal 0))
+    (cond (eqb tag 9) (Some (sr.Literal 2))
+    (cond (eqb tag 10) (Some (sr.Literal 2))
+    (cond (eqb tag 11) (Some (sr.Literal 3))
+    (cond (eqb tag 12) None
+    (Some (sr.Literal 1))))))
 
 -- the first of k variants at p, r where there is none
-unfoldable pub variant_or : List ℕ → ℕ → ℕ → TypeDefault → TypeDefault
-variant_or s k p r = cond (eqb k 0) r (sr.Name (number_in s p).value)
+unfoldable pub variant_or : List ℕ → ℕ → ℕ → Maybe TypeDefault → Maybe TypeDefault
+variant_or s k p r = cond (eqb k 0) r (Some (sr.Name (number_in s p).value))
 
 -- the enum at p, asked for its first variant where its name's index is x
-unfoldable pub variant_at : List ℕ → ℕ → ℕ → TypeDefault → TypeDefault
+unfoldable pub variant_at : List ℕ → ℕ → ℕ → Maybe TypeDefault → Maybe TypeDefault
 variant_at s x p r = with (number_in s p) λ i q. with (number_in s q) λ k v. cond (eqb i x) (variant_or s k v r) r
 
 module _ (ns : List Name) (s : List ℕ) (enums : ℕ) where
   -- of the enums of the name x the first variant of the last that has one
-  unfoldable pub first_variant_t : ℕ → TypeDefault
-  first_variant_t x = with (number_in s enums) λ n p. each_of (variant_at s x) (enum_end ns s) n p sr.Missing
+  unfoldable pub first_variant_t : ℕ → Maybe TypeDefault
+  first_variant_t x = with (number_in s enums) λ n p. each_of (variant_at s x) (enum_end ns s) n p None
 
 -- the same as a word of a table: one more than the variant's index, 0 for none
-unfoldable pub default_word : ℕ → TypeDefault
-default_word c = cond (eqb c 0) sr.Missing (sr.Name (c - 1))
+unfoldable pub default_word : ℕ → Maybe TypeDefault
+default_word c = cond (eqb c 0) None (Some (sr.Name (c - 1)))
 
 module _ (ns : List Name) (s : List ℕ) (enums : ℕ) (offsets : List ℕ) where
   -- the first variant by the table of names, which past their places has those words for 17,408 names; of others it is sought
-  unfoldable pub variant_t : ℕ → TypeDefault
+  unfoldable pub variant_t : ℕ → Maybe TypeDefault
   variant_t x = cond (ltb x 17408) (default_word (get_or offsets (32768 + x) 0)) (first_variant_t ns s enums x)
 
   -- of a type that stands in the pack, by its tag
-  unfoldable pub default_at : ℕ → TypeDefault
+  unfoldable pub default_at : ℕ → Maybe TypeDefault
   default_at c = with (byte_in s c) λ tag p. cond (eqb tag 13) (with (number_in s p) λ x q. variant_t x) (plain_start tag)
 
   -- what a holder of the type of a code starts from
-  unfoldable pub default_t : ℕ → TypeDefault
-  default_t c = cond (ltb c 2) (sr.Literal 0) (default_at c)
+  unfoldable pub default_t : ℕ → Maybe TypeDefault
+  default_t c = cond (ltb c 2) (Some (sr.Literal 0)) (default_at c)
 
 -- a literal by its tag
 unfoldable pub zero_of : ℕ → Lit
 zero_of tag = cond (eqb tag 0) (l_bool false) (cond (eqb tag 1) (l_int 0) (cond (eqb tag 2) (l_float 0) (l_char 0)))
 
 -- the expression of a start
-unfoldable pub default_expr : List Name → TypeDefault → Option Expr
-default_expr ns sr.Missing = none
-default_expr ns (sr.Literal tag) = some (e_const (zero_of tag))
-default_expr ns (sr.Name v) = some (e_var (name_at ns v))
+unfoldable pub default_expr : List Name → Maybe TypeDefault → Option Expr
+default_expr ns None = none
+default_expr ns (Some (sr.Literal tag)) = some (e_const (zero_of tag))
+default_expr ns (Some (sr.Name v)) = some (e_var (name_at ns v))
 
 -- the name of a start is one of the pack
-unfoldable pub DefaultIn : List Name → TypeDefault → Type 0
-DefaultIn ns sr.Missing = Unit {0}
-DefaultIn ns (sr.Literal tag) = Unit {0}
-DefaultIn ns (sr.Name v) = v < length ns
+unfoldable pub DefaultIn : List Name → Maybe TypeDefault → Type 0
+DefaultIn ns None = Unit {0}
+DefaultIn ns (Some (sr.Literal tag)) = Unit {0}
+DefaultIn ns (Some (sr.Name v)) = v < length ns
 
 -- whether there is nothing to start from
-unfoldable pub is_missing : TypeDefault → Bool
-is_missing sr.Missing = true
-is_missing (sr.Literal tag) = false
-is_missing (sr.Name v) = false
+unfoldable pub is_missing : Maybe TypeDefault → Bool
+is_missing None = true
+is_missing (Some t) = false
 
 -- a code stands for a type, or is 0 for none
 unfoldable pub Coded : List Name → List ℕ → ℕ → Option Ty → Type 0

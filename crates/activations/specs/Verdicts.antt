@@ -1,6 +1,6 @@
 -- Internal: nothing here has to be believed; laws tie it to what docs/TRUSTED.md lists.
 -- One activation judged in a node.
-use Rattle.std.specs.Prelude.{ℕ, suc, ◌<◌, List, ◌∷◌, ◌++◌, cond, ◌≡◌, length, ltb}
+use Rattle.std.specs.Prelude.{ℕ, suc, ◌<◌, List, ◌∷◌, ◌++◌, cond, ◌≡◌, length, ltb, Result, Ok, Err}
 use Rattle.wire.specs.Writer.{full}
 use Rattle.wire.specs.Bytes.{word_range}
 use Rattle.pack_rules.specs.Names.{Name}
@@ -8,6 +8,8 @@ use Rattle.pack_rules.specs.Legal.{place}
 use Rattle.pack_rules.specs.Syntax.{Activation, Enum, Node}
 use Rattle.machines.specs.Sections.{node_names}
 use Rattle.activations.specs.declared.checks.Refused.{Refused}
+use Rattle.activations.specs.declared.checks.Refusal.{Refusal}
+use Rattle.activations.specs.Refusing.{numbers_of}
 use Rattle.activation_rules.specs.Lower.{lowered}
 use Rattle.activations.specs.Joining.{added, joined}
 use Rattle.activations.specs.LocalsAt.{Left}
@@ -23,6 +25,18 @@ within_t names x = cond (ltb names x) (suc names) x
 -- a refusal with its names' numbers in 16 bits
 unfoldable pub refused_in : ℕ → ℕ → ℕ → ℕ → Refused
 refused_in names kind second third = refused_t kind (within_t names second) (within_t names third)
+
+-- what a judgement puts into a row, by words of 16 bits, and how many locals
+unfoldable pub row_refused : ℕ → Refusal → Refused
+row_refused names r = refused_in names (numbers_of names r).kind (numbers_of names r).second (numbers_of names r).third
+
+unfoldable pub row_judged : ℕ → Result ℕ Refusal → Refused
+row_judged names (Ok n) = refused_t 0 names names
+row_judged names (Err r) = row_refused names r
+
+unfoldable pub locals_of : Result ℕ Refusal → ℕ
+locals_of (Ok n) = n
+locals_of (Err r) = 0
 
 -- the pass over locals where nothing is written
 unfoldable pub quiet : List ℕ → Left

@@ -45,25 +45,25 @@ pub fn equation_count(pack: &[u8], acts: &[u16], i: usize) -> usize
 }
 
 // How many locals it brings to the node k.
+#[tactic(auto, unfolding(crate::specs::CountsAt::adds_locals_t))]
 fn adds_locals(acts: &[u16], k: usize, i: usize) -> usize
     ensures { (result < word_range) × (result ≡ adds_locals_t acts.now k i) }
 {
     let g = act_node(acts, i);
-    if g == k {
-        return act_locals(acts, i);
-    }
-    0
+    if g == k { act_locals(acts, i) } else { 0 }
 }
 
 // How many equations.
+#[tactic(auto, unfolding(crate::specs::CountsAt::adds_equations_t))]
 fn adds_equations(pack: &[u8], acts: &[u16], k: usize, i: usize) -> usize
     ensures { (result < 131072) × (result ≡ adds_equations_t pack.now acts.now k i) }
 {
     let g = act_node(acts, i);
     if g == k {
-        return equation_count(pack, acts, i);
+        equation_count(pack, acts, i)
+    } else {
+        0
     }
-    0
 }
 
 // How many locals the first n activations bring to the node k.
@@ -121,13 +121,15 @@ fn put_row_locals(
     }
     let act = act_of(pack, info.names, acts, i);
     let a = pack_name(pack, offsets, act.name);
-    let h = prepare(old, pack, info, offsets, a, act, later, types, outs, lasts);
+    let Ok(rows) = prepare(old, pack, info, offsets, a, act, later, types, outs, lasts) else {
+        return writer;
+    };
     let p = Passed {
         w: writer,
         count: 0,
     };
     let r = put_act_locals(
-        old, pack, info, a, offsets, lasts, h.rows, types, outs, act, reads, sampled, later, out,
+        old, pack, info, a, offsets, lasts, rows, types, outs, act, reads, sampled, later, out,
         made, p,
     );
     r.w
@@ -162,13 +164,15 @@ fn put_row_equations(
     }
     let act = act_of(pack, info.names, acts, i);
     let a = pack_name(pack, offsets, act.name);
-    let h = prepare(old, pack, info, offsets, a, act, later, types, outs, lasts);
+    let Ok(rows) = prepare(old, pack, info, offsets, a, act, later, types, outs, lasts) else {
+        return writer;
+    };
     let v = put_act_equations(
-        old, pack, info, offsets, a, act, lasts, h.rows, types, outs, reads, sampled, out, made,
+        old, pack, info, offsets, a, act, lasts, rows, types, outs, reads, sampled, out, made,
         writer,
     );
     count_and_type_locals(
-        old, pack, info, a, offsets, lasts, h.rows, types, outs, act, reads, sampled, later,
+        old, pack, info, a, offsets, lasts, rows, types, outs, act, reads, sampled, later,
     );
     v
 }
@@ -258,6 +262,7 @@ fn receives(acts: &[u16], n: usize, k: usize) -> usize
 }
 
 // The same, where b was found before: activations are asked again only once k is past it.
+#[tactic(auto, unfolding(machines::specs::ReceivingNodes::next_receiver_t))]
 pub fn next_receiver(acts: &[u16], n: usize, k: usize, b: usize) -> usize
     ensures { result ≡ next_receiver_t (goal_t acts.now) n k b }
 {

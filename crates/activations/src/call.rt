@@ -36,13 +36,11 @@ use wire::number::WORD_RANGE;
 fn base_of(old: &[u8], pack: &[u8], sections: Pack, offsets: &[u16]) -> PackInfo
     ensures { result ≡ base_t old.now pack.now sections offsets.now }
 {
-    let last = lookup(old, b"last");
-    let made = some_made(pack, sections.names, offsets);
     PackInfo {
         names: sections.names,
-        last,
+        last: lookup(old, b"last"),
         enums: sections.enums,
-        made,
+        made: some_made(pack, sections.names, offsets),
     }
 }
 
@@ -163,9 +161,10 @@ fn lower_out_of_line(pack: &[u8], sections: Pack, output: &mut [u8], report: &mu
 {
     if Pack::BYTES < pack.len() {
         let r = lower_out_of_line(&pack[..Pack::BYTES], sections, output, report);
-        return r.map(|_| 0);
+        r.map(|_| 0)
+    } else {
+        lower_with_scratch(pack, sections, output, report)
     }
-    lower_with_scratch(pack, sections, output, report)
 }
 
 // A pack that was opened. One without activations stays as it is, and needs no scratch.
@@ -174,12 +173,11 @@ fn lower_checked(pack: &[u8], sections: Pack, output: &mut [u8], report: &mut [u
     ensures answers { Answers (lower_activations pack.now (length output.old) (length report.old)) (number_for result) (value_for result) output.old output.new report.old report.new }
     ensures fits { (number_for result ≤ 9) × (value_for result < 4294967296) }
 {
-    let a = number(pack, sections.activations);
-    let count = a.value;
-    if count == 0 {
-        return copy_pack(pack, output);
+    if number(pack, sections.activations).value == 0 {
+        copy_pack(pack, output)
+    } else {
+        lower_out_of_line(pack, sections, output, report)
     }
-    lower_out_of_line(pack, sections, output, report)
 }
 
 // Lowers the activations of a pack: the lowered pack in `output`, or a report of what is refused in `report`.

@@ -1,7 +1,6 @@
 // Tables of 16-bit words, wide enough for a pack's offsets and indexes. All is total: 0 past the end, and nothing is written there.
-ghost use Rattle.std.specs.Prelude.{◌≡◌, ◌+◌, ◌-◌, ◌<◌, ◌≤◌, get_or, length};
+ghost use Rattle.std.specs.Prelude.{◌≡◌, ◌+◌, ◌-◌, ◌<◌, get_or};
 ghost use Rattle.wire.specs.Bytes.{word_range};
-ghost use Rattle.machines.specs.OwnersAt.{fill_t};
 ghost use Rattle.activations.specs.Cells.{put_t, clear_t, copy_t};
 
 use wire::number::WORD_RANGE;
@@ -18,7 +17,7 @@ pub fn word(t: &[u16], p: usize, k: usize) -> usize
 }
 
 // Sets that word to v, by 16 bits.
-#[tactic(auto, using(std::proofs::lemmas::Bool::Decides::nat_tests), unfolding(crate::specs::Cells::put_t))]
+#[tactic(auto, unfolding(crate::specs::Cells::put_t))]
 pub fn put_word(t: &mut [u16], p: usize, k: usize, v: usize)
     ensures { t.new ≡ put_t t.old (p + k) v }
 {

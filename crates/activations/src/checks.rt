@@ -1,6 +1,5 @@
 // What is refused of an activation before `last` is sought, in this order: NoBranches, NoOutputs, DuplicateBranch, OutputUnassigned,
-// LastArgs. EmptyLeft is asked for later, once holders have their types. A refusal is three numbers (`Refused`): its kind, and two
-// names, of which the number of names stands for none and one more for `else`.
+// LastArgs. EmptyLeft is asked for later, once holders have their types.
 // Scopes are gone through once, whatever the number of outputs: a table says by name how many scopes from the first on assign it, which
 // is the first scope that does not.
 ghost use Rattle.std.specs.Prelude.{◌≡◌, List, ◌<◌, ◌^◌, ◌≤◌, length};
@@ -8,6 +7,7 @@ ghost use Rattle.activations.specs.ChecksAt.{assign_branches_t, assign_scope_t, 
 ghost use Rattle.pack_rules.specs.Names.{Name};
 ghost use Rattle.pack_rules.specs.Limits.{max_bytes};
 ghost use Rattle.activations.specs.BadLastsAt.{any_bad_last_t, any_branch_t, body_has_bad_last_t, condition_has_bad_last_t, has_bad_last_t, scope_has_bad_last_t};
+ghost use Rattle.activations.specs.Refusing.{RoomFor, branch_number, checked_as, numbers_of};
 
 use crate::cells::clear;
 use crate::expr_node::{is_bad, onward, open, read_expr_node};
@@ -16,37 +16,33 @@ use crate::parts::{Act, after_branch, branch_equations, first_branch, right_side
 use machines::checked_read::{after_equation, after_expr, after_port, number};
 use pack::cells::{cell, put_cell};
 
-// --- What is refused of an activation, in numbers.
+// --- What is refused of an activation.
 
-// The kind, 0 where nothing is refused, and the names after the activation's own: the number of names is none, one more is `else`.
+// Why an activation is refused, with what the report names after it, by the indexes of names.
+#[derive(Clone, Copy)]
+pub enum Refusal {
+    NoBranches,
+    NoOutputs,
+    // An output that this branch does not assign; where none is named, the else scope.
+    OutputUnassigned {
+        output: usize,
+        branch: Option<usize>,
+    },
+    DuplicateBranch(usize),
+    UnknownOwner(usize),
+    LastArgs,
+    LastUnknown(usize),
+    LastNeedsInit(usize),
+    EmptyLeft,
+}
+
+// The same as a row of the table of activations has it: the kind by the report's number, 0 where nothing is refused, and two names, of
+// which the number of names is none and one more is `else`.
 #[derive(Clone, Copy)]
 pub struct Refused {
     pub kind: usize,
     pub second: usize,
     pub third: usize,
-}
-
-// The kinds: accepted, and of refusals as the report numbers them.
-impl Refused {
-    pub const ACCEPTED: usize = 0;
-
-    pub const NO_BRANCHES: usize = 9;
-
-    pub const NO_OUTPUTS: usize = 10;
-
-    pub const OUTPUT_UNASSIGNED: usize = 11;
-
-    pub const DUPLICATE_BRANCH: usize = 12;
-
-    pub const UNKNOWN_OWNER: usize = 13;
-
-    pub const LAST_ARGS: usize = 14;
-
-    pub const LAST_UNKNOWN: usize = 15;
-
-    pub const LAST_NEEDS_INIT: usize = 16;
-
-    pub const EMPTY_LEFT: usize = 18;
 }
 
 pub fn refusing(kind: usize, second: usize, third: usize) -> Refused
@@ -56,6 +52,33 @@ pub fn refusing(kind: usize, second: usize, third: usize) -> Refused
         kind,
         second,
         third,
+    }
+}
+
+impl Refusal {
+    #[tactic(auto, unfolding(crate::specs::Refusing::RoomFor, crate::specs::Refusing::numbers_of, crate::specs::Refusing::branch_number))]
+    pub fn numbers(self, names: usize) -> Refused
+        requires { RoomFor names self }
+        ensures { result ≡ numbers_of names self }
+    {
+        match self {
+            Refusal::NoBranches => refusing(9, names, names),
+            Refusal::NoOutputs => refusing(10, names, names),
+            Refusal::OutputUnassigned {
+                output,
+                branch: Some(x),
+            } => refusing(11, output, x),
+            Refusal::OutputUnassigned {
+                output,
+                branch: None,
+            } => refusing(11, output, names + 1),
+            Refusal::DuplicateBranch(x) => refusing(12, x, names),
+            Refusal::UnknownOwner(x) => refusing(13, x, names),
+            Refusal::LastArgs => refusing(14, names, names),
+            Refusal::LastUnknown(x) => refusing(15, x, names),
+            Refusal::LastNeedsInit(x) => refusing(16, x, names),
+            Refusal::EmptyLeft => refusing(18, names, names),
+        }
     }
 }
 
@@ -162,7 +185,7 @@ fn repeated(pack: &[u8], names: usize, sampled: &mut [u16], at: usize) -> usize
 }
 
 // The equation at p of the scope k: a single left name that all scopes before assign is assigned in one more.
-#[tactic(auto, using(std::proofs::lemmas::Bool::Decides::nat_tests), unfolding(crate::specs::ChecksAt::assign_t, crate::specs::Cells::put_t, machines::specs::CheckedReads::with))]
+#[tactic(auto, unfolding(crate::specs::ChecksAt::assign_t, crate::specs::Cells::put_t, machines::specs::CheckedReads::with))]
 fn assign(pack: &[u8], sampled: &mut [u16], k: usize, p: usize)
     requires { k < 2 ^ 63 }
     ensures { sampled.new ≡ assign_t pack.now k p sampled.old }
@@ -203,6 +226,7 @@ fn assign_branches(pack: &[u8], names: usize, sampled: &mut [u16], at: usize)
 }
 
 // For each name the first scope that does not assign it; branches count from 0, and the else scope follows them.
+#[tactic(auto, unfolding(crate::specs::ChecksAt::assigned_t))]
 fn assign_all(pack: &[u8], names: usize, sampled: &mut [u16], a: Act)
     requires { (length pack.now ≤ max_bytes) × (a.n < 2 ^ 63) }
     ensures { (ns : List Name) → length ns ≡ names → sampled.new ≡ assigned_t ns pack.now a sampled.old }
@@ -212,13 +236,13 @@ fn assign_all(pack: &[u8], names: usize, sampled: &mut [u16], a: Act)
     assign_scope(pack, names, sampled, a.n, a.other);
 }
 
-// The name of the scope k; that of the else scope is one more than the number of names.
-fn scope_name(pack: &[u8], names: usize, a: Act, k: usize) -> usize
+// The name of the scope k, where it is a branch's.
+fn scope_name(pack: &[u8], names: usize, a: Act, k: usize) -> Option<usize>
     requires { (length pack.now ≤ max_bytes) × (names < 2 ^ 63) }
-    ensures { (ns : List Name) → length ns ≡ names → result ≡ scope_name_t ns pack.now a k }
+    ensures { (ns : List Name) → length ns ≡ names → branch_number names result ≡ scope_name_t ns pack.now a k }
 {
     if a.n <= k {
-        return names + 1;
+        return None;
     }
     let c = number(pack, a.branches);
     let mut p = c.next;
@@ -226,13 +250,13 @@ fn scope_name(pack: &[u8], names: usize, a: Act, k: usize) -> usize
         p = after_branch(pack, names, p);
     }
     let i = number(pack, p);
-    i.value
+    Some(i.value)
 }
 
 // The first output that some scope does not assign, with the first such scope.
-fn in_scopes(pack: &[u8], names: usize, sampled: &mut [u16], a: Act) -> Refused
+fn in_scopes(pack: &[u8], names: usize, sampled: &mut [u16], a: Act) -> Result<(), Refusal>
     requires { (length pack.now ≤ max_bytes) × (a.n < 2 ^ 63) × (names < 2 ^ 63) }
-    ensures { (ns : List Name) → length ns ≡ names → result ≡ in_scopes_t ns pack.now a sampled.old }
+    ensures { (ns : List Name) → length ns ≡ names → checked_as names result ≡ in_scopes_t ns pack.now a sampled.old }
 {
     assign_all(pack, names, sampled, a);
     let c = number(pack, a.outputs);
@@ -241,12 +265,14 @@ fn in_scopes(pack: &[u8], names: usize, sampled: &mut [u16], a: Act) -> Refused
         let o = number(pack, p);
         let k = cell(sampled, o.value);
         if k <= a.n {
-            let x = scope_name(pack, names, a, k);
-            return refusing(Refused::OUTPUT_UNASSIGNED, o.value, x);
+            return Err(Refusal::OutputUnassigned {
+                output: o.value,
+                branch: scope_name(pack, names, a, k),
+            });
         }
         p = after_port(pack, names, p);
     }
-    refusing(Refused::ACCEPTED, names, names)
+    Ok(())
 }
 
 // Whether a scope has an equation without left names.
@@ -290,27 +316,24 @@ pub fn checks(
     marks: &mut [u16],
     sampled: &mut [u16],
     a: Act,
-) -> Refused
+) -> Result<(), Refusal>
     requires { (length pack.now ≤ max_bytes) × (a.n < 2 ^ 63) × (info.names < 2 ^ 63) }
-    ensures { (ns : List Name) → length ns ≡ info.names → result ≡ checks_t ns pack.now info.last a marks.old sampled.old }
+    ensures { (ns : List Name) → length ns ≡ info.names → checked_as info.names result ≡ checks_t ns pack.now info.last a marks.old sampled.old }
 {
     if a.n == 0 {
-        return refusing(Refused::NO_BRANCHES, info.names, info.names);
+        return Err(Refusal::NoBranches);
     }
     let c = number(pack, a.outputs);
     if c.value == 0 {
-        return refusing(Refused::NO_OUTPUTS, info.names, info.names);
+        return Err(Refusal::NoOutputs);
     }
     let x = repeated(pack, info.names, marks, a.branches);
     if x < info.names {
-        return refusing(Refused::DUPLICATE_BRANCH, x, info.names);
+        return Err(Refusal::DuplicateBranch(x));
     }
-    let j = in_scopes(pack, info.names, sampled, a);
-    if j.kind != 0 {
-        return j;
-    }
+    in_scopes(pack, info.names, sampled, a)?;
     if any_bad_last(pack, info, a) {
-        return refusing(Refused::LAST_ARGS, info.names, info.names);
+        return Err(Refusal::LastArgs);
     }
-    refusing(Refused::ACCEPTED, info.names, info.names)
+    Ok(())
 }

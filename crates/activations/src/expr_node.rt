@@ -43,7 +43,7 @@ pub enum ExprNode {
 }
 
 // A call of `last` with an initial value from `at` up to e: where e is not past `at` it was not read.
-#[tactic(auto, using(std::proofs::lemmas::Bool::Decides::nat_tests), unfolding(crate::specs::ExprNodes::last_two_t))]
+#[tactic(auto, unfolding(crate::specs::ExprNodes::last_two_t))]
 fn last_two(var: usize, at: usize, e: usize) -> ExprNode
     ensures { result ≡ last_two_t var at e }
 {
@@ -59,7 +59,7 @@ fn last_two(var: usize, at: usize, e: usize) -> ExprNode
 }
 
 // A call of `last` with so many arguments from `first` on, which begin with the variable var; the next stands at `at`.
-#[tactic(auto, using(std::proofs::lemmas::Bool::Decides::nat_tests), unfolding(crate::specs::ExprNodes::last_rest_t))]
+#[tactic(auto, unfolding(crate::specs::ExprNodes::last_rest_t))]
 fn last_rest(
     pack: &[u8],
     names: usize,
@@ -83,7 +83,7 @@ fn last_rest(
 }
 
 // A call of `last` with so many arguments, which stand at `at`.
-#[tactic(auto, using(std::proofs::lemmas::Bool::Decides::nat_tests), unfolding(crate::specs::ExprNodes::last_shape_t, crate::specs::ExprNodes::first_t, crate::specs::ExprNodes::on_node, crate::specs::ExprNodes::on_var))]
+#[tactic(auto, unfolding(crate::specs::ExprNodes::last_shape_t, crate::specs::ExprNodes::first_t, crate::specs::ExprNodes::on_node, crate::specs::ExprNodes::on_var))]
 fn last_shape(pack: &[u8], names: usize, under: usize, at: usize) -> ExprNode
     requires { length pack.now ≤ max_bytes }
     ensures { (ns : List Name) → length ns ≡ names → result ≡ last_shape_t ns pack.now under at }
@@ -101,30 +101,32 @@ fn last_shape(pack: &[u8], names: usize, under: usize, at: usize) -> ExprNode
 }
 
 // A call of the node f with so many arguments, which stand at `at`.
-#[tactic(auto, using(std::proofs::lemmas::Bool::Decides::nat_tests), unfolding(crate::specs::ExprNodes::call_t))]
+#[tactic(auto, unfolding(crate::specs::ExprNodes::call_t))]
 fn call_kind(pack: &[u8], info: PackInfo, f: usize, under: usize, at: usize) -> ExprNode
     requires { length pack.now ≤ max_bytes }
     ensures { (ns : List Name) → length ns ≡ info.names → result ≡ call_t ns pack.now info.last f under at }
 {
     if f == info.last {
-        return last_shape(pack, info.names, under, at);
+        last_shape(pack, info.names, under, at)
+    } else {
+        ExprNode::Other { under, next: at }
     }
-    ExprNode::Other { under, next: at }
 }
 
 // A node of which only the number of expressions under it was read; a constant by its tag.
-#[tactic(auto, using(std::proofs::lemmas::Bool::Decides::nat_tests), unfolding(crate::specs::ExprNodes::plain_t))]
+#[tactic(auto, unfolding(crate::specs::ExprNodes::plain_t))]
 fn plain(pack: &[u8], at: usize, under: usize, next: usize) -> ExprNode
     ensures { result ≡ plain_t pack.now at under next }
 {
     if byte_at(pack, at) == 0 {
-        return ExprNode::Const(next);
+        ExprNode::Const(next)
+    } else {
+        ExprNode::Other { under, next }
     }
-    ExprNode::Other { under, next }
 }
 
 // The node at an offset.
-#[tactic(auto, using(std::proofs::lemmas::Bool::Decides::nat_tests), unfolding(crate::specs::ExprNodes::expr_node_at, crate::specs::ExprNodes::expr_node, crate::specs::ExprNodes::on_node))]
+#[tactic(auto, unfolding(crate::specs::ExprNodes::expr_node_at, crate::specs::ExprNodes::expr_node, crate::specs::ExprNodes::on_node))]
 pub fn read_expr_node(pack: &[u8], info: PackInfo, at: usize) -> ExprNode
     requires { length pack.now ≤ max_bytes }
     ensures { (ns : List Name) → length ns ≡ info.names → result ≡ expr_node_at ns pack.now info.last at }
@@ -141,7 +143,7 @@ pub fn read_expr_node(pack: &[u8], info: PackInfo, at: usize) -> ExprNode
 }
 
 // One expression less and `under` more. No pack has more to come than bytes.
-#[tactic(auto, using(std::proofs::lemmas::Bool::Decides::nat_tests), unfolding(crate::specs::ExprNodes::grown_t))]
+#[tactic(auto, unfolding(crate::specs::ExprNodes::grown_t))]
 fn grown(n: usize, under: usize) -> usize
     requires { 0 < n }
     ensures { result ≡ grown_t n under }
@@ -154,7 +156,7 @@ fn grown(n: usize, under: usize) -> usize
 }
 
 // How many expressions are to come after a node, where n were with it; none where reading stopped.
-#[tactic(auto, using(std::proofs::lemmas::Bool::Decides::nat_tests), unfolding(crate::specs::ExprNodes::open_t))]
+#[tactic(auto, unfolding(crate::specs::ExprNodes::open_t))]
 pub fn open(m: ExprNode, n: usize) -> usize
     requires { 0 < n }
     ensures { result ≡ open_t m n }
@@ -169,7 +171,7 @@ pub fn open(m: ExprNode, n: usize) -> usize
 }
 
 // Where the next node stands.
-#[tactic(auto, using(std::proofs::lemmas::Bool::Decides::nat_tests), unfolding(crate::specs::ExprNodes::onward_t))]
+#[tactic(auto, unfolding(crate::specs::ExprNodes::onward_t))]
 pub fn onward(m: ExprNode) -> usize
     ensures { result ≡ onward_t m }
 {
@@ -185,7 +187,7 @@ pub fn onward(m: ExprNode) -> usize
 }
 
 // Whether it is a call of `last` with arguments that it does not take.
-#[tactic(auto, using(std::proofs::lemmas::Bool::Decides::nat_tests), unfolding(crate::specs::ExprNodes::is_bad))]
+#[tactic(auto, unfolding(crate::specs::ExprNodes::is_bad))]
 pub fn is_bad(m: ExprNode) -> bool
     ensures { result ≡ is_bad m }
 {
@@ -193,7 +195,7 @@ pub fn is_bad(m: ExprNode) -> bool
 }
 
 // Whether it is a constant.
-#[tactic(auto, using(std::proofs::lemmas::Bool::Decides::nat_tests), unfolding(crate::specs::ExprNodes::is_const))]
+#[tactic(auto, unfolding(crate::specs::ExprNodes::is_const))]
 pub fn is_const(m: ExprNode) -> bool
     ensures { result ≡ is_const m }
 {

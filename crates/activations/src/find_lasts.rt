@@ -1,6 +1,6 @@
 // The variables that calls of `last` ask for, in the order found: rows of three words, the variable's index, where its initial value
 // stands (0 where none is given), and its holder's number, which is set later.
-ghost use Rattle.std.specs.Prelude.{List, ◌≡◌, ◌≤◌, length};
+ghost use Rattle.std.specs.Prelude.{IfSome, unwrap_or, ◌<◌, List, ◌≡◌, ◌≤◌, length};
 ghost use Rattle.pack_rules.specs.Names.{Name};
 ghost use Rattle.pack_rules.specs.Limits.{max_bytes};
 ghost use Rattle.activations.specs.LastsAt.{rows_of, row_t, init_t, row_more, note_t, find_step, find_lasts_t, find_in_scope_t, find_in_condition_t, find_in_body_t, each_branch_t, find_all_lasts_t};
@@ -11,20 +11,22 @@ use crate::pack_info::PackInfo;
 use crate::parts::{Act, after_branch, branch_equations, first_branch, right_side};
 use machines::checked_read::{after_expr, number};
 
-// The row of the variable v among n, n where there is none.
-pub fn row_of(lasts: &[u16], n: usize, v: usize) -> usize
+// The row of the variable v among n.
+pub fn row_of(lasts: &[u16], n: usize, v: usize) -> Option<usize>
     requires { n ≤ 8192 }
-    ensures { (result ≤ n) × (result ≡ row_t lasts.now v n 0) }
+    ensures below { IfSome result (λ h. h < n) }
+    ensures value { unwrap_or result n ≡ row_t lasts.now v n 0 }
 {
     for h in 0..n {
         if word(lasts, 3 * h, 0) == v {
-            return h;
+            return Some(h);
         }
     }
-    n
+    None
 }
 
 // An initial value for the row h, where it has none.
+#[tactic(auto, unfolding(crate::specs::LastsAt::init_t, crate::specs::Cells::put_t))]
 fn give_init(lasts: &mut [u16], h: usize, init: usize)
     requires { h ≤ 8192 }
     ensures { lasts.new ≡ init_t h init lasts.old }
@@ -48,19 +50,21 @@ fn add_row(lasts: &mut [u16], n: usize, v: usize, init: usize) -> usize
 }
 
 // A variable is noted once, and the first given initial value stays. Answers how many rows there are then.
+#[tactic(auto, unfolding(crate::specs::LastsAt::note_t, crate::specs::LastsAt::note_row))]
 fn note(lasts: &mut [u16], n: usize, v: usize, init: usize) -> usize
     requires { n ≤ 8192 }
     ensures { (result ≤ 8192) × (rows_of lasts.new result ≡ note_t v init (rows_of lasts.old n)) }
 {
-    let h = row_of(lasts, n, v);
-    if h < n {
+    if let Some(h) = row_of(lasts, n, v) {
         give_init(lasts, h, init);
-        return n;
+        n
+    } else {
+        add_row(lasts, n, v, init)
     }
-    add_row(lasts, n, v, init)
 }
 
 // What one node adds.
+#[tactic(auto, unfolding(crate::specs::LastsAt::find_step))]
 fn find_in_node(lasts: &mut [u16], n: usize, m: ExprNode, at: usize) -> usize
     requires { n ≤ 8192 }
     ensures { (result ≤ 8192) × (rows_of lasts.new result ≡ find_step m at (rows_of lasts.old n)) }
@@ -141,6 +145,7 @@ fn find_in_bodies(pack: &[u8], info: PackInfo, lasts: &mut [u16], count: usize, 
 }
 
 // What all expressions of an activation ask for. Answers how many rows there are.
+#[tactic(auto, unfolding(crate::specs::LastsAt::find_all_lasts_t))]
 pub fn find_all_lasts(pack: &[u8], info: PackInfo, lasts: &mut [u16], a: Act) -> usize
     requires { length pack.now ≤ max_bytes }
     ensures few { result ≤ 8192 }

@@ -21,7 +21,6 @@ use crate::pack_info::PackInfo;
 use crate::parts::after_branch;
 use crate::rewrite_last::rewrite_last;
 use machines::checked_read::number;
-use machines::layout::remaining;
 use wire::writer::{Writer, put_byte, put_bytes, put_u16};
 
 // --- Variables of branches as expressions and left sides; the clocks of scopes, up to their argument.
@@ -187,6 +186,7 @@ fn put_none_flag(
 }
 
 // Both, of the branch at p.
+#[tactic(auto, unfolding(crate::specs::FlagsAt::branch_flags_t, machines::specs::CheckedReads::with))]
 fn put_branch_flags(
     old: &[u8],
     pack: &[u8],

@@ -49,6 +49,7 @@ pub fn join(ids: &[u16], t: &mut [u16], n: usize) -> usize
 }
 
 // The number that a node reads.
+#[tactic(auto, unfolding(crate::specs::FreeVarsAt::read_by))]
 fn read_by(lasts: &[u16], rows: usize, m: ExprNode) -> usize
     requires { rows < word_range }
     ensures { result ≡ read_by lasts.now rows m }
@@ -62,15 +63,17 @@ fn read_by(lasts: &[u16], rows: usize, m: ExprNode) -> usize
 }
 
 // One more after the first n, where it is a known variable's.
+#[tactic(auto, unfolding(crate::specs::FreeVarsAt::note_t))]
 fn note(types: &[u16], outs: &[u16], names: usize, t: &mut [u16], n: usize, x: usize) -> usize
     requires in_bounds { 21848 ≤ length t.old }
     requires n_bound { n ≤ 21848 }
     ensures { (result ≤ 21848) × (take result t.new ≡ note_t types.now outs.now names x (take n t.old)) }
 {
     if typed(types, outs, names, x) == 0 {
-        return n;
+        n
+    } else {
+        push(t, n, x)
     }
-    push(t, n, x)
 }
 
 // What the right side at an offset reads: how many there are.

@@ -6,6 +6,7 @@
 ghost use Rattle.std.specs.Prelude.{List, ◌∷◌, ◌≡◌, ◌≤◌, ℕ, length};
 ghost use Rattle.wire.specs.Bytes.{word_range};
 ghost use Rattle.pack_rules.specs.Names.{Name};
+ghost use Rattle.activations.specs.Refusing.{OfVariable, hold_with};
 ghost use Rattle.activations.specs.TypeHoldersAt.{hold_from, hold_of, hold_row, holder_t, known_t, needs_t};
 ghost use Rattle.wire.specs.Writer.{puts, state_of};
 ghost use Rattle.pack_rules.specs.Write.{lit_bytes};
@@ -16,11 +17,11 @@ ghost use Rattle.activations.specs.TypesAt.{zero_of};
 ghost use Rattle.activations.specs.HoldersAt.{default_bytes, holder_items, init_bytes, row_items};
 
 use crate::cells::{put_word, word};
-use crate::checks::Refused;
+use crate::checks::Refusal;
 use crate::made_names::put_last;
 use crate::name_ids::holder_id;
 use crate::pack_info::PackInfo;
-use crate::types::{TypeDefault, default_of, is_missing, typed};
+use crate::types::{TypeDefault, default_of, typed};
 use machines::checked_read::after_expr;
 use machines::layout::{between, pack_name};
 use pack::cells::{cell, put_cell};
@@ -28,25 +29,16 @@ use wire::writer::{Writer, put_byte, put_bytes, put_u16};
 
 // --- Holders made known: each has a number, and the type of its variable.
 
-// What is answered: 0, or the kind of a refusal and its variable.
-#[derive(Clone, Copy)]
-pub struct Holder {
-    pub kind: usize,
-    pub var: usize,
-}
-
 // Whether a holder of the type of code c has nothing to start from.
+#[tactic(auto, unfolding(crate::specs::TypeHoldersAt::needs_t, crate::specs::TypesAt::is_missing))]
 fn needs_init(pack: &[u8], info: PackInfo, offsets: &[u16], init: usize, c: usize) -> bool
     ensures { (ns : List Name) → length ns ≡ info.names → result ≡ needs_t ns pack.now info offsets.now init c }
 {
-    if init == 0 {
-        let t = default_of(pack, info.names, info.enums, offsets, c);
-        return is_missing(t);
-    }
-    false
+    init == 0 && default_of(pack, info.names, info.enums, offsets, c).is_none()
 }
 
 // The row h of the variable v, of a type of code c, is known to what follows.
+#[tactic(auto, unfolding(crate::specs::TypeHoldersAt::known_t, crate::specs::TypeHoldersAt::holder_t, crate::specs::Cells::put_t))]
 fn known(
     old: &[u8],
     pack: &[u8],
@@ -60,14 +52,15 @@ fn known(
     c: usize,
 )
     requires { (info.names ≤ word_range) × (v ≤ word_range) × (h ≤ 8192) }
-    ensures { hold_of types.new lasts.new 0 v ≡ known_t h v c (holder_t old.now pack.now info offsets.now a.now v) types.old lasts.old }
+    ensures { hold_of types.new lasts.new 0 0 ≡ known_t h v c (holder_t old.now pack.now info offsets.now a.now v) types.old lasts.old }
 {
     let id = holder_id(old, pack, info, offsets, a, v);
     put_word(lasts, 3 * h, 2, id);
     put_cell(types, id, c);
 }
 
-// The row h: 15 where its variable has no type, 16 where there is nothing to start from.
+// The row h: LastUnknown where its variable has no type, LastNeedsInit where there is nothing to start from.
+#[tactic(auto, unfolding(crate::specs::Refusing::OfVariable, crate::specs::Refusing::numbers_of))]
 fn type_holder(
     old: &[u8],
     pack: &[u8],
@@ -78,33 +71,26 @@ fn type_holder(
     types: &mut [u16],
     lasts: &mut [u16],
     h: usize,
-) -> Holder
+) -> Result<(), Refusal>
     requires { (info.names ≤ word_range) × (h ≤ 8192) }
-    ensures { (ns : List Name) → length ns ≡ info.names → hold_of types.new lasts.new result.kind result.var ≡ hold_row ns old.now pack.now info offsets.now a.now outs.now h types.old lasts.old }
+    ensures alone { OfVariable result }
+    ensures held { (ns : List Name) → length ns ≡ info.names → hold_with info.names types.new lasts.new result ≡ hold_row ns old.now pack.now info offsets.now a.now outs.now h types.old lasts.old }
 {
     let v = word(lasts, 3 * h, 0);
     let c = typed(types, outs, info.names, v);
     if c == 0 {
-        return Holder {
-            kind: Refused::LAST_UNKNOWN,
-            var: v,
-        };
+        return Err(Refusal::LastUnknown(v));
     }
     let i = word(lasts, 3 * h, 1);
     if needs_init(pack, info, offsets, i, c) {
-        return Holder {
-            kind: Refused::LAST_NEEDS_INIT,
-            var: v,
-        };
+        return Err(Refusal::LastNeedsInit(v));
     }
     known(old, pack, info, offsets, a, types, lasts, h, v, c);
-    Holder {
-        kind: Refused::ACCEPTED,
-        var: v,
-    }
+    Ok(())
 }
 
 // The holders of n rows in the order found, each known to those that follow; or the first refusal.
+#[tactic(auto, unfolding(crate::specs::Refusing::OfVariable))]
 pub fn type_holders(
     old: &[u8],
     pack: &[u8],
@@ -115,20 +101,15 @@ pub fn type_holders(
     types: &mut [u16],
     lasts: &mut [u16],
     n: usize,
-) -> Holder
+) -> Result<(), Refusal>
     requires { (info.names ≤ word_range) × (n ≤ 8192) }
-    ensures { (ns : List Name) → length ns ≡ info.names → hold_of types.new lasts.new result.kind result.var ≡ hold_from ns old.now pack.now info offsets.now a.now outs.now n 0 types.old lasts.old }
+    ensures alone { OfVariable result }
+    ensures held { (ns : List Name) → length ns ≡ info.names → hold_with info.names types.new lasts.new result ≡ hold_from ns old.now pack.now info offsets.now a.now outs.now n 0 types.old lasts.old }
 {
     for h in 0..n {
-        let r = type_holder(old, pack, info, offsets, a, outs, types, lasts, h);
-        if r.kind != 0 {
-            return r;
-        }
+        type_holder(old, pack, info, offsets, a, outs, types, lasts, h)?;
     }
-    Holder {
-        kind: Refused::ACCEPTED,
-        var: 0,
-    }
+    Ok(())
 }
 
 // --- The equations of holders, written from their rows.
@@ -137,26 +118,23 @@ pub fn type_holders(
 fn put_zero(tag: usize, out: &mut [u8], writer: Writer) -> Writer
     ensures { (m : List ℕ) → state_of out.new m result ≡ puts (0 ∷ lit_bytes (zero_of tag)) (state_of out.old m writer) }
 {
-    if tag == 0 {
-        return put_bytes(b"\x00\x00\x00", out, writer);
+    match tag {
+        0 => put_bytes(b"\x00\x00\x00", out, writer),
+        1 => put_bytes(b"\x00\x01\x00\x00\x00\x00\x00\x00\x00\x00", out, writer),
+        2 => put_bytes(b"\x00\x02\x00\x00\x00\x00\x00\x00\x00\x00", out, writer),
+        _ => put_bytes(b"\x00\x03\x00", out, writer),
     }
-    if tag == 1 {
-        return put_bytes(b"\x00\x01\x00\x00\x00\x00\x00\x00\x00\x00", out, writer);
-    }
-    if tag == 2 {
-        return put_bytes(b"\x00\x02\x00\x00\x00\x00\x00\x00\x00\x00", out, writer);
-    }
-    put_bytes(b"\x00\x03\x00", out, writer)
 }
 
 // What a holder starts from.
-fn put_default(t: TypeDefault, out: &mut [u8], writer: Writer) -> Writer
+#[tactic(auto, unfolding(crate::specs::HoldersAt::default_bytes, wire::specs::Writer::puts))]
+fn put_default(t: Option<TypeDefault>, out: &mut [u8], writer: Writer) -> Writer
     ensures { (m : List ℕ) → state_of out.new m result ≡ puts (default_bytes t) (state_of out.old m writer) }
 {
     match t {
-        TypeDefault::Missing => writer,
-        TypeDefault::Literal(tag) => put_zero(tag, out, writer),
-        TypeDefault::Name(v) => {
+        None => writer,
+        Some(TypeDefault::Literal(tag)) => put_zero(tag, out, writer),
+        Some(TypeDefault::Name(v)) => {
             let c = put_byte(out, writer, 1);
             put_u16(out, c, v)
         }
@@ -164,6 +142,7 @@ fn put_default(t: TypeDefault, out: &mut [u8], writer: Writer) -> Writer
 }
 
 // The given initial value as it stands, else what the type of code c starts from.
+#[tactic(auto, unfolding(wire::specs::Writer::puts, crate::specs::HoldersAt::init_bytes))]
 fn put_init(
     pack: &[u8],
     info: PackInfo,
@@ -178,10 +157,11 @@ fn put_init(
 {
     if init == 0 {
         let t = default_of(pack, info.names, info.enums, offsets, c);
-        return put_default(t, out, writer);
+        put_default(t, out, writer)
+    } else {
+        let e = after_expr(pack, info.names, init);
+        put_bytes(between(pack, init, e), out, writer)
     }
-    let e = after_expr(pack, info.names, init);
-    put_bytes(between(pack, init, e), out, writer)
 }
 
 // The equation of the holder of v, whose initial value stands at `init` or is that of the type of code c.

@@ -33,6 +33,7 @@ pub struct Passed {
 }
 
 // One local more, by 16 bits.
+#[tactic(auto, unfolding(crate::specs::LocalsAt::more_t))]
 fn one_more(n: usize) -> usize
     ensures { result ≡ more_t n }
 {
@@ -40,6 +41,7 @@ fn one_more(n: usize) -> usize
 }
 
 // The type's code c for a made name, where that is an old one.
+#[tactic(auto, unfolding(crate::specs::LocalsAt::leave_t, crate::specs::Lookups::place_built, crate::specs::Lookups::place_in, crate::specs::Cells::put_t))]
 fn leave(old: &[u8], info: PackInfo, buf: &[u8], t: Writer, c: usize, later: &mut [u16])
     ensures { later.new ≡ leave_t info.names (place_built (place_in old.now) info.names info.made (state_of buf.now [] t)) c later.old }
 {
@@ -72,6 +74,7 @@ fn put_port(
 }
 
 // The local of the made name in `buf` and the type of the code c.
+#[tactic(auto, unfolding(crate::specs::LocalsAt::local_t, wire::specs::Writer::state_of))]
 pub fn put_local(
     old: &[u8],
     pack: &[u8],
@@ -263,6 +266,7 @@ fn put_sample_local(
 }
 
 // The same, where x is not among those sampled before.
+#[tactic(auto, unfolding(crate::specs::LocalsAt::new_local_t))]
 fn put_new_local(
     old: &[u8],
     pack: &[u8],
@@ -284,11 +288,12 @@ fn put_new_local(
     ensures { (ns : List Name) → length ns ≡ info.names → left_of later.new out.new made.new result ≡ new_local_t ns pack.now old.now info.made a.now offsets.now types.now outs.now n k sampled.now x (left_of later.old out.old made.old p) }
 {
     if is_in(sampled, x) {
-        return p;
+        p
+    } else {
+        put_sample_local(
+            old, pack, info, a, offsets, types, outs, n, k, x, later, out, made, p,
+        )
     }
-    put_sample_local(
-        old, pack, info, a, offsets, types, outs, n, k, x, later, out, made, p,
-    )
 }
 
 // Those of the numbers that are not among those sampled before.
@@ -351,6 +356,7 @@ fn put_value_local(
 }
 
 // Those of the equation at `at`, which reads these.
+#[tactic(auto, unfolding(crate::specs::LocalsAt::equation_local_t))]
 fn put_equation_locals(
     old: &[u8],
     pack: &[u8],
@@ -472,6 +478,7 @@ fn put_branch_locals(
 }
 
 // All locals of the activation A of the name a.
+#[tactic(auto, unfolding(crate::specs::LocalsAt::act_locals_t))]
 pub fn put_act_locals(
     old: &[u8],
     pack: &[u8],

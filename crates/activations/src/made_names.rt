@@ -19,6 +19,7 @@ pub enum Var {
 }
 
 // `__act_` and the activation's name a.
+#[tactic(auto, unfolding(wire::specs::Writer::puts, activation_rules::specs::MadeNames::act_prefix))]
 fn put_start(out: &mut [u8], writer: Writer, a: &[u8]) -> Writer
     ensures { (m : List ℕ) → state_of out.new m result ≡ puts (act_prefix ++ a.now) (state_of out.old m writer) }
 {
@@ -97,13 +98,15 @@ pub fn put_var(
 }
 
 // The tag of the scope k of n branches; what follows the branches is the else scope.
+#[tactic(auto, unfolding(activation_rules::specs::MadeNames::tag, crate::specs::Vars::scope_at))]
 fn put_tag(out: &mut [u8], writer: Writer, n: usize, k: usize) -> Writer
     ensures { (m : List ℕ) → state_of out.new m result ≡ puts (tag (scope_at n k)) (state_of out.old m writer) }
 {
     if k < n {
-        return put_digits(out, writer, k + 1);
+        put_digits(out, writer, k + 1)
+    } else {
+        put_bytes(b"e", out, writer)
     }
-    put_bytes(b"e", out, writer)
 }
 
 // `__act_<a>`, some letters, the scope's tag, an underscore and the name v.

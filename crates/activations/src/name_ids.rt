@@ -22,6 +22,7 @@ use wire::number::WORD_RANGE;
 use wire::writer::{Writer, put_bytes, put_u16};
 
 // x where it is an old name's index, else v more than the number of names.
+#[tactic(auto, unfolding(crate::specs::Ids::old_or))]
 fn old_or(names: usize, x: usize, v: usize) -> usize
     requires { (names ≤ word_range) × (v ≤ word_range) }
     ensures { result ≡ old_or names x (names + v) }
@@ -30,6 +31,7 @@ fn old_or(names: usize, x: usize, v: usize) -> usize
 }
 
 // The number of the holder of v, whose name is n, in the activation a.
+#[tactic(auto, unfolding(crate::specs::TypeHoldersAt::holder_number, activation_rules::specs::MadeNames::last_var))]
 fn id_of(old: &[u8], info: PackInfo, a: &[u8], n: &[u8], v: usize) -> usize
     requires { (info.names ≤ word_range) × (v ≤ word_range) }
     ensures { result ≡ holder_number old.now info (last_var a.now n.now) v }
@@ -41,6 +43,7 @@ fn id_of(old: &[u8], info: PackInfo, a: &[u8], n: &[u8], v: usize) -> usize
 }
 
 // The number of the holder of v in the activation a.
+#[tactic(auto, unfolding(crate::specs::TypeHoldersAt::holder_t))]
 pub fn holder_id(
     old: &[u8],
     pack: &[u8],
@@ -90,6 +93,7 @@ pub fn put_id(
 }
 
 // Its text.
+#[tactic(auto, unfolding(crate::specs::NameIdsAt::name_t))]
 fn put_id_text(
     out: &mut [u8],
     writer: Writer,
@@ -148,6 +152,7 @@ pub fn put_sample_of(
 }
 
 // Its number, where its name is an old one.
+#[tactic(auto, unfolding(crate::specs::NameIdsAt::sample_t, crate::specs::Ids::old_or))]
 pub fn sample_id(
     old: &[u8],
     pack: &[u8],
@@ -173,10 +178,7 @@ pub fn sample_id(
         x,
     );
     let i = lookup_made(old, info, &buf, t);
-    if i < info.names {
-        return i;
-    }
-    NO_NUMBER
+    if i < info.names { i } else { NO_NUMBER }
 }
 
 // The number of the holder of v, by the first row of v.

@@ -1,24 +1,25 @@
 // Right sides over samples of what they read, or with their constants on the scope's clock where they read nothing. What stays is
 // copied as it stands, node by node.
-ghost use Rattle.std.specs.Prelude.{List, ◌∷◌, [], ◌≡◌, ◌≤◌, ◌<◌, ◌^◌, length};
+ghost use Rattle.std.specs.Prelude.{IfSome, List, ◌∷◌, [], ◌≡◌, ◌≤◌, ◌<◌, ◌^◌, length};
 ghost use Rattle.wire.specs.Writer.{state_of};
 ghost use Rattle.wire.specs.Bytes.{word_range};
 ghost use Rattle.pack_rules.specs.Names.{Name};
 ghost use Rattle.pack_rules.specs.Write.{raw};
 ghost use Rattle.pack.specs.Intern.{render};
 ghost use Rattle.pack_rules.specs.Limits.{max_bytes};
-ghost use Rattle.activations.specs.OverSamplesAt.{chosen_items, clocked_items, has_const_t, other_items, over_t, rename_items, rename_t, renamed_t, sampled_constant_items, sampled_constant_t, sampled_value_t};
+ghost use Rattle.activations.specs.OverSamplesAt.{chosen_items, clocked_items, has_const_t, number_or, other_items, over_t, rename_items, rename_t, renamed_t, sampled_constant_items, sampled_constant_t, sampled_value_t};
 
 use crate::expr_node::{ExprNode, is_const, onward, open, read_expr_node};
 use crate::flags::put_onto;
-use crate::name_ids::{NO_NUMBER, last_id, put_id, put_sample_of, sample_id};
+use crate::name_ids::{last_id, put_id, put_sample_of, sample_id};
 use crate::pack_info::PackInfo;
 use crate::rewrite_last::{rewrite_last, rewrite_node};
 use machines::layout::{between, part, remaining};
 use wire::writer::{Writer, put_byte, put_bytes};
 
-// The number whose sample stands for x, `NO_NUMBER` where x stays. One read after the other: a sample that is read later is sampled in
+// The number whose sample stands for x, where x does not stay. One read after the other: a sample that is read later is sampled in
 // its turn.
+#[tactic(auto, unfolding(crate::specs::OverSamplesAt::number_or))]
 fn renamed(
     old: &[u8],
     pack: &[u8],
@@ -29,18 +30,19 @@ fn renamed(
     k: usize,
     ids: &[u16],
     x: usize,
-) -> usize
-    ensures { result ≡ renamed_t old.now pack.now offsets.now info.names info.made a.now n k ids.now x }
+) -> Option<usize>
+    ensures small { IfSome result (λ y. y < word_range) }
+    ensures value { number_or result ≡ renamed_t old.now pack.now offsets.now info.names info.made a.now n k ids.now x }
 {
     let mut v = x;
-    let mut y = NO_NUMBER;
+    let mut found = None;
     for id in ids {
         if usize::from(*id) == v {
-            y = v;
-            v = sample_id(old, pack, offsets, info, a, n, k, y);
+            found = Some(v);
+            v = sample_id(old, pack, offsets, info, a, n, k, v);
         }
     }
-    y
+    found
 }
 
 // The name that stands for x.
@@ -60,16 +62,16 @@ fn put_renamed_id(
 ) -> Writer
     ensures { state_of out.new made.new result ≡ render old.now (chosen_items old.now pack.now offsets.now info.names info.made a.now n k ids.now x) (state_of out.old made.old writer) }
 {
-    let y = renamed(old, pack, offsets, info, a, n, k, ids, x);
-    if y == NO_NUMBER {
-        return put_id(old, pack, offsets, info.names, a, x, out, made, writer);
+    match renamed(old, pack, offsets, info, a, n, k, ids, x) {
+        Some(y) => put_sample_of(
+            old, pack, offsets, info.names, a, n, k, y, out, made, writer,
+        ),
+        None => put_id(old, pack, offsets, info.names, a, x, out, made, writer),
     }
-    put_sample_of(
-        old, pack, offsets, info.names, a, n, k, y, out, made, writer,
-    )
 }
 
 // The same as an expression.
+#[tactic(auto, unfolding(crate::specs::OverSamplesAt::chosen_items, pack::specs::Intern::render, pack::specs::Intern::put_item, wire::specs::Writer::puts))]
 fn put_renamed_var(
     old: &[u8],
     pack: &[u8],
@@ -149,6 +151,7 @@ fn put_other_renamed(
 }
 
 // The node m that stands at `at`, its name renamed: a call of `last` becomes what stands for its holder.
+#[tactic(auto, unfolding(crate::specs::OverSamplesAt::rename_items))]
 fn put_node_renamed(
     old: &[u8],
     pack: &[u8],
@@ -287,6 +290,7 @@ fn put_sampled_constants(
 }
 
 // The right side at an offset where it reads nothing: its constants on the scope's clock, or all of it where it has none.
+#[tactic(auto, unfolding(crate::specs::OverSamplesAt::sampled_value_t))]
 fn put_sampled_value(
     old: &[u8],
     pack: &[u8],
@@ -305,13 +309,15 @@ fn put_sampled_value(
     ensures { (ns : List Name) → length ns ≡ info.names → state_of out.new made.new result ≡ sampled_value_t old.now pack.now offsets.now a.now n k ns info.last at (state_of out.old made.old writer) }
 {
     if has_const(pack, info, at) {
-        return put_sampled_constants(old, pack, offsets, info, a, n, k, at, out, made, writer);
+        put_sampled_constants(old, pack, offsets, info, a, n, k, at, out, made, writer)
+    } else {
+        let c = put_onto(old, a, n, k, out, made, writer);
+        rewrite_last(old, pack, info, offsets, a, at, out, made, c)
     }
-    let c = put_onto(old, a, n, k, out, made, writer);
-    rewrite_last(old, pack, info, offsets, a, at, out, made, c)
 }
 
 // The right side at an offset, which reads these, in the scope k of n branches.
+#[tactic(auto, unfolding(crate::specs::OverSamplesAt::over_t))]
 pub fn put_over_samples(
     old: &[u8],
     pack: &[u8],
@@ -333,10 +339,11 @@ pub fn put_over_samples(
     requires n_bound { n < 2 ^ 63 }
     ensures { (ns : List Name) → length ns ≡ info.names → state_of out.new made.new result ≡ over_t old.now pack.now offsets.now info.names info.made a.now n k ids.now lasts.now rows ns info.last at (state_of out.old made.old writer) }
 {
-    if ids.len() == 0 {
-        return put_sampled_value(old, pack, offsets, info, a, n, k, at, out, made, writer);
+    if ids.is_empty() {
+        put_sampled_value(old, pack, offsets, info, a, n, k, at, out, made, writer)
+    } else {
+        put_renamed(
+            old, pack, offsets, info, a, n, k, ids, lasts, rows, at, out, made, writer,
+        )
     }
-    put_renamed(
-        old, pack, offsets, info, a, n, k, ids, lasts, rows, at, out, made, writer,
-    )
 }

@@ -5,7 +5,7 @@
 //   KIND            what is refused of it, 0 for nothing; refused for its owner until it is judged
 //   SECOND, THIRD   the names of the refusal
 //   LOCALS          how many locals it makes
-ghost use Rattle.std.specs.Prelude.{List, ◌≡◌, ◌+◌, ◌<◌, ◌≤◌, length};
+ghost use Rattle.std.specs.Prelude.{unwrap_or, List, ◌≡◌, ◌+◌, ◌<◌, ◌≤◌, length};
 ghost use Rattle.wire.specs.Bytes.{word_range};
 ghost use Rattle.pack_rules.specs.Names.{Name};
 ghost use Rattle.pack_rules.specs.Limits.{max_bytes};
@@ -16,7 +16,7 @@ ghost use Rattle.machines.specs.CheckedReads.{number_in};
 ghost use Rattle.activations.specs.OwnersAt.{draw_t, named_t, place_acts_t, place_nodes_t};
 
 use crate::cells::{put_word, word};
-use crate::checks::{Refused, refusing};
+use crate::checks::{Refusal, Refused, refusing};
 use crate::parts::{Act, act_at, after_act};
 use machines::checked_read::{after_equations, number};
 use machines::write_nodes::to_node_equations;
@@ -37,6 +37,7 @@ const THIRD: usize = 26624;
 const LOCALS: usize = 33280;
 
 // Where the activation i stands.
+#[tactic(auto, unfolding(crate::specs::ActTable::spot_t))]
 pub fn act_spot(acts: &[u16], i: usize) -> usize
     ensures { result ≡ spot_t acts.now i }
 {
@@ -44,6 +45,7 @@ pub fn act_spot(acts: &[u16], i: usize) -> usize
 }
 
 // The node that it goes to.
+#[tactic(auto, unfolding(crate::specs::ActTable::goal_t))]
 pub fn act_node(acts: &[u16], i: usize) -> usize
     ensures { (result < word_range) × (result ≡ goal_t acts.now i) }
 {
@@ -51,6 +53,7 @@ pub fn act_node(acts: &[u16], i: usize) -> usize
 }
 
 // How many locals it makes.
+#[tactic(auto, unfolding(crate::specs::ActTable::made_t))]
 pub fn act_locals(acts: &[u16], i: usize) -> usize
     ensures { (result < word_range) × (result ≡ made_t acts.now i) }
 {
@@ -58,6 +61,7 @@ pub fn act_locals(acts: &[u16], i: usize) -> usize
 }
 
 // What was judged of it.
+#[tactic(auto, unfolding(crate::specs::ActTable::refusal_t))]
 pub fn judged(acts: &[u16], i: usize) -> Refused
     ensures { result ≡ refusal_t acts.now i }
 {
@@ -87,6 +91,7 @@ pub fn put_spot(acts: &mut [u16], i: usize, at: usize, node: usize)
 }
 
 // What is judged of it now.
+#[tactic(auto, unfolding(crate::specs::ActTable::judged_t))]
 pub fn put_judged(acts: &mut [u16], i: usize, r: Refused, locals: usize)
     ensures { acts.new ≡ judged_t acts.old i r locals }
 {
@@ -112,30 +117,31 @@ pub fn place_nodes(pack: &[u8], names: usize, at: usize, nodes: &mut [u16]) -> u
     c.value
 }
 
-// The first of n nodes of the name x, n where there is none.
-fn node_named(pack: &[u8], nodes: &[u16], n: usize, x: usize) -> usize
-    ensures { result ≡ named_t pack.now nodes.now n x }
+// The first of n nodes of the name x.
+fn node_named(pack: &[u8], nodes: &[u16], n: usize, x: usize) -> Option<usize>
+    ensures { unwrap_or result n ≡ named_t pack.now nodes.now n x }
 {
     for k in 0..n {
         let at = cell(nodes, k);
         let i = number(pack, at);
         if i.value == x {
-            return k;
+            return Some(k);
         }
     }
-    n
+    None
 }
 
 // The activation at p, among n nodes, is that of the row i. It is refused for its owner until it is judged.
+#[tactic(auto, unfolding(crate::specs::Refusing::RoomFor))]
 fn draw(pack: &[u8], names: usize, nodes: &[u16], n: usize, acts: &mut [u16], i: usize, p: usize)
     ensures { acts.new ≡ draw_t names pack.now nodes.now n i p acts.old }
 {
     let a = number(pack, p);
     let o = number(pack, a.next);
-    let k = node_named(pack, nodes, n, o.value);
-    let r = refusing(Refused::UNKNOWN_OWNER, o.value, names);
+    let k = node_named(pack, nodes, n, o.value).unwrap_or(n);
+    let r = Refusal::UnknownOwner(o.value);
     put_spot(acts, i, p, k);
-    put_judged(acts, i, r, 0);
+    put_judged(acts, i, r.numbers(names), 0);
 }
 
 // Where the activations stand, whose count is at `at`, and the node of each among n nodes. Answers how many there are.

@@ -40,6 +40,7 @@ pub fn right_side(pack: &[u8], names: usize, at: usize) -> usize
 }
 
 // The first left name of an equation.
+#[tactic(auto, unfolding(crate::specs::Places::first_left_in, machines::specs::CheckedReads::with))]
 pub fn first_left(pack: &[u8], at: usize) -> usize
     ensures { result ≡ first_left_in pack.now at }
 {
@@ -49,6 +50,7 @@ pub fn first_left(pack: &[u8], at: usize) -> usize
 }
 
 // From a branch to its equations.
+#[tactic(auto, unfolding(crate::specs::Places::body_in, machines::specs::CheckedReads::with))]
 pub fn branch_equations(pack: &[u8], names: usize, at: usize) -> usize
     requires { length pack.now ≤ max_bytes }
     ensures { (ns : List Name) → length ns ≡ names → result ≡ body_in ns pack.now at }
@@ -58,6 +60,7 @@ pub fn branch_equations(pack: &[u8], names: usize, at: usize) -> usize
 }
 
 // Past a branch.
+#[tactic(auto, unfolding(crate::specs::Places::branch_end))]
 pub fn after_branch(pack: &[u8], names: usize, at: usize) -> usize
     requires { length pack.now ≤ max_bytes }
     ensures { (ns : List Name) → length ns ≡ names → result ≡ branch_end ns pack.now at }
@@ -80,6 +83,7 @@ pub fn after_branches(pack: &[u8], names: usize, at: usize) -> usize
 }
 
 // The activation at an offset.
+#[tactic(auto, unfolding(crate::specs::Places::act_at, crate::specs::Places::act_of, machines::specs::CheckedReads::with))]
 pub fn act_at(pack: &[u8], names: usize, at: usize) -> Act
     requires { length pack.now ≤ max_bytes }
     ensures { (ns : List Name) → length ns ≡ names → result ≡ act_at ns pack.now at }
@@ -99,6 +103,7 @@ pub fn act_at(pack: &[u8], names: usize, at: usize) -> Act
 }
 
 // From an activation past it.
+#[tactic(auto, unfolding(crate::specs::Places::act_end))]
 pub fn after_act(pack: &[u8], names: usize, at: usize) -> usize
     requires { length pack.now ≤ max_bytes }
     ensures { (ns : List Name) → length ns ≡ names → result ≡ act_end ns pack.now at }

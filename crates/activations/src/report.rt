@@ -1,5 +1,5 @@
 // The report of refused activations. Entries are those of machines: a refusal's names are the pack's, or the letters of `else`.
-ghost use Rattle.std.specs.Prelude.{List, ◌++◌, ◌≡◌, ℕ, ◌+◌, ◌*◌, ◌<◌, ◌≤◌, length};
+ghost use Rattle.std.specs.Prelude.{cond, List, ◌++◌, ◌≡◌, ℕ, ◌+◌, ◌*◌, ◌<◌, ◌≤◌, length};
 ghost use Rattle.wire.specs.Bytes.{two, word_range};
 ghost use Rattle.wire.specs.Writer.{overwritten};
 ghost use Rattle.pack_rules.specs.Outcome.{Answers, reported};
@@ -18,37 +18,37 @@ use pack::finish::{CallError, Outcome};
 use pack::record::Pack;
 
 // A name by its number: the number of names is none, past it is `else`.
+#[tactic(auto, unfolding(crate::specs::ReportAt::called_t))]
 fn called(names: usize, x: usize) -> NameRef
     ensures { result ≡ called_t names x }
 {
     if x < names {
-        return named(x);
-    }
-    if x == names {
-        return no_name();
-    }
-    NameRef {
-        letter: 0,
-        letters: 4,
-        name: Pack::ABSENT,
+        named(x)
+    } else if x == names {
+        no_name()
+    } else {
+        NameRef {
+            letter: 0,
+            letters: 4,
+            name: Pack::ABSENT,
+        }
     }
 }
 
 // A refusal as one of a machine.
+#[tactic(auto, unfolding(crate::specs::ReportAt::judged_as))]
 fn judged_of(names: usize, r: Refused) -> VerdictRow
     ensures { result ≡ judged_as names r }
 {
-    let second = called(names, r.second);
-    let third = called(names, r.third);
-    refused(r.kind, second, third)
+    refused(r.kind, called(names, r.second), called(names, r.third))
 }
 
-// Whether the activation i is refused, as a number.
-fn is_refused(acts: &[u16], i: usize) -> usize
-    ensures { (result ≤ 1) × (result ≡ is_refused_t acts.now i) }
+// Whether the activation i is refused.
+#[tactic(auto, unfolding(crate::specs::ReportAt::is_refused_t))]
+fn is_refused(acts: &[u16], i: usize) -> bool
+    ensures { is_refused_t acts.now i ≡ cond result 1 0 }
 {
-    let j = judged(acts, i);
-    if j.kind == 0 { 0 } else { 1 }
+    judged(acts, i).kind != 0
 }
 
 // How many of the first n activations are refused.
@@ -58,7 +58,9 @@ pub fn refused_count(acts: &[u16], n: usize) -> usize
 {
     let mut c = 0;
     for i in 0..n {
-        c += is_refused(acts, i);
+        if is_refused(acts, i) {
+            c += 1;
+        }
     }
     c
 }

@@ -123,6 +123,7 @@ fn put_left_value(
 }
 
 // The equation at p, which reads these, after the samples that are new.
+#[tactic(auto, unfolding(crate::specs::ScopesAt::equation_t))]
 fn put_equation(
     old: &[u8],
     pack: &[u8],

@@ -10,7 +10,7 @@ ghost use Rattle.pack_rules.specs.Names.{Name};
 ghost use Rattle.pack_rules.specs.Limits.{max_bytes};
 ghost use Rattle.activations.specs.Cells.{clear_t};
 ghost use Rattle.activations.specs.TypeCodes.{out_t, typed_t, value_type_t};
-ghost use Rattle.activations.specs.TypesAt.{default_t, default_word, first_port_t, first_ports_t, first_variant_t, inputs_in, is_missing, plain_start, ports_end, ports_t, type_bytes, variables_t, variant_at, variant_or, variant_t};
+ghost use Rattle.activations.specs.TypesAt.{default_t, default_word, first_port_t, first_ports_t, first_variant_t, inputs_in, plain_start, ports_end, ports_t, type_bytes, variables_t, variant_at, variant_or, variant_t};
 ghost use Rattle.activations.specs.FirstVariantsAt.{first_t, firsts_t, kept_t};
 
 use crate::cells::{clear, put_word};
@@ -21,10 +21,9 @@ use pack::cells::{cell, put_cell};
 use wire::number::read_byte;
 use wire::writer::{Writer, put_byte, put_bytes};
 
-// What a holder starts from: nothing, a literal of this tag with value 0, or a name.
+// What a holder starts from: a literal of this tag with value 0, or a name.
 #[derive(Clone, Copy)]
 pub enum TypeDefault {
-    Missing,
     Literal(usize),
     Name(usize),
 }
@@ -46,6 +45,7 @@ fn note_ports(pack: &[u8], names: usize, types: &mut [u16], at: usize) -> usize
 }
 
 // From a node to its inputs.
+#[tactic(auto, unfolding(crate::specs::TypesAt::inputs_in, machines::specs::CheckedReads::with, machines::specs::CheckedReads::byte_in))]
 fn to_inputs(pack: &[u8], at: usize) -> usize
     ensures { result ≡ inputs_in pack.now at }
 {
@@ -55,6 +55,7 @@ fn to_inputs(pack: &[u8], at: usize) -> usize
 }
 
 // The variables of the node at an offset: inputs, outputs and locals.
+#[tactic(auto, unfolding(crate::specs::TypesAt::variables_t, crate::specs::Cells::clear_t, crate::specs::TypesAt::three_ports_t))]
 pub fn note_variables(pack: &[u8], names: usize, types: &mut [u16], at: usize)
     requires { length pack.now ≤ max_bytes }
     ensures { (ns : List Name) → length ns ≡ names → types.new ≡ variables_t ns pack.now at (clear_t names types.old) }
@@ -67,6 +68,7 @@ pub fn note_variables(pack: &[u8], names: usize, types: &mut [u16], at: usize)
 }
 
 // The port at p, where no type of its name is there yet.
+#[tactic(auto, unfolding(crate::specs::TypesAt::first_port_t, machines::specs::CheckedReads::with, crate::specs::Cells::put_t))]
 fn note_first(pack: &[u8], outs: &mut [u16], p: usize)
     ensures { outs.new ≡ first_port_t pack.now p outs.old }
 {
@@ -91,16 +93,15 @@ pub fn note_outputs(pack: &[u8], names: usize, outs: &mut [u16], at: usize)
 }
 
 // An output's type; holders that are no old names are no outputs.
+#[tactic(auto, unfolding(crate::specs::TypeCodes::out_t))]
 fn output_type(outs: &[u16], names: usize, x: usize) -> usize
     ensures { result ≡ out_t outs.now names x }
 {
-    if x < names {
-        return cell(outs, x);
-    }
-    0
+    if x < names { cell(outs, x) } else { 0 }
 }
 
 // The variable's type, else the output's.
+#[tactic(auto, unfolding(crate::specs::TypeCodes::typed_t))]
 pub fn typed(types: &[u16], outs: &[u16], names: usize, x: usize) -> usize
     ensures { result ≡ typed_t types.now outs.now names x }
 {
@@ -110,6 +111,7 @@ pub fn typed(types: &[u16], outs: &[u16], names: usize, x: usize) -> usize
 }
 
 // The output's type, else the variable's, else Bool.
+#[tactic(auto, unfolding(crate::specs::TypeCodes::value_type_t))]
 pub fn value_type(types: &[u16], outs: &[u16], names: usize, x: usize) -> usize
     ensures { result ≡ value_type_t types.now outs.now names x }
 {
@@ -119,47 +121,52 @@ pub fn value_type(types: &[u16], outs: &[u16], names: usize, x: usize) -> usize
 }
 
 // The type of a code, as it stands in the pack.
+#[tactic(auto, unfolding(crate::specs::TypesAt::type_bytes, wire::specs::Writer::puts))]
 pub fn put_type(pack: &[u8], names: usize, c: usize, out: &mut [u8], writer: Writer) -> Writer
     requires { length pack.now ≤ max_bytes }
     ensures { (ns : List Name) → length ns ≡ names → (m : List ℕ) → state_of out.new m result ≡ puts (type_bytes ns pack.now c) (state_of out.old m writer) }
 {
     if c < 2 {
-        return put_byte(out, writer, 0);
+        put_byte(out, writer, 0)
+    } else {
+        let e = after_type(pack, names, c);
+        put_bytes(between(pack, c, e), out, writer)
     }
-    let e = after_type(pack, names, c);
-    put_bytes(between(pack, c, e), out, writer)
 }
 
 // The first of k variants at p.
-fn variant_or(pack: &[u8], k: usize, p: usize, r: TypeDefault) -> TypeDefault
+#[tactic(auto, unfolding(crate::specs::TypesAt::variant_or))]
+fn variant_or(pack: &[u8], k: usize, p: usize, r: Option<TypeDefault>) -> Option<TypeDefault>
     ensures { result ≡ variant_or pack.now k p r }
 {
     if k == 0 {
-        return r;
+        r
+    } else {
+        Some(TypeDefault::Name(number(pack, p).value))
     }
-    let v = number(pack, p);
-    TypeDefault::Name(v.value)
 }
 
 // The enum at p, asked for its first variant where its name's index is x.
-fn variant_at(pack: &[u8], x: usize, p: usize, r: TypeDefault) -> TypeDefault
+#[tactic(auto, unfolding(crate::specs::TypesAt::variant_at, machines::specs::CheckedReads::with))]
+fn variant_at(pack: &[u8], x: usize, p: usize, r: Option<TypeDefault>) -> Option<TypeDefault>
     ensures { result ≡ variant_at pack.now x p r }
 {
     let i = number(pack, p);
     let k = number(pack, i.next);
     if i.value == x {
-        return variant_or(pack, k.value, k.next, r);
+        variant_or(pack, k.value, k.next, r)
+    } else {
+        r
     }
-    r
 }
 
 // Of the enums of the name x the first variant of the last that has one.
-fn first_variant(pack: &[u8], names: usize, enums: usize, x: usize) -> TypeDefault
+fn first_variant(pack: &[u8], names: usize, enums: usize, x: usize) -> Option<TypeDefault>
     ensures { (ns : List Name) → length ns ≡ names → result ≡ first_variant_t ns pack.now enums x }
 {
     let c = number(pack, enums);
     let mut p = c.next;
-    let mut r = TypeDefault::Missing;
+    let mut r = None;
     for _ in 0..c.value {
         let i = number(pack, p);
         r = variant_at(pack, x, p, r);
@@ -169,71 +176,70 @@ fn first_variant(pack: &[u8], names: usize, enums: usize, x: usize) -> TypeDefau
 }
 
 // What a word of the table of first variants says: one more than the variant's index, 0 for none.
-fn default_word(c: usize) -> TypeDefault
+#[tactic(auto, unfolding(crate::specs::TypesAt::default_word))]
+fn default_word(c: usize) -> Option<TypeDefault>
     ensures { result ≡ default_word c }
 {
     if c == 0 {
-        return TypeDefault::Missing;
+        None
+    } else {
+        Some(TypeDefault::Name(c - 1))
     }
-    TypeDefault::Name(c - 1)
 }
 
 // The first variant by the table of names, which past their places has it for 17,408 names. A call has no room on the stack for
 // more; of others it is sought.
-fn variant_of(pack: &[u8], names: usize, enums: usize, offsets: &[u16], x: usize) -> TypeDefault
+#[tactic(auto, unfolding(crate::specs::TypesAt::variant_t))]
+fn variant_of(
+    pack: &[u8],
+    names: usize,
+    enums: usize,
+    offsets: &[u16],
+    x: usize,
+) -> Option<TypeDefault>
     ensures { (ns : List Name) → length ns ≡ names → result ≡ variant_t ns pack.now enums offsets.now x }
 {
     if x < NAMED {
-        let c = cell(offsets, FIRST_VARIANTS + x);
-        return default_word(c);
+        default_word(cell(offsets, FIRST_VARIANTS + x))
+    } else {
+        first_variant(pack, names, enums, x)
     }
-    first_variant(pack, names, enums, x)
 }
 
 // What a holder of a type with this tag starts from, where the type is no named one.
-fn plain_default(tag: usize) -> TypeDefault
+#[tactic(auto, unfolding(crate::specs::TypesAt::plain_start))]
+fn plain_default(tag: usize) -> Option<TypeDefault>
     ensures { result ≡ plain_start tag }
 {
-    if tag == 0 {
-        return TypeDefault::Literal(0);
+    match tag {
+        0 => Some(TypeDefault::Literal(0)),
+        9 | 10 => Some(TypeDefault::Literal(2)),
+        11 => Some(TypeDefault::Literal(3)),
+        12 => None,
+        _ => Some(TypeDefault::Literal(1)),
     }
-    if tag == 9 {
-        return TypeDefault::Literal(2);
-    }
-    if tag == 10 {
-        return TypeDefault::Literal(2);
-    }
-    if tag == 11 {
-        return TypeDefault::Literal(3);
-    }
-    if tag == 12 {
-        return TypeDefault::Missing;
-    }
-    TypeDefault::Literal(1)
 }
 
 // What a holder of the type of a code starts from where no initial value is given.
-pub fn default_of(pack: &[u8], names: usize, enums: usize, offsets: &[u16], c: usize) -> TypeDefault
+#[tactic(auto, unfolding(crate::specs::TypesAt::default_t, crate::specs::TypesAt::default_at, machines::specs::CheckedReads::with, machines::specs::CheckedReads::byte_in))]
+pub fn default_of(
+    pack: &[u8],
+    names: usize,
+    enums: usize,
+    offsets: &[u16],
+    c: usize,
+) -> Option<TypeDefault>
     ensures { (ns : List Name) → length ns ≡ names → result ≡ default_t ns pack.now enums offsets.now c }
 {
     if c < 2 {
-        return TypeDefault::Literal(0);
+        return Some(TypeDefault::Literal(0));
     }
     let t = read_or_zero(read_byte(pack, c));
     if t.value == 13 {
         let x = number(pack, t.next);
-        return variant_of(pack, names, enums, offsets, x.value);
-    }
-    plain_default(t.value)
-}
-
-// Whether there is nothing to start from.
-pub fn is_missing(t: TypeDefault) -> bool
-    ensures { result ≡ is_missing t }
-{
-    match t {
-        TypeDefault::Missing => true,
-        _ => false,
+        variant_of(pack, names, enums, offsets, x.value)
+    } else {
+        plain_default(t.value)
     }
 }
 
@@ -252,14 +258,14 @@ pub const SPOTS: usize = FIRST_VARIANTS + NAMED;
 fn keep_variant(pack: &[u8], offsets: &mut [u16], i: usize, k: usize, p: usize)
     ensures { offsets.new ≡ kept_t pack.now i k p offsets.old }
 {
-    if k == 0 {
-        return;
+    if k != 0 {
+        let v = number(pack, p);
+        put_word(offsets, FIRST_VARIANTS, i, v.value + 1);
     }
-    let v = number(pack, p);
-    put_word(offsets, FIRST_VARIANTS, i, v.value + 1);
 }
 
 // That of the enum at p.
+#[tactic(auto, unfolding(crate::specs::FirstVariantsAt::first_t, machines::specs::CheckedReads::with))]
 fn keep_first(pack: &[u8], offsets: &mut [u16], p: usize)
     ensures { offsets.new ≡ first_t pack.now p offsets.old }
 {

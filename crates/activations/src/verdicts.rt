@@ -9,12 +9,13 @@ ghost use Rattle.pack_rules.specs.Syntax.{Activation, Enum, Node};
 ghost use Rattle.pack_rules.specs.Limits.{max_bytes};
 ghost use Rattle.activations.specs.LocalsAt.{act_locals_t};
 ghost use Rattle.activations.specs.PackInfoAt.{Basis, ReadAt, Scratch, Types};
-ghost use Rattle.activations.specs.Verdicts.{JudgedIn, LeftAs, NodeJudged, RowJudged, quiet, refused_in, within_t};
+ghost use Rattle.activations.specs.Verdicts.{locals_of, row_judged, row_refused};
+ghost use Rattle.activations.specs.Verdicts.{JudgedIn, LeftAs, NodeJudged, RowJudged, quiet, within_t};
 ghost use Rattle.activations.specs.Places.{act_at};
 ghost use Rattle.activations.specs.ActTable.{goal_t, spot_t};
 ghost use Rattle.activations.specs.Fates.{Drawn, Fates, NodesFrom, Unowned};
 
-use crate::checks::{Refused, checks, has_empty_left, refusing};
+use crate::checks::{Refusal, Refused, checks, has_empty_left, refusing};
 use crate::locals::{Passed, put_act_locals};
 use crate::lower::prepare;
 use crate::owners::{act_node, act_of, put_judged};
@@ -28,35 +29,31 @@ use wire::writer::{Writer, stopped};
 // --- One activation judged in its owner: what is refused of it, or how many locals it makes. What it leaves to the next activation of
 // the same owner stays in `later`.
 
-// What is refused of an activation, or how many locals it makes.
-#[derive(Clone, Copy)]
-pub struct ActVerdict {
-    pub refused: Refused,
-    pub locals: usize,
-}
-
 // A name's number, which fits 16 bits.
+#[tactic(auto, unfolding(crate::specs::Verdicts::within_t))]
 fn within(names: usize, x: usize) -> usize
     requires { names ≤ word_range }
     ensures { result ≡ within_t names x }
 {
-    if names < x { names + 1 } else { x }
+    x.min(names + 1)
 }
 
-// A refused activation: it makes no locals.
-fn refuse(names: usize, kind: usize, second: usize, third: usize) -> ActVerdict
+// What is refused, by numbers that fit 16 bits.
+#[tactic(auto, using(crate::proofs::RefusalNumbers::room_for), unfolding(crate::specs::Verdicts::row_refused, crate::specs::Verdicts::refused_in))]
+fn refuse(names: usize, r: Refusal) -> Refused
     requires { names ≤ word_range }
-    ensures { (result.refused ≡ refused_in names kind second third) × (result.locals ≡ 0) }
+    ensures { result ≡ row_refused names r }
 {
-    let x = within(names, second);
-    let y = within(names, third);
-    ActVerdict {
-        refused: refusing(kind, x, y),
-        locals: 0,
-    }
+    let row = r.numbers(names);
+    refusing(
+        row.kind,
+        within(names, row.second),
+        within(names, row.third),
+    )
 }
 
 // All locals left to the next, and counted; nothing is written.
+#[tactic(auto, unfolding(crate::specs::LocalsAt::act_locals_t, crate::specs::Verdicts::quiet))]
 pub fn count_and_type_locals(
     old: &[u8],
     pack: &[u8],
@@ -101,29 +98,20 @@ pub fn judge_act(
     reads: &mut [u16],
     sampled: &mut [u16],
     later: &mut [u16],
-) -> ActVerdict
+) -> Result<usize, Refusal>
     requires { (length pack.now ≤ max_bytes) × (info.names ≤ word_range) × (act.n < 2 ^ 63) × Scratch later.old types.old outs.old lasts.old reads.old sampled.old }
-    ensures { (ns : List Name) (es : List Enum) (at : ℕ) (A : Activation) (n : Node) → Basis ns es old.now pack.now offsets.now info → ReadAt ns pack.now at A act → Types ns pack.now n later.old → JudgedIn ns es pack.now A n result.refused result.locals later.new }
+    ensures { (ns : List Name) (es : List Enum) (at : ℕ) (A : Activation) (n : Node) → Basis ns es old.now pack.now offsets.now info → ReadAt ns pack.now at A act → Types ns pack.now n later.old → JudgedIn ns es pack.now A n (row_judged info.names result) (locals_of result) later.new }
 {
-    let c = checks(pack, info, types, outs, act);
-    if c.kind != 0 {
-        return refuse(info.names, c.kind, c.second, c.third);
-    }
+    checks(pack, info, types, outs, act)?;
     let a = pack_name(pack, offsets, act.name);
-    let h = prepare(old, pack, info, offsets, a, act, later, types, outs, lasts);
-    if h.kind != 0 {
-        return refuse(info.names, h.kind, h.var, info.names);
-    }
+    let rows = prepare(old, pack, info, offsets, a, act, later, types, outs, lasts)?;
     if has_empty_left(pack, info.names, act) {
-        return refuse(info.names, Refused::EMPTY_LEFT, info.names, info.names);
+        return Err(Refusal::EmptyLeft);
     }
-    let n = count_and_type_locals(
-        old, pack, info, a, offsets, lasts, h.rows, types, outs, act, reads, sampled, later,
+    let locals = count_and_type_locals(
+        old, pack, info, a, offsets, lasts, rows, types, outs, act, reads, sampled, later,
     );
-    ActVerdict {
-        refused: refusing(Refused::ACCEPTED, info.names, info.names),
-        locals: n,
-    }
+    Ok(locals)
 }
 
 // The activation of the row i, where it goes to the node k, whose variables' types `later` has.
@@ -151,11 +139,13 @@ fn judge_row(
         return;
     }
     let act = act_of(pack, info.names, acts, i);
-    let j = judge_act(
+    let judged = judge_act(
         old, pack, info, offsets, act, types, outs, lasts, reads, sampled, later,
     );
-    let r = j.refused;
-    put_judged(acts, i, r, j.locals);
+    match judged {
+        Ok(locals) => put_judged(acts, i, refusing(0, info.names, info.names), locals),
+        Err(r) => put_judged(acts, i, refuse(info.names, r), 0),
+    }
 }
 
 // Those of n activations that go to the node k, whose variables' types `later` has.

@@ -2,9 +2,6 @@ use native.Mathlib.Omega.{arith}
 use Rattle.machines.proofs.AddedLaws.{total-done, total-more}
 use Rattle.activations.proofs.added.added_locals.Goals as goal
 
-pub overflow_add-c : goal.overflow_add-c
-overflow_add-c c = omega (arith, c.loop-i-test.true, c.loop-i.invariant.0, c.adds_locals-c.ensures.0, c.requires)
-
 pub loop-i-preserved : goal.loop-i-preserved
 loop-i-preserved c = (omega (arith, c.loop-i.invariant.0, c.adds_locals-c.ensures.0), total-more _ _ _ _ _ _ c.loop-i-test.true c.adds_locals-c.ensures.1 c.loop-i.invariant.1)
 

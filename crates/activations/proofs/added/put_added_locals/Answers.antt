@@ -3,12 +3,8 @@ use native.Mathlib.Omega.{arith}
 use lib.ListN.{length}
 use Rattle.pack_rules.specs.Write.{port_items}
 use Rattle.activations.specs.AddedParts.{ports_of}
-use Rattle.activations.proofs.Prepared.{scratch-kept}
 use Rattle.activations.proofs.AddedPartsKnown.{row_made, row_read, written-done, written_step, written-stop, written_start}
 use Rattle.activations.proofs.added.put_added_locals.Goals as goal
-
-pub put_row_locals-v-requires : goal.put_row_locals-v-requires
-put_row_locals-v-requires c = (c.requires.0, c.requires.1, (scratch-kept _ _ _ _ _ _ _ _ _ _ _ _ c.requires.3 c.loop-i.auto.later c.loop-i.auto.types c.loop-i.auto.outs c.loop-i.auto.lasts c.loop-i.auto.reads c.loop-i.auto.sampled))
 
 pub loop-i-preserved : goal.loop-i-preserved
 loop-i-preserved c = λ ns es N As m g D M B L T. let W = c.loop-i.invariant ns es N As m g D M B L T in let l : c.loop-i.i < length As = omega (arith, c.loop-i-test.true, L) in written_step ns _ _ es N As g _ m _ D M ports_of port_items _ l _ _ _ W _ _ c.put_row_locals-v.ensures.past (λ e. c.put_row_locals-v.ensures.written e ns es _ _ B (row_read ns _ _ es N As g _ m _ D M ports_of port_items _ l _ _ _ W) W.types (row_made ns _ _ es N As g _ m _ D M ports_of port_items _ l _ _ _ W e))

@@ -1,19 +1,17 @@
 use mathlib.Core.Path.{refl, sym, ◌∙◌}
-use native.Mathlib.Omega.{arith}
-use Rattle.activations.proofs.AddedPartsKnown.{row-locals}
+use Rattle.activations.proofs.AddedPartsKnown.{row-held, row-locals}
+use Rattle.activations.proofs.RefusalNumbers.{kind-some}
+use Rattle.activations.specs.PreparedAt.{rows_or}
+use Rattle.activations.specs.Refusing.{held_kind, held_var}
 use Rattle.activations.proofs.added.put_row_locals.Goals as goal
 
 pub returns-then-g-k : goal.returns-then-g-k
 returns-then-g-k c = record { past = λ d. (refl, refl); written = λ e. absurd (c.if-g-k.true (c.act_node-g.ensures.1 ∙ e)) }
 
-pub act_of-act-requires : goal.act_of-act-requires
-act_of-act-requires c = c.requires.0
-
-pub prepare-h-requires : goal.prepare-h-requires
-prepare-h-requires c = (c.requires.0, c.requires.1)
-
-pub put_act_locals-r-requires : goal.put_act_locals-r-requires
-put_act_locals-r-requires c = (c.requires.0, omega (arith, c.prepare-h.ensures.few), c.requires.2.for_reads, c.requires.2.for_seen, omega (arith, c.act_of-act.ensures.few))
-
 pub returns : goal.returns
-returns c = record { past = λ d. absurd (d (sym c.act_node-g.ensures.1 ∙ c.if-g-k.false)); written = λ e ns es A n B R T M. row-locals ns es _ _ _ _ B _ A _ (record { end = R.end; read = R.read; parts = c.act_of-act.ensures.parts ns (sym B.names) }) n _ _ _ _ _ T c.pack_name-a.ensures _ (c.prepare-h.ensures.begun ns (sym B.names)) c.requires.2.for_numbers c.requires.2.for_outputs c.requires.2.for_rows (c.prepare-h.auto.types ∙ c.requires.2.for_numbers) c.requires.2.for_types M _ _ refl (c.put_act_locals-r.ensures ns (sym B.names)) }
+unfolding held_kind held_var rows_or
+returns c = record { past = λ d. absurd (d (sym c.act_node-g.ensures.1 ∙ c.if-g-k.false)); written = λ e ns es A n B R T M. row-locals ns es _ _ _ _ B _ A _ (record { end = R.end; read = R.read; parts = c.act_of-act.ensures.parts ns (sym B.names) }) n _ _ _ _ _ T c.pack_name-a.ensures _ (c.in-Ok.ensures.begun ns (sym B.names)) c.requires.2.for_numbers c.requires.2.for_outputs c.requires.2.for_rows (c.prepare.auto.types ∙ c.requires.2.for_numbers) c.requires.2.for_types M _ _ refl (c.put_act_locals-r.ensures ns (sym B.names)) }
+
+pub returns-in_default-clause-written : goal.returns-in_default-clause-written
+unfolding held_kind
+returns-in_default-clause-written c = λ e ns es A n B R T M. absurd (kind-some _ _ (row-held ns es _ _ _ _ B _ A _ (record { end = R.end; read = R.read; parts = c.act_of-act.ensures.parts ns (sym B.names) }) n _ _ _ _ _ T c.pack_name-a.ensures _ (c.in_default.ensures.begun ns (sym B.names)) c.requires.2.for_numbers c.requires.2.for_outputs c.requires.2.for_rows (c.prepare.auto.types ∙ c.requires.2.for_numbers) c.requires.2.for_types M))

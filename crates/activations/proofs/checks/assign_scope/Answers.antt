@@ -4,9 +4,6 @@ use Rattle.activations.proofs.PlaceLaws.{each-end, each_more}
 use Rattle.activations.proofs.CheckLaws.{equation-ended, scope-over}
 use Rattle.activations.proofs.checks.assign_scope.Goals as goal
 
-pub assign-requires : goal.assign-requires
-assign-requires c = c.requires.1
-
 pub loop-preserved : goal.loop-preserved
 loop-preserved c = λ ns e. each_more (assign_t _ _) (over_equation ns _) _ _ _ _ _ _ (left_one c.loop-test.true) (equation-ended ns _ _ _ (c.after_equation-p.ensures ns e)) c.assign.ensures (c.loop.invariant ns e)
 

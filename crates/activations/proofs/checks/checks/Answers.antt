@@ -1,29 +1,32 @@
 use Rattle.activations.proofs.CheckLaws.{branchless-is, doubled-is, misused-is, outputless-is, passed_is, unassigned-is}
+use mathlib.Core.Path.{refl}
+use Rattle.std.proofs.lemmas.Result.{err_from_is_err_and}
+use Rattle.activations.proofs.RefusalNumbers.{kind-some}
+use Rattle.activations.specs.Refusing.{checked_as, numbers_of}
 use Rattle.activations.proofs.checks.checks.Goals as goal
 
 pub returns-then-a-eq0 : goal.returns-then-a-eq0
-returns-then-a-eq0 c = λ ns e. branchless-is ns _ _ _ _ _ _ _ e c.if-a-eq0.true c.refusing.ensures
+unfolding checked_as numbers_of
+returns-then-a-eq0 c = λ ns e. branchless-is ns _ _ _ _ _ _ _ e c.if-a-eq0.true refl
 
 pub returns-then-c-eq0 : goal.returns-then-c-eq0
-returns-then-c-eq0 c = λ ns e. outputless-is ns _ _ _ _ _ _ _ _ e c.if-a-eq0.false c.number-c.ensures c.if-c-eq0.true c.refusing-then-c-eq0.ensures
-
-pub repeated-x-requires : goal.repeated-x-requires
-repeated-x-requires c = c.requires.0
+unfolding checked_as numbers_of
+returns-then-c-eq0 c = λ ns e. outputless-is ns _ _ _ _ _ _ _ _ e c.if-a-eq0.false c.number-c.ensures c.if-c-eq0.true refl
 
 pub returns-then-x-info : goal.returns-then-x-info
-returns-then-x-info c = λ ns e. doubled-is ns _ _ _ _ _ _ _ _ _ e c.if-a-eq0.false c.number-c.ensures c.if-c-eq0.false (c.repeated-x.ensures ns e) c.if-x-info.true c.refusing-then-x-info.ensures
+unfolding checked_as numbers_of
+returns-then-x-info c = λ ns e. doubled-is ns _ _ _ _ _ _ _ _ _ e c.if-a-eq0.false c.number-c.ensures c.if-c-eq0.false (c.repeated-x.ensures ns e) c.if-x-info.true refl
 
-pub in_scopes-j-requires : goal.in_scopes-j-requires
-in_scopes-j-requires c = c.requires
-
-pub returns-then-j-ne0 : goal.returns-then-j-ne0
-returns-then-j-ne0 c = λ ns e. unassigned-is ns _ _ _ _ _ _ _ _ _ e c.if-a-eq0.false c.number-c.ensures c.if-c-eq0.false (c.repeated-x.ensures ns e) c.if-x-info.false (c.in_scopes-j.ensures ns e) c.if-j-ne0.true
-
-pub any_bad_last-requires : goal.any_bad_last-requires
-any_bad_last-requires c = c.requires.0
+pub returns-in_err-in_scopes : goal.returns-in_err-in_scopes
+unfolding checked_as
+returns-in_err-in_scopes c =
+    let p = err_from_is_err_and c.from_residual.result c.from_residual.ensures.1 in
+    rw (p.1, p.2) (λ ns e. unassigned-is ns _ _ _ _ _ _ _ _ _ e c.if-a-eq0.false c.number-c.ensures c.if-c-eq0.false (c.repeated-x.ensures ns e) c.if-x-info.false (c.in_err-in_scopes.ensures ns e) (kind-some _ _))
 
 pub returns-then-any_bad_last : goal.returns-then-any_bad_last
-returns-then-any_bad_last c = λ ns e. misused-is ns _ _ _ _ _ _ _ _ _ _ _ e c.if-a-eq0.false c.number-c.ensures c.if-c-eq0.false (c.repeated-x.ensures ns e) c.if-x-info.false (c.in_scopes-j.ensures ns e) c.if-j-ne0.false (c.any_bad_last.ensures ns e) c.if-any_bad_last.true c.refusing-then-any_bad_last.ensures
+unfolding checked_as numbers_of
+returns-then-any_bad_last c = λ ns e. misused-is ns _ _ _ _ _ _ _ _ _ _ _ e c.if-a-eq0.false c.number-c.ensures c.if-c-eq0.false (c.repeated-x.ensures ns e) c.if-x-info.false (c.in_ok-in_scopes.ensures ns e) refl (c.any_bad_last.ensures ns e) c.if-any_bad_last.true refl
 
 pub returns : goal.returns
-returns c = λ ns e. passed_is ns _ _ _ _ _ _ _ _ _ _ _ e c.if-a-eq0.false c.number-c.ensures c.if-c-eq0.false (c.repeated-x.ensures ns e) c.if-x-info.false (c.in_scopes-j.ensures ns e) c.if-j-ne0.false (c.any_bad_last.ensures ns e) c.if-any_bad_last.false c.refusing-2.ensures
+unfolding checked_as numbers_of
+returns c = λ ns e. passed_is ns _ _ _ _ _ _ _ _ _ _ _ e c.if-a-eq0.false c.number-c.ensures c.if-c-eq0.false (c.repeated-x.ensures ns e) c.if-x-info.false (c.in_ok-in_scopes.ensures ns e) refl (c.any_bad_last.ensures ns e) c.if-any_bad_last.false refl

@@ -5,15 +5,6 @@ use Rattle.activations.proofs.PlaceLaws.{each_more}
 use Rattle.activations.proofs.LastLaws.{body-sought, branches-done}
 use Rattle.activations.proofs.find_lasts.find_in_bodies.Goals as goal
 
-pub branch_equations-e-requires : goal.branch_equations-e-requires
-branch_equations-e-requires c = c.requires.0
-
-pub find_in_scope-c-requires : goal.find_in_scope-c-requires
-find_in_scope-c-requires c = (c.requires.0, c.loop.invariant.0)
-
-pub after_branch-p-requires : goal.after_branch-p-requires
-after_branch-p-requires c = c.requires.0
-
 pub loop-preserved : goal.loop-preserved
 loop-preserved c = (c.find_in_scope-c.ensures.few, λ ns e. each_more (find_in_body_t ns _ _) (branch_end ns _) _ _ _ _ _ _ (left_one c.loop-test.true) (c.after_branch-p.ensures ns e) (body-sought ns _ _ _ _ _ _ (c.branch_equations-e.ensures ns e) (c.find_in_scope-c.ensures.rows ns e)) (c.loop.invariant.1 ns e))
 

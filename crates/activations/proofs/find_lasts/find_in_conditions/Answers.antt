@@ -5,12 +5,6 @@ use Rattle.activations.proofs.PlaceLaws.{each_more}
 use Rattle.activations.proofs.LastLaws.{branches-done, condition-sought}
 use Rattle.activations.proofs.find_lasts.find_in_conditions.Goals as goal
 
-pub find_lasts-c-requires : goal.find_lasts-c-requires
-find_lasts-c-requires c = (c.requires.0, c.loop.invariant.0)
-
-pub after_branch-p-requires : goal.after_branch-p-requires
-after_branch-p-requires c = c.requires.0
-
 pub loop-preserved : goal.loop-preserved
 loop-preserved c = (c.find_lasts-c.ensures.few, λ ns e. each_more (find_in_condition_t ns _ _) (branch_end ns _) _ _ _ _ _ _ (left_one c.loop-test.true) (c.after_branch-p.ensures ns e) (condition-sought ns _ _ _ _ _ _ c.number-i.ensures (c.find_lasts-c.ensures.rows ns e)) (c.loop.invariant.1 ns e))
 

@@ -5,12 +5,6 @@ use Rattle.activations.proofs.PlaceLaws.{each_more, equation-over}
 use Rattle.activations.proofs.LastLaws.{equation-sought, scope-sought}
 use Rattle.activations.proofs.find_lasts.find_in_scope.Goals as goal
 
-pub find_lasts-c-requires : goal.find_lasts-c-requires
-find_lasts-c-requires c = (c.requires.0, c.loop.invariant.0)
-
-pub after_expr-p-requires : goal.after_expr-p-requires
-after_expr-p-requires c = c.requires.0
-
 pub loop-preserved : goal.loop-preserved
 loop-preserved c = (c.find_lasts-c.ensures.few, λ ns e. each_more (find_in_equation_t ns _ _) (equation_end ns _) _ _ _ _ _ _ (left_one c.loop-test.true) (equation-over ns _ _ _ _ (c.right_side-e.ensures ns e) (c.after_expr-p.ensures ns e)) (equation-sought ns _ _ _ _ _ _ (c.right_side-e.ensures ns e) (c.find_lasts-c.ensures.rows ns e)) (c.loop.invariant.1 ns e))
 

@@ -4,8 +4,5 @@ use Rattle.activations.proofs.flags.put_none_flag.Goals as goal
 pub returns-then-n-le1 : goal.returns-then-n-le1
 returns-then-n-le1 c = λ ns e. untaken-none _ _ ns _ _ _ _ _ _ _ c.if-n-le1.true
 
-pub rewrite_last-requires : goal.rewrite_last-requires
-rewrite_last-requires c = c.requires.0
-
 pub returns : goal.returns
 returns c = λ ns e. untaken-some _ _ ns _ _ _ _ _ _ _ _ _ _ _ c.if-n-le1.false c.put_left-c.ensures c.put_prior-d.ensures (c.put_bytes-e.ensures _) (c.rewrite_last.ensures ns e)

@@ -1,10 +1,6 @@
 use native.Mathlib.Omega.{arith}
-use lib.ListN.{length-take}
 use Rattle.activations.proofs.ReadLaws.{push-full, push-room, push-there}
 use Rattle.activations.proofs.free_vars.push.Goals as goal
-
-pub slice_bounds-is_in-end-2 : goal.slice_bounds-is_in-end-2
-slice_bounds-is_in-end-2 c = simp length-take (omega (arith, c.requires.n_bound))
 
 pub returns-then-is_in : goal.returns-then-is_in
 returns-then-is_in c = (c.requires.n_bound, push-there c.args.t.now c.args.n c.args.x _ c.is_in.ensures c.if-is_in.true)

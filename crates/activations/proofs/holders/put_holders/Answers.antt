@@ -1,21 +1,8 @@
 use Rattle.activations.proofs.Counting.{each_on, left_none, left_one, stopped}
-use native.Mathlib.Omega.{arith}
 use Rattle.machines.proofs.AddedLaws.{each_none}
 use Rattle.activations.specs.HoldersAt.{row_items}
 use Rattle.activations.proofs.HolderLaws.{row-items}
 use Rattle.activations.proofs.holders.put_holders.Goals as goal
-
-pub overflow_mul-h : goal.overflow_mul-h
-overflow_mul-h c = omega (arith, (left_one c.loop-h-test.true))
-
-pub overflow_mul-h-in-loop-h : goal.overflow_mul-h-in-loop-h
-overflow_mul-h-in-loop-h c = omega (arith, (left_one c.loop-h-test.true))
-
-pub overflow_mul-h-in-loop-h-2 : goal.overflow_mul-h-in-loop-h-2
-overflow_mul-h-in-loop-h-2 c = omega (arith, (left_one c.loop-h-test.true))
-
-pub put_holder-u-requires : goal.put_holder-u-requires
-put_holder-u-requires c = c.requires.0
 
 pub loop-h-preserved : goal.loop-h-preserved
 loop-h-preserved c = λ ns e. each_on c.args.old.now (row_items ns c.args.pack.now c.args.info c.args.offsets.now c.args.a.now c.args.types.now c.args.lasts.now) c.loop-h.h _ _ _ _ (left_one c.loop-h-test.true) (row-items ns _ _ _ _ _ c.args.types.now c.args.lasts.now c.loop-h.h _ _ _ _ _ _ c.word-v.ensures.1 c.word-i.ensures.1 c.word.ensures.1 c.cell-c.ensures (c.put_holder-u.ensures ns e)) (c.loop-h.invariant ns e)

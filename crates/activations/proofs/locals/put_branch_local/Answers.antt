@@ -4,8 +4,5 @@ use Rattle.wire.specs.Writer.{puts}
 use Rattle.activations.proofs.LocalLaws.{branch-local-is}
 use Rattle.activations.proofs.locals.put_branch_local.Goals as goal
 
-pub put_local-requires : goal.put_local-requires
-put_local-requires c = c.requires.0
-
 pub returns : goal.returns
 returns c = λ ns e. branch-local-is ns _ _ _ _ _ _ _ _ _ (c.put_branch_text-t.ensures [] ∙ ap (puts _) (c.start.ensures _ [])) (c.put_local.ensures ns e)

@@ -1,10 +1,6 @@
 use Rattle.activations.proofs.Counting.{left_none, left_one}
-use native.Mathlib.Omega.{arith}
 use Rattle.activations.proofs.LocalLaws.{clocks-done, clocks-more}
 use Rattle.activations.proofs.locals.put_guard_locals.Goals as goal
-
-pub put_branch_local-q-requires : goal.put_branch_local-q-requires
-put_branch_local-q-requires c = (c.requires.0, omega (arith, (left_one c.loop-k-test.true), c.requires.1))
 
 pub loop-k-preserved : goal.loop-k-preserved
 loop-k-preserved c = λ ns e. clocks-more ns _ _ _ _ _ _ _ _ _ (left_one c.loop-k-test.true) (c.put_branch_local-q.ensures ns e) (c.loop-k.invariant ns e)

@@ -1,14 +1,15 @@
-use Rattle.activations.proofs.PreparedLaws.{begun-is}
+use Rattle.std.proofs.lemmas.Result.{err_from_is_err_and}
+use Rattle.activations.specs.PreparedAt.{rows_or}
+use Rattle.activations.specs.Refusing.{held_kind, held_var}
+use Rattle.activations.proofs.PreparedLaws.{begun-is, begun-stopped}
 use Rattle.activations.proofs.lower.prepare.Goals as goal
 
-pub note_outputs-requires : goal.note_outputs-requires
-note_outputs-requires c = c.requires.0
+pub returns-in_err-type_holders-clause-begun : goal.returns-in_err-type_holders-clause-begun
+unfolding held_kind held_var rows_or
+returns-in_err-type_holders-clause-begun c =
+    let p = err_from_is_err_and c.from_residual.result c.from_residual.ensures.1 in
+    rw (p.1, p.2) (λ ns e. begun-stopped ns _ _ _ _ _ _ _ _ _ _ _ _ _ _ _ c.copy.ensures (c.note_outputs.ensures ns e) (c.find_all_lasts-rows.ensures.rows ns e) (c.in_err-type_holders.ensures.held ns e))
 
-pub find_all_lasts-rows-requires : goal.find_all_lasts-rows-requires
-find_all_lasts-rows-requires c = c.requires.0
-
-pub type_holders-h-requires : goal.type_holders-h-requires
-type_holders-h-requires c = (c.requires.1, c.find_all_lasts-rows.ensures.few)
-
-pub returns : goal.returns
-returns c = record { few = c.find_all_lasts-rows.ensures.few; begun = λ ns e. begun-is ns _ _ _ _ _ _ _ _ _ _ _ _ _ _ _ _ _ c.copy.ensures (c.note_outputs.ensures ns e) (c.find_all_lasts-rows.ensures.rows ns e) (c.type_holders-h.ensures ns e) }
+pub returns-clause-begun : goal.returns-clause-begun
+unfolding held_kind held_var rows_or
+returns-clause-begun c = λ ns e. begun-is ns _ _ _ _ _ _ _ _ _ _ _ _ _ _ _ c.copy.ensures (c.note_outputs.ensures ns e) (c.find_all_lasts-rows.ensures.rows ns e) (c.in_ok-type_holders.ensures.held ns e)

@@ -1,31 +1,12 @@
-use mathlib.Core.Path.{refl, sym, ◌∙◌}
+use mathlib.Core.Path.{sym}
 use native.Mathlib.Omega.{arith}
 use Rattle.machines.proofs.CheckedReadLaws.{number_small}
-use Rattle.activations.proofs.Prepared.{scratch-kept}
 use Rattle.activations.proofs.NodesJudged.{read-types}
 use Rattle.activations.proofs.NodesWritten.{head-written}
 use Rattle.activations.proofs.nodes.put_head.Goals as goal
 
-pub to_node_locals-l-requires : goal.to_node_locals-l-requires
-to_node_locals-l-requires c = c.requires.0
-
-pub after_ports-e-requires : goal.after_ports-e-requires
-after_ports-e-requires c = c.requires.0
-
-pub added_locals-more-requires : goal.added_locals-more-requires
-added_locals-more-requires c = omega (arith, c.requires.2)
-
 pub overflow_add-c : goal.overflow_add-c
 overflow_add-c c = omega (arith, c.added_locals-more.ensures.0, number_small _ _ _ (λ i. omega (arith, c.type_inv.pack i)) c.number-c.ensures)
-
-pub note_variables-requires : goal.note_variables-requires
-note_variables-requires c = c.requires.0
-
-pub put_added_locals-requires : goal.put_added_locals-requires
-put_added_locals-requires c = (c.requires.0, c.requires.1, c.requires.2, (scratch-kept _ _ _ _ _ _ _ _ _ _ _ _ c.requires.3 c.note_variables.auto.types refl refl refl refl refl))
-
-pub shape_of-out : goal.shape_of-out
-shape_of-out c = c.put_added_locals.auto.out ∙ c.put_bytes-g.auto.out ∙ c.put_u16-f.auto.out ∙ c.put_bytes-d.auto.out
 
 pub returns : goal.returns
 returns c = λ ns es N As m B R D L M C. head-written ns es _ _ _ _ B N As _ m _ R _ D _ L M C _ _ _ _ _ _ _ _ _ _ _ (c.to_node_locals-l.ensures ns (sym B.names)) (c.after_ports-e.ensures ns (sym B.names)) c.number-c.ensures c.added_locals-more.ensures.1 c.between.ensures (c.put_bytes-d.ensures _) (c.put_u16-f.ensures _) c.between-2.ensures (c.put_bytes-g.ensures _) (c.put_added_locals.ensures ns es N As m B D L M (read-types ns es _ _ _ _ B m _ R _ _ c.requires.3.for_types (c.note_variables.ensures ns (sym B.names))))

@@ -4,13 +4,9 @@ use lib.ListN.{length}
 use Rattle.machines.proofs.ReceiverLaws.{next-idle}
 use Rattle.activations.specs.ActTable.{goal_t}
 use Rattle.activations.proofs.Splits.{among}
-use Rattle.activations.proofs.Prepared.{scratch-kept}
 use Rattle.activations.proofs.NodesWritten.{node-counted, node_made, node-read, nodes-done, nodes-next}
 use Rattle.activations.proofs.Counting.{stopped}
 use Rattle.activations.proofs.nodes.put_nodes.Goals as goal
-
-pub put_next-v-requires : goal.put_next-v-requires
-put_next-v-requires c = (c.requires.0, c.requires.1, c.requires.2, scratch-kept _ _ _ _ _ _ _ _ _ _ _ _ c.requires.3 c.loop-k.auto.later c.loop-k.auto.types c.loop-k.auto.outs c.loop-k.auto.lasts c.loop-k.auto.reads c.loop-k.auto.sampled)
 
 pub loop-k-preserved : goal.loop-k-preserved
 loop-k-preserved c = (λ j l q. next-idle (goal_t _) _ _ _ _ c.next_receiver-next.ensures c.loop-k.invariant.0 j l (omega (arith, q)), λ ns es N As f S B. let z : c.loop-k.k < length N = omega (arith, c.loop-k-test.true, S.many) in let x = among N c.loop-k.k z in nodes-next ns _ es N As f _ _ _ _ S _ _ x _ _ _ (c.put_next-v.ensures ns es N As x.it B (node-read ns _ es N As f _ _ _ _ S _ x _ c.cell-at.ensures) S.drawn S.count (node_made ns _ es N As f _ _ _ _ S _ x) (node-counted ns _ es N As f _ _ _ _ S _ x) (next-idle (goal_t _) _ _ _ _ c.next_receiver-next.ensures c.loop-k.invariant.0)) (c.loop-k.invariant.1 ns es N As f S B))

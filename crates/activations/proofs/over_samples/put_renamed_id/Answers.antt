@@ -1,8 +1,13 @@
+use native.Mathlib.Omega.{arith}
+use mathlib.Core.Path.{refl}
+use Rattle.activations.specs.OverSamplesAt.{number_or}
 use Rattle.activations.proofs.OverSampleLaws.{chosen-sample, chosen-stays}
 use Rattle.activations.proofs.over_samples.put_renamed_id.Goals as goal
 
-pub returns-then-y-eq-NO_NUMBER : goal.returns-then-y-eq-NO_NUMBER
-returns-then-y-eq-NO_NUMBER c = chosen-stays _ _ _ _ _ _ _ _ _ _ _ _ _ c.renamed-y.ensures c.if-y-eq-NO_NUMBER.true c.put_id.ensures
+pub returns-in-None : goal.returns-in-None
+unfolding number_or
+returns-in-None c = chosen-stays _ _ _ _ _ _ _ _ _ _ _ _ _ c.in-None.ensures.value refl c.put_id.ensures
 
-pub returns : goal.returns
-returns c = chosen-sample _ _ _ _ _ _ _ _ _ _ _ _ _ c.renamed-y.ensures c.if-y-eq-NO_NUMBER.false c.put_sample_of.ensures
+pub returns-in-Some : goal.returns-in-Some
+unfolding number_or
+returns-in-Some c = let s = c.in-Some.ensures.small in chosen-sample _ _ _ _ _ _ _ _ _ _ _ _ _ c.in-Some.ensures.value (λ e. omega (arith, s, e)) c.put_sample_of.ensures

@@ -14,11 +14,5 @@ loop-c-smaller c = left-falls _ c.put_node_sampled-v.result _ _ _ _ _ c.loop-c-t
 pub loop-c-preserved : goal.loop-c-preserved
 loop-c-preserved c = (c.put_node_sampled-v.auto.out ∙ c.loop-c.invariant.0, c.put_node_sampled-v.auto.made ∙ c.loop-c.invariant.1, λ ns e. write-on ns _ _ _ (sampled_constant_items c.args.pack.now c.args.offsets.now c.args.a.now c.args.n c.args.k) _ _ _ _ _ _ _ _ c.put_node_sampled-v.result _ _ c.loop-c-test.true (c.read_expr_node-m.ensures ns e) c.put_node_sampled-v.ensures c.open.ensures c.remaining-c.ensures c.onward-p.ensures (c.loop-c.invariant.2 ns e))
 
-pub shape_of-out : goal.shape_of-out
-shape_of-out c = c.loop-c.invariant.0
-
-pub shape_of-made : goal.shape_of-made
-shape_of-made c = c.loop-c.invariant.1
-
 pub returns : goal.returns
 returns c = λ ns e. pin-done _ _ _ _ _ _ ns _ _ _ _ _ _ c.loop-c-test.false (c.loop-c.invariant.2 ns e)

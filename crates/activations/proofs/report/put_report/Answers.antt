@@ -4,9 +4,6 @@ use Rattle.machines.proofs.ReportingLaws.{count-more, over_last, over-next, repo
 use Rattle.activations.proofs.ReportLaws.{room-left, room-now}
 use Rattle.activations.proofs.report.put_report.Goals as goal
 
-pub put_count-requires : goal.put_count-requires
-put_count-requires c = omega (arith, c.requires)
-
 pub put_refusal-e-requires : goal.put_refusal-e-requires
 put_refusal-e-requires c = room-now _ _ _ _ _ _ (c.loop-i.auto.report ∙ c.put_count.auto.report) c.requires c.loop-i.invariant.0 c.loop-i-test.true
 

@@ -4,9 +4,6 @@ use mathlib.Core.Path.{refl, ap}
 use Rattle.machines.proofs.ReportingLaws.{count-done, count-more}
 use Rattle.activations.proofs.report.report_len.Goals as goal
 
-pub overflow_add-c : goal.overflow_add-c
-overflow_add-c c = omega (arith, c.loop-i.invariant.0, c.refusal_len-c.ensures.0, c.loop-i-test.true, c.requires.1)
-
 pub loop-i-preserved : goal.loop-i-preserved
 loop-i-preserved c = (omega (arith, c.loop-i.invariant.0, c.refusal_len-c.ensures.0), count-more _ _ _ _ _ _ _ c.loop-i-test.true refl (ap (λ y. c.loop-i.c + y) c.refusal_len-c.ensures.1) c.loop-i.invariant.1)
 

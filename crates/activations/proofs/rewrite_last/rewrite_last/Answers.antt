@@ -14,11 +14,5 @@ loop-n-smaller c = left-falls _ c.rewrite_node-v.result _ _ _ _ _ c.loop-n-test.
 pub loop-n-preserved : goal.loop-n-preserved
 loop-n-preserved c = (c.rewrite_node-v.auto.out ∙ c.loop-n.invariant.0, c.rewrite_node-v.auto.made ∙ c.loop-n.invariant.1, λ ns e. write-on ns _ _ _ (met_items _ _ _) _ _ _ _ _ _ _ _ c.rewrite_node-v.result _ _ c.loop-n-test.true (c.read_expr_node-m.ensures ns e) c.rewrite_node-v.ensures c.open.ensures c.remaining-n.ensures c.onward-p.ensures (c.loop-n.invariant.2 ns e))
 
-pub shape_of-out : goal.shape_of-out
-shape_of-out c = c.loop-n.invariant.0
-
-pub shape_of-made : goal.shape_of-made
-shape_of-made c = c.loop-n.invariant.1
-
 pub returns : goal.returns
 returns c = λ ns e. unlast-done _ _ _ _ ns _ _ _ _ _ _ c.loop-n-test.false (c.loop-n.invariant.2 ns e)

@@ -1,11 +1,7 @@
 use Rattle.activations.proofs.Counting.{each_on, left_none, left_one, stopped}
-use native.Mathlib.Omega.{arith}
 use Rattle.activations.specs.OriginsAt.{origin_t}
 use Rattle.machines.proofs.AddedLaws.{each_none}
 use Rattle.activations.proofs.sections.put_origins.Goals as goal
-
-pub put_origin-v-requires : goal.put_origin-v-requires
-put_origin-v-requires c = (c.requires.0, omega (arith, (left_one c.loop-i-test.true), c.requires.1))
 
 pub loop-i-preserved : goal.loop-i-preserved
 loop-i-preserved c = λ ns e. each_on _ (origin_t ns _ _ _) _ _ _ _ _ (left_one c.loop-i-test.true) (c.put_origin-v.ensures ns e) (c.loop-i.invariant ns e)

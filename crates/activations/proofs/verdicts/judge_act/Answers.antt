@@ -1,52 +1,29 @@
-use mathlib.Core.Path.{sym, ◌∙◌}
+use mathlib.Core.Path.{refl, ap, sym, ◌∙◌}
 use native.Mathlib.Omega.{arith}
 use Rattle.activations.proofs.ActJudged.{judge-checked, judge-leftless, judge-made, judge-unheld}
+use Rattle.std.proofs.lemmas.Result.{err_from_is_err_and}
+use Rattle.activations.specs.PreparedAt.{rows_or}
+use Rattle.activations.specs.Refusing.{OfVariable, checked_as, held_kind, held_var, numbers_of}
+use Rattle.activations.specs.Verdicts.{locals_of, refused_in, row_judged, row_refused}
+use Rattle.activations.proofs.RefusalNumbers.{kind-some}
 use Rattle.activations.proofs.verdicts.judge_act.Goals as goal
 
-pub checks-c-requires : goal.checks-c-requires
-checks-c-requires c = (c.requires.0, c.requires.2, omega (arith, c.requires.1))
+pub returns-in_err-checks : goal.returns-in_err-checks
+unfolding checked_as row_judged row_refused locals_of
+returns-in_err-checks c =
+    let p = err_from_is_err_and c.from_residual.result c.from_residual.ensures.1 in
+    rw (p.1, p.2) (λ ns es at A n B R T. judge-checked ns es _ _ _ _ B at A _ R n _ T _ _ _ (omega (arith, c.requires.3.for_numbers)) c.requires.3.for_outputs (c.in_err-checks.ensures ns (sym B.names)) (kind-some _ _) _ _ refl refl)
 
-pub refuse-requires : goal.refuse-requires
-refuse-requires c = c.requires.1
-
-pub returns-then-c-ne0 : goal.returns-then-c-ne0
-returns-then-c-ne0 c = λ ns es at A n B R T. judge-checked ns es _ _ _ _ B at A _ R n _ T _ _ _ (omega (arith, c.requires.3.for_numbers)) c.requires.3.for_outputs (c.checks-c.ensures ns (sym B.names)) c.if-c-ne0.true _ _ c.refuse.ensures.0 c.refuse.ensures.1
-
-pub prepare-h-requires : goal.prepare-h-requires
-prepare-h-requires c = (c.requires.0, c.requires.1)
-
-pub refuse-requires-then-h-ne0 : goal.refuse-requires-then-h-ne0
-refuse-requires-then-h-ne0 c = c.requires.1
-
-pub shape_of-types-then-h-ne0 : goal.shape_of-types-then-h-ne0
-shape_of-types-then-h-ne0 c = c.prepare-h.auto.types ∙ c.checks-c.auto.marks
-
-pub returns-then-h-ne0 : goal.returns-then-h-ne0
-returns-then-h-ne0 c = λ ns es at A n B R T. judge-unheld ns es _ _ _ _ B at A _ R n _ T _ _ _ (omega (arith, c.requires.3.for_numbers)) c.requires.3.for_outputs (c.checks-c.ensures ns (sym B.names)) c.if-c-ne0.false _ _ _ _ c.pack_name-a.ensures _ (c.prepare-h.ensures.begun ns (sym B.names)) (c.checks-c.auto.marks ∙ c.requires.3.for_numbers) (omega (arith, c.checks-c.auto.sampled, c.requires.3.for_outputs)) c.requires.3.for_rows c.if-h-ne0.true _ _ c.refuse-then-h-ne0.ensures.0 c.refuse-then-h-ne0.ensures.1
-
-pub has_empty_left-requires : goal.has_empty_left-requires
-has_empty_left-requires c = c.requires.0
-
-pub refuse-requires-then-has_empty_left : goal.refuse-requires-then-has_empty_left
-refuse-requires-then-has_empty_left c = c.requires.1
-
-pub shape_of-types-then-has_empty_left : goal.shape_of-types-then-has_empty_left
-shape_of-types-then-has_empty_left c = c.prepare-h.auto.types ∙ c.checks-c.auto.marks
-
-pub shape_of-outs-then-has_empty_left : goal.shape_of-outs-then-has_empty_left
-shape_of-outs-then-has_empty_left c = c.prepare-h.auto.outs ∙ c.checks-c.auto.sampled
+pub returns-in_err-rows : goal.returns-in_err-rows
+unfolding checked_as row_judged row_refused locals_of held_kind held_var OfVariable
+returns-in_err-rows c =
+    let p = err_from_is_err_and c.from_residual-in_err-rows.result c.from_residual-in_err-rows.ensures.1 in
+    rw (p.1, p.2) (λ ns es at A n B R T. judge-unheld ns es _ _ _ _ B at A _ R n _ T _ _ _ (omega (arith, c.requires.3.for_numbers)) c.requires.3.for_outputs (c.in_ok-checks.ensures ns (sym B.names)) refl _ _ _ _ c.pack_name-a.ensures _ (c.in_err-rows.ensures.begun ns (sym B.names)) (c.checks.auto.marks ∙ c.requires.3.for_numbers) (omega (arith, c.checks.auto.sampled, c.requires.3.for_outputs)) c.requires.3.for_rows (kind-some _ _) _ _ (ap (refused_in _ _ _) (c.in_err-rows.ensures.alone _)) refl)
 
 pub returns-then-has_empty_left : goal.returns-then-has_empty_left
-returns-then-has_empty_left c = λ ns es at A n B R T. judge-leftless ns es _ _ _ _ B at A _ R n _ T _ _ _ (omega (arith, c.requires.3.for_numbers)) c.requires.3.for_outputs (c.checks-c.ensures ns (sym B.names)) c.if-c-ne0.false _ _ _ _ c.pack_name-a.ensures _ (c.prepare-h.ensures.begun ns (sym B.names)) (c.checks-c.auto.marks ∙ c.requires.3.for_numbers) (omega (arith, c.checks-c.auto.sampled, c.requires.3.for_outputs)) c.requires.3.for_rows c.if-h-ne0.false _ (c.has_empty_left.ensures ns (sym B.names)) c.if-has_empty_left.true _ _ c.refuse-then-has_empty_left.ensures.0 c.refuse-then-has_empty_left.ensures.1
-
-pub count_and_type_locals-n-requires : goal.count_and_type_locals-n-requires
-count_and_type_locals-n-requires c = (c.requires.0, omega (arith, c.prepare-h.ensures.few), c.requires.3.for_reads, c.requires.3.for_seen, c.requires.2)
-
-pub shape_of-types : goal.shape_of-types
-shape_of-types c = c.prepare-h.auto.types ∙ c.checks-c.auto.marks
-
-pub shape_of-outs : goal.shape_of-outs
-shape_of-outs c = c.prepare-h.auto.outs ∙ c.checks-c.auto.sampled
+unfolding checked_as row_judged row_refused numbers_of locals_of held_kind
+returns-then-has_empty_left c = λ ns es at A n B R T. judge-leftless ns es _ _ _ _ B at A _ R n _ T _ _ _ (omega (arith, c.requires.3.for_numbers)) c.requires.3.for_outputs (c.in_ok-checks.ensures ns (sym B.names)) refl _ _ _ _ c.pack_name-a.ensures _ (c.in_ok-rows.ensures.begun ns (sym B.names)) (c.checks.auto.marks ∙ c.requires.3.for_numbers) (omega (arith, c.checks.auto.sampled, c.requires.3.for_outputs)) c.requires.3.for_rows refl _ (c.has_empty_left.ensures ns (sym B.names)) c.if-has_empty_left.true _ _ refl refl
 
 pub returns : goal.returns
-returns c = λ ns es at A n B R T. judge-made ns es _ _ _ _ B at A _ R n _ T _ _ _ (omega (arith, c.requires.3.for_numbers)) c.requires.3.for_outputs (c.checks-c.ensures ns (sym B.names)) c.if-c-ne0.false _ _ _ _ c.pack_name-a.ensures _ (c.prepare-h.ensures.begun ns (sym B.names)) (c.checks-c.auto.marks ∙ c.requires.3.for_numbers) (omega (arith, c.checks-c.auto.sampled, c.requires.3.for_outputs)) c.requires.3.for_rows c.if-h-ne0.false _ (c.has_empty_left.ensures ns (sym B.names)) c.if-has_empty_left.false (c.prepare-h.auto.types ∙ c.checks-c.auto.marks ∙ c.requires.3.for_numbers) c.requires.3.for_types _ _ _ c.refusing.ensures (c.count_and_type_locals-n.ensures ns (sym B.names))
+unfolding checked_as row_judged locals_of held_kind rows_or
+returns c = λ ns es at A n B R T. judge-made ns es _ _ _ _ B at A _ R n _ T _ _ _ (omega (arith, c.requires.3.for_numbers)) c.requires.3.for_outputs (c.in_ok-checks.ensures ns (sym B.names)) refl _ _ _ _ c.pack_name-a.ensures _ (c.in_ok-rows.ensures.begun ns (sym B.names)) (c.checks.auto.marks ∙ c.requires.3.for_numbers) (omega (arith, c.checks.auto.sampled, c.requires.3.for_outputs)) c.requires.3.for_rows refl _ (c.has_empty_left.ensures ns (sym B.names)) c.if-has_empty_left.false (c.prepare.auto.types ∙ c.checks.auto.marks ∙ c.requires.3.for_numbers) c.requires.3.for_types _ _ _ refl (c.count_and_type_locals-locals.ensures ns (sym B.names))

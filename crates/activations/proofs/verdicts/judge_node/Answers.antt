@@ -3,11 +3,7 @@ use mathlib.Core.Path.{refl}
 use native.Mathlib.Omega.{arith}
 use lib.ListN.{length}
 use Rattle.activations.proofs.NodesJudged.{going_done, going_start, going_step, here-read}
-use Rattle.activations.proofs.Prepared.{scratch-kept}
 use Rattle.activations.proofs.verdicts.judge_node.Goals as goal
-
-pub judge_row-requires : goal.judge_row-requires
-judge_row-requires c = (c.requires.0, c.requires.1, (scratch-kept _ _ _ _ _ _ _ _ _ _ _ _ c.requires.4 c.loop-i.auto.later c.loop-i.auto.types c.loop-i.auto.outs c.loop-i.auto.lasts c.loop-i.auto.reads c.loop-i.auto.sampled))
 
 pub loop-i-init : goal.loop-i-init
 loop-i-init c = λ ns es N As m f D B L T. going_start ns _ es N As f _ m _ D _ T

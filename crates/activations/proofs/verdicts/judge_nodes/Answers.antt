@@ -1,17 +1,10 @@
 use Prim.Native.Nat.{◌<◌, ◌≤◌}
-use mathlib.Core.Path.{sym, ◌∙◌}
+use mathlib.Core.Path.{sym}
 use native.Mathlib.Omega.{arith}
 use lib.ListN.{length}
 use Rattle.activations.proofs.Splits.{among}
-use Rattle.activations.proofs.Prepared.{scratch-kept}
 use Rattle.activations.proofs.NodesJudged.{node-types, passing-done, passing-drawn, passing-start, passing_step}
 use Rattle.activations.proofs.verdicts.judge_nodes.Goals as goal
-
-pub note_variables-requires : goal.note_variables-requires
-note_variables-requires c = c.requires.0
-
-pub judge_node-requires : goal.judge_node-requires
-judge_node-requires c = (c.requires.0, c.requires.1, c.requires.2, omega (arith, c.loop-k.auto.acts, c.requires.3), (scratch-kept _ _ _ _ _ _ _ _ _ _ _ _ c.requires.4 (c.note_variables.auto.types ∙ c.loop-k.auto.later) c.loop-k.auto.types c.loop-k.auto.outs c.loop-k.auto.lasts c.loop-k.auto.reads c.loop-k.auto.sampled))
 
 pub loop-k-init : goal.loop-k-init
 loop-k-init c = λ ns es N As f D B F L l. passing-start ns _ es N As f _ D

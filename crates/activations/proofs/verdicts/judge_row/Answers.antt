@@ -1,15 +1,15 @@
-use mathlib.Core.Path.{refl, sym, ◌∙◌}
-use native.Mathlib.Omega.{arith}
+use mathlib.Core.Path.{sym, ◌∙◌}
+use mathlib.Core.Path.{ap, ◌∙◌}
+use Rattle.activations.specs.declared.checks.Refused.{Refused}
+use Rattle.activations.specs.ActTable.{judged_t}
+use Rattle.activations.specs.ChecksAt.{refused_t}
+use Rattle.activations.specs.Verdicts.{locals_of, row_judged, row_refused}
 use Rattle.activations.proofs.verdicts.judge_row.Goals as goal
 
-pub returns-then-g-k : goal.returns-then-g-k
-returns-then-g-k c = record { past = λ d. (refl, refl); judged = λ e. absurd (c.if-g-k.true (c.act_node-g.ensures.1 ∙ e)) }
+pub returns-in-Ok-clause-judged : goal.returns-in-Ok-clause-judged
+unfolding row_judged locals_of
+returns-in-Ok-clause-judged c = λ e ns es A n B R T. record { refused = refused_t 0 c.args.info.names c.args.info.names; locals = c.in-Ok.locals; judged = c.in-Ok.ensures ns es _ A n B (record { end = R.end; read = R.read; parts = c.act_of-act.ensures.parts ns (sym B.names) }) T; put = c.put_judged.ensures ∙ ap (λ (r : Refused). judged_t c.args.acts.now c.args.i r c.in-Ok.locals) c.refusing.ensures }
 
-pub act_of-act-requires : goal.act_of-act-requires
-act_of-act-requires c = c.requires.0
-
-pub judge_act-j-requires : goal.judge_act-j-requires
-judge_act-j-requires c = (c.requires.0, c.requires.1, omega (arith, c.act_of-act.ensures.few), c.requires.2)
-
-pub returns : goal.returns
-returns c = record { past = λ d. absurd (d (sym c.act_node-g.ensures.1 ∙ c.if-g-k.false)); judged = λ e ns es A n B R T. record { refused = _; locals = _; judged = c.judge_act-j.ensures ns es _ A n B (record { end = R.end; read = R.read; parts = c.act_of-act.ensures.parts ns (sym B.names) }) T; put = c.put_judged.ensures } }
+pub returns-in-Err-clause-judged : goal.returns-in-Err-clause-judged
+unfolding row_judged locals_of
+returns-in-Err-clause-judged c = λ e ns es A n B R T. record { refused = row_refused c.args.info.names c.in-Err.r; locals = 0; judged = c.in-Err.ensures ns es _ A n B (record { end = R.end; read = R.read; parts = c.act_of-act.ensures.parts ns (sym B.names) }) T; put = c.put_judged-in-Err.ensures ∙ ap (λ (r : Refused). judged_t c.args.acts.now c.args.i r 0) c.refuse.ensures }

@@ -1,8 +1,0 @@
-use Rattle.activations.proofs.CheckLaws.{all-over}
-use Rattle.activations.proofs.checks.assign_all.Goals as goal
-
-pub assign_scope-requires : goal.assign_scope-requires
-assign_scope-requires c = c.requires
-
-pub returns : goal.returns
-returns c = λ ns e. all-over ns _ _ _ _ _ _ _ e c.clear.ensures (c.assign_branches.ensures ns e) (c.assign_scope.ensures ns e)
