@@ -23,6 +23,7 @@ ghost use Rattle.machine_rules.specs.Call.{lower_machines, lower_package_machine
 
 use crate::added::small;
 use crate::checked_read::number;
+use crate::drawing::Drawing;
 use crate::layout::between;
 use crate::memo::fill_memo;
 use crate::owners::{assign_nodes, place_nodes, refused_count};
@@ -63,7 +64,15 @@ fn fill_tables(
     let n = small(m.value);
     place_names(pack, sections.names, offsets);
     fill_memo(pack, sections.names, offsets, sections.machines, memo);
-    place_machines(pack, sections.names, memo, sections.machines, machines);
+    place_machines(
+        &Drawing {
+            pack,
+            names: sections.names,
+            memo,
+        },
+        sections.machines,
+        machines,
+    );
     place_nodes(pack, sections.names, old, c.next, nodes);
     judge_all(
         pack,

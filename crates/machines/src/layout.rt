@@ -18,7 +18,7 @@ ghost use Rattle.machines.specs.Layout.{holed, slice_of};
 ghost use Rattle.machines.specs.EmitAt.{letters_at, pack_name};
 
 use crate::checked_read::{number, read_or_zero};
-use crate::memo::inside_of;
+use crate::drawing::Drawing;
 use crate::resolve::{open_regions, run_length};
 use crate::table::{name_len, put};
 use pack::cells::{byte_at, cell, set_byte};
@@ -275,7 +275,7 @@ fn open_state(
     let i = number(pack, c.next);
     let w = qualify(pack, offsets, i.value, a, m, qualified, c.letters);
     let l = saturating_add(c.letters, 1);
-    let d = inside_of(pack, names, memo, c.next);
+    let d = Drawing { pack, names, memo }.inside_of(c.next);
     put_state_row(layout, c.words, c.next, d.moves, l, w);
     let n = d.regions;
     Entered {

@@ -12,17 +12,15 @@ ghost use Rattle.machines.specs.Memo.{beside_in, kept_in, longest_in, moves_in, 
 ghost use Rattle.wire.specs.Answer.{Answer, below, counted, many};
 ghost use Rattle.wire.specs.Code.{onward};
 ghost use Rattle.pack_rules.specs.Names.{Name};
-ghost use Rattle.pack_rules.specs.Read.{OneRegion, equation_in, expr_in, name_in, region_at, state_at, state_with, transition_in};
+ghost use Rattle.pack_rules.specs.Read.{OneRegion, equation_in, name_in, region_at, state_with, transition_in};
 ghost use Rattle.pack_rules.specs.Limits.{max_bytes, max_level};
 ghost use Rattle.machines.specs.ResolvedIn.{end_of, over_in};
-ghost use Rattle.machines.specs.LayoutAt.{moves_at, regions_at};
-ghost use Rattle.machines.specs.MemoSound.{MemoSound, RowsSound};
+ghost use Rattle.machines.specs.MemoSound.{MemoSound};
 ghost use Rattle.machines.specs.UnknownTargets.{IsDrawn, drawn_state, target_d, unknown_target_d};
 ghost use Rattle.machines.specs.StateHeads.{head_of};
 
-use crate::checked_read::{
-    after_equation, after_equations, after_expr, after_state, after_transitions, machine, number,
-};
+use crate::checked_read::{after_equation, machine, number};
+use crate::drawing::Drawing;
 use crate::resolve::{empty_run_from, read_state_head};
 use crate::table::to_initial;
 use pack::cells::{cell, put_cell};
@@ -142,97 +140,6 @@ pub fn memo_put_state(memo: &mut [u16], p: usize, l: usize, m: usize, o: usize, 
     put_cell(memo, b + 4, r);
 }
 
-// --- Looked up where it is kept, and read where it is not: where an equation and a guard end, where a state's transitions and its
-// regions are, and where it ends, alone or with those after it.
-
-// Of a state: where its transitions begin; how many regions it has, and where they are.
-#[derive(Clone, Copy)]
-pub struct Inside {
-    pub moves: usize,
-    pub regions: Number,
-}
-
-// Past the equation at `at`.
-pub fn end_of(pack: &[u8], names: usize, memo: &[u16], at: usize) -> usize
-    requires { (length pack.now ≤ max_bytes) × RowsSound pack.now names memo.now }
-    ensures { (ns : List Name) → length ns ≡ names → result ≡ end_of (equation_in ns pack.now at) }
-{
-    let e = memo_at(memo, at, EQUATION);
-    if 0 < e {
-        return e;
-    }
-    after_equation(pack, names, at)
-}
-
-// Past the guard at `at`.
-pub fn guard_end(pack: &[u8], names: usize, memo: &[u16], at: usize) -> usize
-    requires { (length pack.now ≤ max_bytes) × RowsSound pack.now names memo.now }
-    ensures { (ns : List Name) → length ns ≡ names → result ≡ end_of (expr_in ns pack.now at) }
-{
-    let e = memo_at(memo, at, GUARD);
-    if 0 < e {
-        return e;
-    }
-    after_expr(pack, names, at)
-}
-
-// Where the transitions of the state at `at` begin.
-pub fn moves_of(pack: &[u8], names: usize, memo: &[u16], at: usize) -> usize
-    requires { (length pack.now ≤ max_bytes) × RowsSound pack.now names memo.now }
-    ensures { (ns : List Name) → length ns ≡ names → result ≡ moves_at ns pack.now at }
-{
-    let r = memo_regions(memo, at);
-    if 0 < r {
-        return memo_moves(memo, at);
-    }
-    let i = number(pack, at);
-    after_equations(pack, names, i.next)
-}
-
-// What is inside the state at `at`, by one look.
-pub fn inside_of(pack: &[u8], names: usize, memo: &[u16], at: usize) -> Inside
-    requires { (length pack.now ≤ max_bytes) × RowsSound pack.now names memo.now }
-    ensures { (ns : List Name) → length ns ≡ names → (result.moves ≡ moves_at ns pack.now at) × (result.regions ≡ regions_at ns pack.now at) }
-{
-    let r = memo_regions(memo, at);
-    if 0 < r {
-        let moves = memo_moves(memo, at);
-        let regions = number(pack, r);
-        return Inside { moves, regions };
-    }
-    let moves = moves_of(pack, names, memo, at);
-    let regions = number(pack, after_transitions(pack, names, moves));
-    Inside { moves, regions }
-}
-
-// Past the state at `at`.
-pub fn past_of(pack: &[u8], names: usize, memo: &[u16], at: usize) -> usize
-    requires { (length pack.now ≤ max_bytes) × RowsSound pack.now names memo.now }
-    ensures { (ns : List Name) → length ns ≡ names → result ≡ over_in ns pack.now at }
-{
-    let r = memo_regions(memo, at);
-    if 0 < r {
-        return memo_past(memo, at);
-    }
-    after_state(pack, names, at)
-}
-
-// Past the states whose count stands at `at`.
-pub fn past_states(pack: &[u8], names: usize, memo: &[u16], at: usize) -> usize
-    requires { (length pack.now ≤ max_bytes) × RowsSound pack.now names memo.now }
-    ensures { (ns : List Name) → length ns ≡ names → result ≡ end_of (counted (state_at ns pack.now) pack.now at) }
-{
-    let c = number(pack, at);
-    let mut p = c.next;
-    for _ in 0..c.value {
-        p = past_of(pack, names, memo, p);
-        if p == 0 {
-            return 0;
-        }
-    }
-    p
-}
-
 // --- The first transition of a drawn region's states that leads to none of them: said of what is drawn, so that it is looked for once,
 // however often it is shown.
 
@@ -251,66 +158,41 @@ pub struct UnknownTarget {
 }
 
 // Whether one of `count` states drawn from `from` on has the pack's name x.
-fn is_drawn_state(
-    pack: &[u8],
-    names: usize,
-    memo: &[u16],
-    x: usize,
-    count: usize,
-    from: usize,
-) -> bool
-    requires { (length pack.now ≤ max_bytes) × RowsSound pack.now names memo.now }
-    ensures { (ns : List Name) → length ns ≡ names → result ≡ drawn_state ns pack.now x count from }
+fn is_drawn_state(drawing: &Drawing, x: usize, count: usize, from: usize) -> bool
+    ensures { (ns : List Name) → length ns ≡ drawing.now.names → result ≡ drawn_state ns drawing.now.pack.now x count from }
 {
     let mut p = from;
     for _ in 0..count {
-        let i = number(pack, p);
+        let i = number(drawing.pack, p);
         if i.value == x {
             return true;
         }
-        p = past_of(pack, names, memo, p);
+        p = drawing.past_of(p);
     }
     false
 }
 
 // Whether one of the n states drawn from f on has the pack's name x, where it may be known of the name `last`: transitions to one
 // state mostly follow one another.
-fn is_known_target(
-    pack: &[u8],
-    names: usize,
-    memo: &[u16],
-    n: usize,
-    f: usize,
-    last: Option<usize>,
-    x: usize,
-) -> bool
-    requires { (length pack.now ≤ max_bytes) × RowsSound pack.now names memo.now × IfSome last (IsDrawn pack.now names n f) }
-    ensures { (ns : List Name) → length ns ≡ names → result ≡ drawn_state ns pack.now x n f }
+fn is_known_target(drawing: &Drawing, n: usize, f: usize, last: Option<usize>, x: usize) -> bool
+    requires { IfSome last (IsDrawn drawing.now.pack.now drawing.now.names n f) }
+    ensures { (ns : List Name) → length ns ≡ drawing.now.names → result ≡ drawn_state ns drawing.now.pack.now x n f }
 {
     if last == Some(x) {
         return true;
     }
-    is_drawn_state(pack, names, memo, x, n, f)
+    is_drawn_state(drawing, x, n, f)
 }
 
 // What `count` transitions from `from` on do, of a state of the n states drawn from f on.
-fn first_unknown_target(
-    pack: &[u8],
-    names: usize,
-    memo: &[u16],
-    n: usize,
-    f: usize,
-    count: usize,
-    from: usize,
-) -> Targets
-    requires { (length pack.now ≤ max_bytes) × RowsSound pack.now names memo.now }
-    ensures { (ns : List Name) → length ns ≡ names → result ≡ target_d ns pack.now n f count from }
+fn first_unknown_target(drawing: &Drawing, n: usize, f: usize, count: usize, from: usize) -> Targets
+    ensures { (ns : List Name) → length ns ≡ drawing.now.names → result ≡ target_d ns drawing.now.pack.now n f count from }
 {
     let mut o = from;
     let mut last = None;
     for _ in 0..count {
-        let x = number(pack, guard_end(pack, names, memo, o));
-        if !is_known_target(pack, names, memo, n, f, last, x.value) {
+        let x = number(drawing.pack, drawing.guard_end(o));
+        if !is_known_target(drawing, n, f, last, x.value) {
             return Targets::Stray(x.value);
         }
         o = x.next;
@@ -320,18 +202,17 @@ fn first_unknown_target(
 }
 
 // The first of the n states drawn from f on that has an unknown target.
-pub fn unknown_targets(pack: &[u8], names: usize, memo: &[u16], n: usize, f: usize) -> UnknownTarget
-    requires { (length pack.now ≤ max_bytes) × RowsSound pack.now names memo.now }
-    ensures { (ns : List Name) → length ns ≡ names → result ≡ unknown_target_d ns pack.now n f }
+pub fn unknown_targets(drawing: &Drawing, n: usize, f: usize) -> UnknownTarget
+    ensures { (ns : List Name) → length ns ≡ drawing.now.names → result ≡ unknown_target_d ns drawing.now.pack.now n f }
 {
     let mut p = f;
     for fine in 0..n {
-        let c = number(pack, moves_of(pack, names, memo, p));
-        let a = first_unknown_target(pack, names, memo, n, f, c.value, c.next);
+        let c = number(drawing.pack, drawing.moves_of(p));
+        let a = first_unknown_target(drawing, n, f, c.value, c.next);
         if let Targets::Stray(name) = a {
             return UnknownTarget { fine, name };
         }
-        p = past_of(pack, names, memo, p);
+        p = drawing.past_of(p);
     }
     UnknownTarget { fine: n, name: 0 }
 }
@@ -519,7 +400,7 @@ fn memo_unknown_targets(pack: &[u8], names: usize, offsets: &[u16], memo: &mut [
     if Pack::STATES < c.value {
         return;
     }
-    let r = unknown_targets(pack, names, memo, c.value, from);
+    let r = unknown_targets(&Drawing { pack, names, memo }, c.value, from);
     if WORD_MAX <= r.fine.max(r.name) {
         return;
     }

@@ -15,8 +15,9 @@ ghost use Rattle.wire.specs.Bytes.{word_range};
 ghost use Rattle.machines.specs.EmptyRegions.{AtOnce, EmptyRun, empty_at, opened_of, taken_of};
 
 use crate::checked_read::{machine, number, region};
+use crate::drawing::Drawing;
 use crate::layout::{RegionHead, region_head};
-use crate::memo::{EMPTY, guard_end, memo_at, memo_beside, memo_longest, memo_regions, moves_of};
+use crate::memo::{EMPTY, memo_at, memo_beside, memo_longest, memo_regions};
 use crate::table::name_len;
 use pack::cells::cell;
 use pack::record::Pack;
@@ -106,7 +107,7 @@ fn target_len(pack: &[u8], names: usize, offsets: &[u16], memo: &[u16], at: usiz
     requires { (length pack.now ≤ max_bytes) × RowsSound pack.now names memo.now }
     ensures { (ns : List Name) → length ns ≡ names → result ≡ target_t ns pack.now offsets.now at }
 {
-    let i = number(pack, guard_end(pack, names, memo, at));
+    let i = number(pack, Drawing { pack, names, memo }.guard_end(at));
     Number {
         value: name_len(pack, offsets, i.value),
         next: i.next,
@@ -149,7 +150,7 @@ pub fn state_head(pack: &[u8], names: usize, offsets: &[u16], memo: &[u16], at: 
             next: r,
         };
     }
-    let m = moves_of(pack, names, memo, at);
+    let m = Drawing { pack, names, memo }.moves_of(at);
     read_state_head(pack, names, offsets, memo, at, m)
 }
 

@@ -4,11 +4,10 @@ ghost use Rattle.wire.specs.Code.{onward};
 ghost use Rattle.pack_rules.specs.Read.{optional_in, ports_in};
 ghost use Rattle.pack_rules.specs.Names.{Name};
 ghost use Rattle.pack_rules.specs.Limits.{max_bytes};
-ghost use Rattle.machines.specs.MemoSound.{RowsSound};
 ghost use Rattle.machines.specs.Tables.{initial_in, outputs_in, states_end, machines_placed, names_placed, next_name, len_of};
 
 use crate::checked_read::number;
-use crate::memo::past_states;
+use crate::drawing::Drawing;
 use pack::cells::{byte_at, cell, put_cell};
 use pack::check::reached;
 use pack::parts::{skip_optional, skip_ports};
@@ -98,25 +97,23 @@ pub fn to_initial(pack: &[u8], names: usize, at: usize) -> usize
 }
 
 // From a machine's initial state, past its states.
-pub fn after_states(pack: &[u8], names: usize, memo: &[u16], at: usize) -> usize
-    requires { (length pack.now ≤ max_bytes) × RowsSound pack.now names memo.now }
-    ensures { (ns : List Name) → length ns ≡ names → result ≡ states_end ns pack.now at }
+pub fn after_states(drawing: &Drawing, at: usize) -> usize
+    ensures { (ns : List Name) → length ns ≡ drawing.now.names → result ≡ states_end ns drawing.now.pack.now at }
 {
-    let i = number(pack, at);
-    past_states(pack, names, memo, i.next)
+    let i = number(drawing.pack, at);
+    drawing.past_states(i.next)
 }
 
 // Where the initial state of the last machine of each name is. In a table of zeros, 0 stays where there is none.
-pub fn place_machines(pack: &[u8], names: usize, memo: &[u16], at: usize, machines: &mut [u16])
-    requires { (length pack.now ≤ max_bytes) × RowsSound pack.now names memo.now }
-    ensures { (ns : List Name) → length ns ≡ names → machines.new ≡ machines_placed ns pack.now at machines.old }
+pub fn place_machines(drawing: &Drawing, at: usize, machines: &mut [u16])
+    ensures { (ns : List Name) → length ns ≡ drawing.now.names → machines.new ≡ machines_placed ns drawing.now.pack.now at machines.old }
 {
-    let c = number(pack, at);
+    let c = number(drawing.pack, at);
     let mut p = c.next;
     for _ in 0..c.value {
-        let i = number(pack, p);
-        let w = to_initial(pack, names, i.next);
+        let i = number(drawing.pack, p);
+        let w = to_initial(drawing.pack, drawing.names, i.next);
         put_cell(machines, i.value, w);
-        p = after_states(pack, names, memo, w);
+        p = after_states(drawing, w);
     }
 }

@@ -12,8 +12,8 @@ ghost use Rattle.machines.specs.ValueAt.{side_t, side_bytes, entered_t, in_state
 
 use crate::checked_read::{after_expr, after_port, number};
 use crate::cover::{ASSIGNS_MEMO, require_cover_region};
+use crate::drawing::Drawing;
 use crate::layout::{between, first, inner, layout_word};
-use crate::memo::end_of;
 use crate::next_state_chain::put_test;
 use crate::table::entry;
 use pack::record::Pack;
@@ -33,7 +33,7 @@ fn own_rhs(pack: &[u8], names: usize, memo: &[u16], x: usize, at: usize) -> usiz
         if k.value == 1 && l.value == x {
             return l.next;
         }
-        p = end_of(pack, names, memo, p);
+        p = Drawing { pack, names, memo }.end_of(p);
     }
     0
 }
@@ -74,7 +74,7 @@ fn entered(
 {
     let mut g = inner(layout, p);
     for _ in 0..layout_word(layout, p, 5) {
-        let m = require_cover_region(pack, names, memo, layout, hints, x, levels, g);
+        let m = require_cover_region(&Drawing { pack, names, memo }, layout, hints, x, levels, g);
         if m == 0 {
             return g;
         }

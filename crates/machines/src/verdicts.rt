@@ -17,6 +17,7 @@ ghost use Rattle.machines.specs.OwnersAt.{HasRegions, fill_t, machine_end, nth};
 
 use crate::checked_read::{after_port, number};
 use crate::cover::{ASSIGNS_MEMO, require_cover_region};
+use crate::drawing::Drawing;
 use crate::duplicates::duplicate_name;
 use crate::layout::{layout_machine, layout_word};
 use crate::resolve::{Resolved, resolve_machine};
@@ -162,7 +163,14 @@ fn uncovered_output(
     if 0 < byte_at(given, x) {
         return 0;
     }
-    let m = require_cover_region(pack, names, memo, layout, hints, x, Pack::LEVELS, 0);
+    let m = require_cover_region(
+        &Drawing { pack, names, memo },
+        layout,
+        hints,
+        x,
+        Pack::LEVELS,
+        0,
+    );
     if m != 0 {
         return m;
     }
@@ -268,7 +276,7 @@ fn judge_laid(
             no_name(),
         );
     }
-    let c = validate_region(pack, names, memo, layout, Pack::LEVELS, 0);
+    let c = validate_region(&Drawing { pack, names, memo }, layout, Pack::LEVELS, 0);
     judge_checked(pack, names, memo, layout, c, outputs, regions)
 }
 
@@ -318,7 +326,7 @@ fn after_machine(pack: &[u8], names: usize, memo: &[u16], at: usize) -> usize
 {
     let m = number(pack, at);
     let i = to_initial(pack, names, m.next);
-    after_states(pack, names, memo, i)
+    after_states(&Drawing { pack, names, memo }, i)
 }
 
 // Where each of `count` machines from `from` on is drawn, and how many regions it has: 0 where it is refused.

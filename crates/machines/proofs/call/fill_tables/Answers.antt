@@ -7,9 +7,6 @@ use Rattle.machines.proofs.call.fill_tables.Goals as goal
 pub fill_memo-requires : goal.fill_memo-requires
 fill_memo-requires c = (c.requires.0, blank-right _ _ _ _ c.requires.2)
 
-pub place_machines-requires : goal.place_machines-requires
-place_machines-requires c = (c.requires.0, c.fill_memo.ensures.ends)
-
 pub place_nodes-requires : goal.place_nodes-requires
 place_nodes-requires c = c.requires.0
 

@@ -4,9 +4,6 @@ use Rattle.machines.proofs.resolve.state_head.Goals as goal
 pub returns-then-r-gt0 : goal.returns-then-r-gt0
 returns-then-r-gt0 c = head-kept _ _ _ _ _ _ _ c.requires.1 c.memo_regions-r.ensures c.if-r-gt0.true c.memo_longest.ensures
 
-pub moves_of-m-requires : goal.moves_of-m-requires
-moves_of-m-requires c = (c.requires.0, c.requires.1.ends)
-
 pub read_state_head-requires : goal.read_state_head-requires
 read_state_head-requires c = (c.requires.0, c.requires.1.ends)
 

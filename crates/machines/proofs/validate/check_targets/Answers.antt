@@ -6,9 +6,6 @@ use Rattle.machines.proofs.validate.check_targets.Goals as goal
 pub loop-init : goal.loop-init
 loop-init c = (λ ns e. rw all_left (targets-from ns _ _ _ _ _ _ c.layout_word.ensures c.number-c.ensures), tt)
 
-pub guard_end-requires : goal.guard_end-requires
-guard_end-requires c = c.requires
-
 pub has_target-requires : goal.has_target-requires
 has_target-requires c = c.loop.invariant.1
 
