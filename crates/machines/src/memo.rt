@@ -315,7 +315,7 @@ fn memo_head(pack: &[u8], names: usize, offsets: &[u16], memo: &mut [u16], at: u
     let moves = memo_ends(pack, names, memo, c.value, c.next);
     let g = number(pack, moves);
     let regions = memo_guards(pack, names, memo, g.value, g.next);
-    let head = read_state_head(pack, names, offsets, memo, at, moves);
+    let head = read_state_head(&Drawing { pack, names, memo }, offsets, at, moves);
     Head {
         head,
         moves,

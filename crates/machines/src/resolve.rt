@@ -10,7 +10,7 @@ ghost use Rattle.pack_rules.specs.Names.{Name};
 ghost use Rattle.pack_rules.specs.Limits.{max_bytes};
 ghost use Rattle.machines.specs.ResolveAt.{enter_w, head_t, len_at, machine_w, qualify_of, state_w, target_t, walk as walk_in};
 ghost use Rattle.machines.specs.LayoutAt.{moves_at};
-ghost use Rattle.machines.specs.MemoSound.{MemoSound, RowsSound};
+ghost use Rattle.machines.specs.MemoSound.{MemoSound};
 ghost use Rattle.wire.specs.Bytes.{word_range};
 ghost use Rattle.machines.specs.EmptyRegions.{AtOnce, EmptyRun, empty_at, opened_of, taken_of};
 
@@ -103,35 +103,26 @@ pub fn len_at(pack: &[u8], offsets: &[u16], at: usize) -> usize
 }
 
 // A transition: its target's length.
-fn target_len(pack: &[u8], names: usize, offsets: &[u16], memo: &[u16], at: usize) -> Number
-    requires { (length pack.now ≤ max_bytes) × RowsSound pack.now names memo.now }
-    ensures { (ns : List Name) → length ns ≡ names → result ≡ target_t ns pack.now offsets.now at }
+fn target_len(drawing: &Drawing, offsets: &[u16], at: usize) -> Number
+    ensures { (ns : List Name) → length ns ≡ drawing.now.names → result ≡ target_t ns drawing.now.pack.now offsets.now at }
 {
-    let i = number(pack, Drawing { pack, names, memo }.guard_end(at));
+    let i = number(drawing.pack, drawing.guard_end(at));
     Number {
-        value: name_len(pack, offsets, i.value),
+        value: name_len(drawing.pack, offsets, i.value),
         next: i.next,
     }
 }
 
 // The head of the state at `at`, whose transitions begin at m: the longest name, and where its regions' count stands.
-pub fn read_state_head(
-    pack: &[u8],
-    names: usize,
-    offsets: &[u16],
-    memo: &[u16],
-    at: usize,
-    m: usize,
-) -> Number
-    requires { (length pack.now ≤ max_bytes) × RowsSound pack.now names memo.now }
-    ensures { (ns : List Name) → length ns ≡ names → m ≡ moves_at ns pack.now at → result ≡ head_t ns pack.now offsets.now at }
+pub fn read_state_head(drawing: &Drawing, offsets: &[u16], at: usize, m: usize) -> Number
+    ensures { (ns : List Name) → length ns ≡ drawing.now.names → m ≡ moves_at ns drawing.now.pack.now at → result ≡ head_t ns drawing.now.pack.now offsets.now at }
 {
-    let i = number(pack, at);
-    let t = number(pack, m);
+    let i = number(drawing.pack, at);
+    let t = number(drawing.pack, m);
     let mut p = t.next;
-    let mut a = name_len(pack, offsets, i.value);
+    let mut a = name_len(drawing.pack, offsets, i.value);
     for _ in 0..t.value {
-        let x = target_len(pack, names, offsets, memo, p);
+        let x = target_len(drawing, offsets, p);
         a = a.max(x.value);
         p = x.next;
     }
@@ -151,7 +142,7 @@ pub fn state_head(pack: &[u8], names: usize, offsets: &[u16], memo: &[u16], at: 
         };
     }
     let m = Drawing { pack, names, memo }.moves_of(at);
-    read_state_head(pack, names, offsets, memo, at, m)
+    read_state_head(&Drawing { pack, names, memo }, offsets, at, m)
 }
 
 // --- Regions without states that follow one another: how many is kept once, so that a visit passes over all of them at once.

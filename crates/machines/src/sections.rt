@@ -21,6 +21,7 @@ use crate::added::{
     added_equations, adds_equations, equation_count, owned, owned_count, small, sum_of,
 };
 use crate::checked_read::number;
+use crate::drawing::Drawing;
 use crate::emit_machine::put_all_enums;
 use crate::layout::between;
 use crate::table::entry;
@@ -161,11 +162,9 @@ pub fn put_origins(
 // All enums: those from `at` on up to `end`, after their count, and those of the first n machines.
 fn put_enums_part(
     old: &[u8],
-    pack: &[u8],
-    names: usize,
+    drawing: &Drawing,
     offsets: &[u16],
     machines: &[u16],
-    memo: &[u16],
     layout: &mut [usize],
     rows: &mut [usize],
     qualified: &mut [u8],
@@ -178,17 +177,17 @@ fn put_enums_part(
     made: &mut [u8],
     writer: Writer,
 ) -> Writer
-    requires { (length pack.now ≤ max_bytes) × (n ≤ word_range) × Long layout.old rows.old qualified.old × RowsSound pack.now names memo.now }
-    ensures { (ns : List Name) → length ns ≡ names → (receivers : List ℕ) (ens : ℕ → List Item) → AllWrite old.now (enums_at ns pack.now offsets.now machines.now) defs.now n ens → state_of out.new made.new result ≡ render old.now (enums_part_t ns pack.now defs.now receivers regcounts.now offsets.now n ens at end) (state_of out.old made.old writer) }
+    requires { (n ≤ word_range) × Long layout.old rows.old qualified.old }
+    ensures { (ns : List Name) → length ns ≡ drawing.now.names → (receivers : List ℕ) (ens : ℕ → List Item) → AllWrite old.now (enums_at ns drawing.now.pack.now offsets.now machines.now) defs.now n ens → state_of out.new made.new result ≡ render old.now (enums_part_t ns drawing.now.pack.now defs.now receivers regcounts.now offsets.now n ens at end) (state_of out.old made.old writer) }
 {
-    let c = number(pack, at);
+    let c = number(drawing.pack, at);
     let o = small(c.value);
     let g = sum_of(regcounts, n);
-    let h = between(pack, c.next, end);
+    let h = between(drawing.pack, c.next, end);
     let a = put_u16(out, writer, o + g);
     let b = put_bytes(h, out, a);
     put_all_enums(
-        old, pack, names, offsets, machines, memo, layout, rows, qualified, defs, n, out, made, b,
+        old, drawing, offsets, machines, layout, rows, qualified, defs, n, out, made, b,
     )
 }
 
@@ -242,14 +241,17 @@ pub fn put_sections(
     requires { (length pack.now ≤ max_bytes) × (n ≤ word_range) × Long layout.old rows.old qualified.old × RowsSound pack.now sections.names memo.now }
     ensures { (ns : List Name) → length ns ≡ sections.names → (eqs ens : ℕ → List Item) → AllWrite old.now (equations_at ns pack.now offsets.now machines.now) defs.now n eqs → AllWrite old.now (enums_at ns pack.now offsets.now machines.now) defs.now n ens → state_of out.new made.new result ≡ render old.now (sections_t ns pack.now defs.now receivers.now regcounts.now offsets.now n eqs ens sections) (started out.old made.old) }
 {
+    let drawing = Drawing {
+        pack,
+        names: sections.names,
+        memo,
+    };
     let w = start();
     let a = put_enums_part(
         old,
-        pack,
-        sections.names,
+        &drawing,
         offsets,
         machines,
-        memo,
         layout,
         rows,
         qualified,
@@ -264,11 +266,9 @@ pub fn put_sections(
     );
     let b = put_nodes(
         old,
-        pack,
-        sections.names,
+        &drawing,
         offsets,
         machines,
-        memo,
         layout,
         rows,
         qualified,

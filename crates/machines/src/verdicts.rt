@@ -9,7 +9,7 @@ ghost use Rattle.std.specs.Prelude.{List, ◌≡◌, ◌<◌, ◌≤◌, ℕ, le
 ghost use Rattle.pack_rules.specs.Names.{Name};
 ghost use Rattle.pack_rules.specs.Limits.{max_bytes, max_level};
 ghost use Rattle.machines.specs.CoverAt.{uncovered_t};
-ghost use Rattle.machines.specs.MemoSound.{MemoSound, RowsSound};
+ghost use Rattle.machines.specs.MemoSound.{MemoSound};
 ghost use Rattle.machines.specs.AssignsMemo.{AssignmentSound, AssignsSound};
 ghost use Rattle.machines.specs.VerdictAt.{again_called, board_at, called_at, checked_j, judge_at, laid_j, named as named_of, no_name, outputs_j, refused_by, state_called};
 ghost use Rattle.machines.specs.EmitMachineAt.{Long};
@@ -147,30 +147,21 @@ fn again_called(qualified: &[u8], d: usize) -> NameRef
 // 0 where each state gives the output x, else the word of a state that does not. Where an output was asked for and is given, it need
 // not be asked for again: a machine may have it thousands of times.
 fn uncovered_output(
-    pack: &[u8],
-    names: usize,
-    memo: &[u16],
+    drawing: &Drawing,
     layout: &[usize],
     hints: &mut [u16],
     given: &mut [u8],
     x: usize,
 ) -> usize
-    requires { (length pack.now ≤ max_bytes) × RowsSound pack.now names memo.now × AssignsSound pack.now names memo.now hints.old × AssignmentSound pack.now names layout.now given.old }
-    ensures value { (ns : List Name) → length ns ≡ names → result ≡ uncovered_t ns pack.now layout.now x max_level 0 }
-    ensures assigns_sound { AssignsSound pack.now names memo.now hints.new }
-    ensures assignment_sound { AssignmentSound pack.now names layout.now given.new }
+    requires { AssignsSound drawing.now.pack.now drawing.now.names drawing.now.memo.now hints.old × AssignmentSound drawing.now.pack.now drawing.now.names layout.now given.old }
+    ensures value { (ns : List Name) → length ns ≡ drawing.now.names → result ≡ uncovered_t ns drawing.now.pack.now layout.now x max_level 0 }
+    ensures assigns_sound { AssignsSound drawing.now.pack.now drawing.now.names drawing.now.memo.now hints.new }
+    ensures assignment_sound { AssignmentSound drawing.now.pack.now drawing.now.names layout.now given.new }
 {
     if 0 < byte_at(given, x) {
         return 0;
     }
-    let m = require_cover_region(
-        &Drawing { pack, names, memo },
-        layout,
-        hints,
-        x,
-        Pack::LEVELS,
-        0,
-    );
+    let m = require_cover_region(drawing, layout, hints, x, Pack::LEVELS, 0);
     if m != 0 {
         return m;
     }
@@ -182,23 +173,20 @@ fn uncovered_output(
 // states give is remembered, and which outputs are given, a cell for each name. A pack has no more, by counting different names of 63
 // letters; that is not proved, and an output past the cells would be looked for again.
 fn judge_outputs(
-    pack: &[u8],
-    names: usize,
-    memo: &[u16],
+    drawing: &Drawing,
     layout: &[usize],
     count: usize,
     from: usize,
     regions: usize,
 ) -> VerdictRow
-    requires { (length pack.now ≤ max_bytes) × RowsSound pack.now names memo.now }
-    ensures { (ns : List Name) → length ns ≡ names → result ≡ outputs_j ns pack.now layout.now regions count from }
+    ensures { (ns : List Name) → length ns ≡ drawing.now.names → result ≡ outputs_j ns drawing.now.pack.now layout.now regions count from }
 {
     let mut told = [0u16; ASSIGNS_MEMO];
     let mut given = [0u8; 17408];
     let mut p = from;
     for _ in 0..count {
-        let x = number(pack, p);
-        let m = uncovered_output(pack, names, memo, layout, &mut told, &mut given, x.value);
+        let x = number(drawing.pack, p);
+        let m = uncovered_output(drawing, layout, &mut told, &mut given, x.value);
         if m != 0 {
             return refused(
                 VerdictRow::OUTPUT_UNASSIGNED,
@@ -206,7 +194,7 @@ fn judge_outputs(
                 state_called(layout, m),
             );
         }
-        p = after_port(pack, names, p);
+        p = after_port(drawing.pack, drawing.names, p);
     }
     VerdictRow {
         kind: VerdictRow::ACCEPTED,
@@ -218,21 +206,18 @@ fn judge_outputs(
 
 // What checking came to, and then the outputs, whose count stands at `outputs`.
 fn judge_checked(
-    pack: &[u8],
-    names: usize,
-    memo: &[u16],
+    drawing: &Drawing,
     layout: &[usize],
     c: Checked,
     outputs: usize,
     regions: usize,
 ) -> VerdictRow
-    requires { (length pack.now ≤ max_bytes) × RowsSound pack.now names memo.now }
-    ensures { (ns : List Name) → length ns ≡ names → result ≡ checked_j ns pack.now layout.now c outputs regions }
+    ensures { (ns : List Name) → length ns ≡ drawing.now.names → result ≡ checked_j ns drawing.now.pack.now layout.now c outputs regions }
 {
     match c {
         Checked::Fine => {
-            let k = number(pack, outputs);
-            judge_outputs(pack, names, memo, layout, k.value, k.next, regions)
+            let k = number(drawing.pack, outputs);
+            judge_outputs(drawing, layout, k.value, k.next, regions)
         }
         Checked::Initial(q) => refused(
             VerdictRow::UNKNOWN_INITIAL_STATE,
@@ -253,17 +238,14 @@ fn judge_checked(
 
 // A machine that is laid out in `letters` letters and so many regions.
 fn judge_laid(
-    pack: &[u8],
-    names: usize,
-    memo: &[u16],
+    drawing: &Drawing,
     layout: &[usize],
     qualified: &[u8],
     letters: usize,
     regions: usize,
     outputs: usize,
 ) -> VerdictRow
-    requires { (length pack.now ≤ max_bytes) × RowsSound pack.now names memo.now }
-    ensures { (ns : List Name) → length ns ≡ names → result ≡ laid_j ns pack.now layout.now qualified.now letters regions outputs }
+    ensures { (ns : List Name) → length ns ≡ drawing.now.names → result ≡ laid_j ns drawing.now.pack.now layout.now qualified.now letters regions outputs }
 {
     if entry(layout, 6) == 0 {
         return refused(VerdictRow::NO_STATES, no_name(), no_name());
@@ -276,8 +258,8 @@ fn judge_laid(
             no_name(),
         );
     }
-    let c = validate_region(&Drawing { pack, names, memo }, layout, Pack::LEVELS, 0);
-    judge_checked(pack, names, memo, layout, c, outputs, regions)
+    let c = validate_region(drawing, layout, Pack::LEVELS, 0);
+    judge_checked(drawing, layout, c, outputs, regions)
 }
 
 // The machine at the offset `at`. Where it resolves, it is then laid out in the tables.
@@ -309,24 +291,34 @@ pub fn judge(
         Resolved::Large => refused(VerdictRow::TOO_LARGE, no_name(), no_name()),
         Resolved::Went(_, _, _) => {
             let l = layout_machine(
-                pack, names, offsets, machines, memo, layout, rows, qualified, i,
+                &Drawing { pack, names, memo },
+                offsets,
+                machines,
+                layout,
+                rows,
+                qualified,
+                i,
             );
             let o = to_outputs(pack, names, m.next);
             judge_laid(
-                pack, names, memo, layout, qualified, l.letters, l.regions, o,
+                &Drawing { pack, names, memo },
+                layout,
+                qualified,
+                l.letters,
+                l.regions,
+                o,
             )
         }
     }
 }
 
 // Past the machine at `at`.
-fn after_machine(pack: &[u8], names: usize, memo: &[u16], at: usize) -> usize
-    requires { (length pack.now ≤ max_bytes) × RowsSound pack.now names memo.now }
-    ensures { (ns : List Name) → length ns ≡ names → result ≡ machine_end ns pack.now at }
+fn after_machine(drawing: &Drawing, at: usize) -> usize
+    ensures { (ns : List Name) → length ns ≡ drawing.now.names → result ≡ machine_end ns drawing.now.pack.now at }
 {
-    let m = number(pack, at);
-    let i = to_initial(pack, names, m.next);
-    after_states(&Drawing { pack, names, memo }, i)
+    let m = number(drawing.pack, at);
+    let i = to_initial(drawing.pack, drawing.names, m.next);
+    after_states(drawing, i)
 }
 
 // Where each of `count` machines from `from` on is drawn, and how many regions it has: 0 where it is refused.
@@ -355,6 +347,6 @@ pub fn judge_all(
         );
         put(defs, i, p);
         put(regcounts, i, j.regions);
-        p = after_machine(pack, names, memo, p);
+        p = after_machine(&Drawing { pack, names, memo }, p);
     }
 }

@@ -14,7 +14,6 @@ ghost use Rattle.pack.specs.Intern.{render};
 ghost use Rattle.machines.specs.NodeHeads.{new_head_t, node_locals_t, old_head_t};
 ghost use Rattle.pack_rules.specs.Read.{ports_in};
 ghost use Rattle.pack_rules.specs.Write.{Item};
-ghost use Rattle.machines.specs.MemoSound.{RowsSound};
 ghost use Rattle.machines.specs.EmitMachineAt.{AllWrite, Long, equations_at};
 ghost use Rattle.machines.specs.WriteNodesAt.{new_node_t, node_equations_t, nodes_t, old_node_t, old_nodes_t};
 
@@ -23,6 +22,7 @@ use crate::added::{
     put_all_locals, small, span, table_from, to_locals,
 };
 use crate::checked_read::{after_equations, number, read_or_zero};
+use crate::drawing::Drawing;
 use crate::emit_machine::put_all_equations;
 use crate::layout::between;
 use crate::table::entry;
@@ -177,11 +177,9 @@ pub fn put_new_head(
 // The equations of the node k: `own` ones that stand from `from` up to `end`, and those that n machines bring.
 fn put_node_equations(
     old: &[u8],
-    pack: &[u8],
-    names: usize,
+    drawing: &Drawing,
     offsets: &[u16],
     machines: &[u16],
-    memo: &[u16],
     layout: &mut [usize],
     rows: &mut [usize],
     qualified: &mut [u8],
@@ -197,28 +195,34 @@ fn put_node_equations(
     made: &mut [u8],
     writer: Writer,
 ) -> Writer
-    requires { (length pack.now ≤ max_bytes) × (n ≤ word_range) × Long layout.old rows.old qualified.old × RowsSound pack.now names memo.now }
-    ensures { (ns : List Name) → length ns ≡ names → (eqs : ℕ → List Item) → AllWrite old.now (equations_at ns pack.now offsets.now machines.now) defs.now n eqs → state_of out.new made.new result ≡ render old.now (node_equations_t ns pack.now defs.now receivers.now regcounts.now offsets.now n eqs k own from end) (state_of out.old made.old writer) }
+    requires { (n ≤ word_range) × Long layout.old rows.old qualified.old }
+    ensures { (ns : List Name) → length ns ≡ drawing.now.names → (eqs : ℕ → List Item) → AllWrite old.now (equations_at ns drawing.now.pack.now offsets.now machines.now) defs.now n eqs → state_of out.new made.new result ≡ render old.now (node_equations_t ns drawing.now.pack.now defs.now receivers.now regcounts.now offsets.now n eqs k own from end) (state_of out.old made.old writer) }
 {
     let o = small(own);
-    let m = added_equations(pack, names, defs, receivers, regcounts, n, k);
-    let h = between(pack, from, end);
+    let m = added_equations(
+        drawing.pack,
+        drawing.names,
+        defs,
+        receivers,
+        regcounts,
+        n,
+        k,
+    );
+    let h = between(drawing.pack, from, end);
     let a = put_u16(out, writer, o + m);
     let b = put_bytes(h, out, a);
     put_all_equations(
-        old, pack, names, offsets, machines, memo, layout, rows, qualified, defs, receivers, n, k,
-        out, made, b,
+        old, drawing, offsets, machines, layout, rows, qualified, defs, receivers, n, k, out, made,
+        b,
     )
 }
 
 // The node k that stands at `at`.
 fn put_old_node(
     old: &[u8],
-    pack: &[u8],
-    names: usize,
+    drawing: &Drawing,
     offsets: &[u16],
     machines: &[u16],
-    memo: &[u16],
     layout: &mut [usize],
     rows: &mut [usize],
     qualified: &mut [u8],
@@ -232,29 +236,39 @@ fn put_old_node(
     made: &mut [u8],
     writer: Writer,
 ) -> Writer
-    requires { (length pack.now ≤ max_bytes) × (n ≤ word_range) × Long layout.old rows.old qualified.old × RowsSound pack.now names memo.now }
-    ensures { (ns : List Name) → length ns ≡ names → (eqs : ℕ → List Item) → AllWrite old.now (equations_at ns pack.now offsets.now machines.now) defs.now n eqs → state_of out.new made.new result ≡ render old.now (old_node_t ns pack.now defs.now receivers.now regcounts.now offsets.now n eqs k at) (state_of out.old made.old writer) }
+    requires { (n ≤ word_range) × Long layout.old rows.old qualified.old }
+    ensures { (ns : List Name) → length ns ≡ drawing.now.names → (eqs : ℕ → List Item) → AllWrite old.now (equations_at ns drawing.now.pack.now offsets.now machines.now) defs.now n eqs → state_of out.new made.new result ≡ render old.now (old_node_t ns drawing.now.pack.now defs.now receivers.now regcounts.now offsets.now n eqs k at) (state_of out.old made.old writer) }
 {
-    let e = to_node_equations(pack, names, at);
-    let z = after_equations(pack, names, e);
-    let c = number(pack, e);
+    let e = to_node_equations(drawing.pack, drawing.names, at);
+    let z = after_equations(drawing.pack, drawing.names, e);
+    let c = number(drawing.pack, e);
     let a = put_old_head(
-        old, pack, names, offsets, defs, receivers, regcounts, n, k, at, out, made, writer,
+        old,
+        drawing.pack,
+        drawing.names,
+        offsets,
+        defs,
+        receivers,
+        regcounts,
+        n,
+        k,
+        at,
+        out,
+        made,
+        writer,
     );
     put_node_equations(
-        old, pack, names, offsets, machines, memo, layout, rows, qualified, defs, receivers,
-        regcounts, n, k, c.value, c.next, z, out, made, a,
+        old, drawing, offsets, machines, layout, rows, qualified, defs, receivers, regcounts, n, k,
+        c.value, c.next, z, out, made, a,
     )
 }
 
 // `count` nodes that stand from `from` on. Up to the next one to which a machine goes no machine is asked.
 fn put_old_nodes(
     old: &[u8],
-    pack: &[u8],
-    names: usize,
+    drawing: &Drawing,
     offsets: &[u16],
     machines: &[u16],
-    memo: &[u16],
     layout: &mut [usize],
     rows: &mut [usize],
     qualified: &mut [u8],
@@ -268,8 +282,8 @@ fn put_old_nodes(
     made: &mut [u8],
     writer: Writer,
 ) -> Writer
-    requires { (length pack.now ≤ max_bytes) × (n ≤ word_range) × Long layout.old rows.old qualified.old × RowsSound pack.now names memo.now }
-    ensures { (ns : List Name) → length ns ≡ names → (eqs : ℕ → List Item) → AllWrite old.now (equations_at ns pack.now offsets.now machines.now) defs.now n eqs → state_of out.new made.new result ≡ render old.now (old_nodes_t ns pack.now defs.now receivers.now regcounts.now offsets.now n eqs count 0 from) (state_of out.old made.old writer) }
+    requires { (n ≤ word_range) × Long layout.old rows.old qualified.old }
+    ensures { (ns : List Name) → length ns ≡ drawing.now.names → (eqs : ℕ → List Item) → AllWrite old.now (equations_at ns drawing.now.pack.now offsets.now machines.now) defs.now n eqs → state_of out.new made.new result ≡ render old.now (old_nodes_t ns drawing.now.pack.now defs.now receivers.now regcounts.now offsets.now n eqs count 0 from) (state_of out.old made.old writer) }
 {
     let mut v = writer;
     let mut p = from;
@@ -281,11 +295,11 @@ fn put_old_nodes(
         b = next_receiver(receivers, n, k, b);
         let m = asked(k, b, n);
         v = put_old_node(
-            old, pack, names, offsets, machines, memo, layout, rows, qualified, defs, receivers,
-            regcounts, m, k, p, out, made, v,
+            old, drawing, offsets, machines, layout, rows, qualified, defs, receivers, regcounts,
+            m, k, p, out, made, v,
         );
-        let e = to_node_equations(pack, names, p);
-        p = after_equations(pack, names, e);
+        let e = to_node_equations(drawing.pack, drawing.names, p);
+        p = after_equations(drawing.pack, drawing.names, e);
     }
     v
 }
@@ -293,11 +307,9 @@ fn put_old_nodes(
 // The node k that the machine drawn at `at` begins. Only machines from the first to the last one that go to it are asked.
 fn put_begun(
     old: &[u8],
-    pack: &[u8],
-    names: usize,
+    drawing: &Drawing,
     offsets: &[u16],
     machines: &[u16],
-    memo: &[u16],
     layout: &mut [usize],
     rows: &mut [usize],
     qualified: &mut [u8],
@@ -311,8 +323,8 @@ fn put_begun(
     made: &mut [u8],
     writer: Writer,
 ) -> Writer
-    requires { (length pack.now ≤ max_bytes) × (n ≤ word_range) × Long layout.old rows.old qualified.old × RowsSound pack.now names memo.now }
-    ensures { (ns : List Name) → length ns ≡ names → (eqs : ℕ → List Item) → AllWrite old.now (equations_at ns pack.now offsets.now machines.now) defs.now n eqs → state_of out.new made.new result ≡ render old.now (new_head_t ns pack.now defs.now receivers.now regcounts.now offsets.now n k at ++ node_equations_t ns pack.now defs.now receivers.now regcounts.now offsets.now n eqs k 0 0 0) (state_of out.old made.old writer) }
+    requires { (n ≤ word_range) × Long layout.old rows.old qualified.old }
+    ensures { (ns : List Name) → length ns ≡ drawing.now.names → (eqs : ℕ → List Item) → AllWrite old.now (equations_at ns drawing.now.pack.now offsets.now machines.now) defs.now n eqs → state_of out.new made.new result ≡ render old.now (new_head_t ns drawing.now.pack.now defs.now receivers.now regcounts.now offsets.now n k at ++ node_equations_t ns drawing.now.pack.now defs.now receivers.now regcounts.now offsets.now n eqs k 0 0 0) (state_of out.old made.old writer) }
 {
     let f = next_to(receivers, n, k, 0);
     let m = span(receivers, n, k, f);
@@ -320,22 +332,32 @@ fn put_begun(
     let gs = table_from(receivers, f);
     let rs = table_from(regcounts, f);
     let a = put_new_head(
-        old, pack, names, offsets, ms, gs, rs, m, k, at, out, made, writer,
+        old,
+        drawing.pack,
+        drawing.names,
+        offsets,
+        ms,
+        gs,
+        rs,
+        m,
+        k,
+        at,
+        out,
+        made,
+        writer,
     );
     put_node_equations(
-        old, pack, names, offsets, machines, memo, layout, rows, qualified, ms, gs, rs, m, k, 0, 0,
-        0, out, made, a,
+        old, drawing, offsets, machines, layout, rows, qualified, ms, gs, rs, m, k, 0, 0, 0, out,
+        made, a,
     )
 }
 
 // The node that the machine i begins, where it has no owner.
 fn put_new_node(
     old: &[u8],
-    pack: &[u8],
-    names: usize,
+    drawing: &Drawing,
     offsets: &[u16],
     machines: &[u16],
-    memo: &[u16],
     layout: &mut [usize],
     rows: &mut [usize],
     qualified: &mut [u8],
@@ -348,16 +370,16 @@ fn put_new_node(
     made: &mut [u8],
     writer: Writer,
 ) -> Writer
-    requires { (length pack.now ≤ max_bytes) × (n ≤ word_range) × Long layout.old rows.old qualified.old × RowsSound pack.now names memo.now }
-    ensures { (ns : List Name) → length ns ≡ names → (eqs : ℕ → List Item) → AllWrite old.now (equations_at ns pack.now offsets.now machines.now) defs.now n eqs → state_of out.new made.new result ≡ render old.now (new_node_t ns pack.now defs.now receivers.now regcounts.now offsets.now n eqs i) (state_of out.old made.old writer) }
+    requires { (n ≤ word_range) × Long layout.old rows.old qualified.old }
+    ensures { (ns : List Name) → length ns ≡ drawing.now.names → (eqs : ℕ → List Item) → AllWrite old.now (equations_at ns drawing.now.pack.now offsets.now machines.now) defs.now n eqs → state_of out.new made.new result ≡ render old.now (new_node_t ns drawing.now.pack.now defs.now receivers.now regcounts.now offsets.now n eqs i) (state_of out.old made.old writer) }
 {
-    let o = owned(pack, defs, i);
+    let o = owned(drawing.pack, defs, i);
     let k = entry(receivers, i);
     let at = entry(defs, i);
     if o == 0 {
         return put_begun(
-            old, pack, names, offsets, machines, memo, layout, rows, qualified, defs, receivers,
-            regcounts, n, k, at, out, made, writer,
+            old, drawing, offsets, machines, layout, rows, qualified, defs, receivers, regcounts,
+            n, k, at, out, made, writer,
         );
     }
     writer
@@ -366,11 +388,9 @@ fn put_new_node(
 // The nodes that the first n machines begin.
 fn put_new_nodes(
     old: &[u8],
-    pack: &[u8],
-    names: usize,
+    drawing: &Drawing,
     offsets: &[u16],
     machines: &[u16],
-    memo: &[u16],
     layout: &mut [usize],
     rows: &mut [usize],
     qualified: &mut [u8],
@@ -382,8 +402,8 @@ fn put_new_nodes(
     made: &mut [u8],
     writer: Writer,
 ) -> Writer
-    requires { (length pack.now ≤ max_bytes) × (n ≤ word_range) × Long layout.old rows.old qualified.old × RowsSound pack.now names memo.now }
-    ensures { (ns : List Name) → length ns ≡ names → (eqs : ℕ → List Item) → AllWrite old.now (equations_at ns pack.now offsets.now machines.now) defs.now n eqs → state_of out.new made.new result ≡ render old.now (each_t (new_node_t ns pack.now defs.now receivers.now regcounts.now offsets.now n eqs) n 0) (state_of out.old made.old writer) }
+    requires { (n ≤ word_range) × Long layout.old rows.old qualified.old }
+    ensures { (ns : List Name) → length ns ≡ drawing.now.names → (eqs : ℕ → List Item) → AllWrite old.now (equations_at ns drawing.now.pack.now offsets.now machines.now) defs.now n eqs → state_of out.new made.new result ≡ render old.now (each_t (new_node_t ns drawing.now.pack.now defs.now receivers.now regcounts.now offsets.now n eqs) n 0) (state_of out.old made.old writer) }
 {
     let mut v = writer;
     for i in 0..n {
@@ -391,8 +411,8 @@ fn put_new_nodes(
             return v;
         }
         v = put_new_node(
-            old, pack, names, offsets, machines, memo, layout, rows, qualified, defs, receivers,
-            regcounts, n, i, out, made, v,
+            old, drawing, offsets, machines, layout, rows, qualified, defs, receivers, regcounts,
+            n, i, out, made, v,
         );
     }
     v
@@ -410,11 +430,9 @@ fn begun(pack: &[u8], defs: &[usize], n: usize) -> usize
 // All nodes; the count of those that stand is at `at`.
 pub fn put_nodes(
     old: &[u8],
-    pack: &[u8],
-    names: usize,
+    drawing: &Drawing,
     offsets: &[u16],
     machines: &[u16],
-    memo: &[u16],
     layout: &mut [usize],
     rows: &mut [usize],
     qualified: &mut [u8],
@@ -427,19 +445,19 @@ pub fn put_nodes(
     made: &mut [u8],
     writer: Writer,
 ) -> Writer
-    requires { (length pack.now ≤ max_bytes) × (n ≤ word_range) × Long layout.old rows.old qualified.old × RowsSound pack.now names memo.now }
-    ensures { (ns : List Name) → length ns ≡ names → (eqs : ℕ → List Item) → AllWrite old.now (equations_at ns pack.now offsets.now machines.now) defs.now n eqs → state_of out.new made.new result ≡ render old.now (nodes_t ns pack.now defs.now receivers.now regcounts.now offsets.now n eqs at) (state_of out.old made.old writer) }
+    requires { (n ≤ word_range) × Long layout.old rows.old qualified.old }
+    ensures { (ns : List Name) → length ns ≡ drawing.now.names → (eqs : ℕ → List Item) → AllWrite old.now (equations_at ns drawing.now.pack.now offsets.now machines.now) defs.now n eqs → state_of out.new made.new result ≡ render old.now (nodes_t ns drawing.now.pack.now defs.now receivers.now regcounts.now offsets.now n eqs at) (state_of out.old made.old writer) }
 {
-    let c = number(pack, at);
+    let c = number(drawing.pack, at);
     let o = small(c.value);
-    let g = begun(pack, defs, n);
+    let g = begun(drawing.pack, defs, n);
     let a = put_u16(out, writer, o + g);
     let b = put_old_nodes(
-        old, pack, names, offsets, machines, memo, layout, rows, qualified, defs, receivers,
-        regcounts, n, c.value, c.next, out, made, a,
+        old, drawing, offsets, machines, layout, rows, qualified, defs, receivers, regcounts, n,
+        c.value, c.next, out, made, a,
     );
     put_new_nodes(
-        old, pack, names, offsets, machines, memo, layout, rows, qualified, defs, receivers,
-        regcounts, n, out, made, b,
+        old, drawing, offsets, machines, layout, rows, qualified, defs, receivers, regcounts, n,
+        out, made, b,
     )
 }

@@ -27,9 +27,6 @@ layout_region-loop-preserved t c = λ ns e. rw one_less (times-went _ _ _ _ _ (s
 pub layout_region-returns : goal.layout_region-returns
 layout_region-returns t c = λ ns e. region-some ns _ _ _ _ _ _ _ _ _ _ _ _ _ _ c.if-levels-eq0.false (elim c.else-h-eq0.branch [ layout_region-else-h-eq0-via-then-h-eq0+else-c w ↦ rw (eq-eqb _ _ w.if-h-eq0.true) (sym w.if-c.false) | layout_region-else-h-eq0-via-else-h-eq0 w ↦ rw (ne_eqb _ _ w.if-h-eq0.false) ]) refl (c.open_region-e.ensures c.args.qualified.now) (times-done _ _ _ _ (none_left c.loop-test.false) (c.loop.invariant ns e)) (close-region _ _ _ _ _ _ c.put_word.ensures)
 
-pub layout_state-open_state-b-requires : goal.layout_state-open_state-b-requires
-layout_state-open_state-b-requires t c = c.requires
-
 pub layout_state-skip_empty_regions-j-requires : goal.layout_state-skip_empty_regions-j-requires
 layout_state-skip_empty_regions-j-requires t c = c.loop-n-test.true
 
@@ -46,7 +43,7 @@ pub layout_state-loop-n-smaller : goal.layout_state-loop-n-smaller
 layout_state-loop-n-smaller t c = omega (arith, c.skip_empty_regions-j.ensures.0.some, c.skip_empty_regions-j.ensures.0.few)
 
 pub layout_state-loop-n-preserved : goal.layout_state-loop-n-preserved
-layout_state-loop-n-preserved t c = λ ns e. (opened-on ns _ _ _ _ _ e c.requires.1 _ _ _ _ _ _ _ _ _ _ _ _ _ _ _ _ _ _ _ c.skip_empty_regions-j.ensures.0 c.skip_empty_regions-j.ensures.1 c.open_regions-h.ensures (c.layout_region-d.ensures ns e) c.count_region-k.ensures) ∙ (c.loop-n.invariant ns e)
+layout_state-loop-n-preserved t c = λ ns e. (opened-on ns _ _ _ _ _ e c.args.drawing.now.sound _ _ _ _ _ _ _ _ _ _ _ _ _ _ _ _ _ _ _ c.skip_empty_regions-j.ensures.0 c.skip_empty_regions-j.ensures.1 c.open_regions-h.ensures (c.layout_region-d.ensures ns e) c.count_region-k.ensures) ∙ (c.loop-n.invariant ns e)
 
 pub layout_state-returns-then-f-eq-ABSENT : goal.layout_state-returns-then-f-eq-ABSENT
 layout_state-returns-then-f-eq-ABSENT t c = λ ns e. state-on ns _ _ _ _ _ _ _ _ _ _ _ (c.open_state-b.ensures ns e c.args.rows.now).0 (c.open_state-b.ensures ns e c.args.rows.now).1 (refine-plain ns _ _ _ _ _ _ _ _ _ _ _ _ c.number-f.ensures c.if-f-eq-ABSENT.true (c.close_state.ensures c.loop-n.rows c.loop-n.qualified) ∙ inner-done _ _ _ _ _ _ c.loop-n-test.false (c.loop-n.invariant ns e))

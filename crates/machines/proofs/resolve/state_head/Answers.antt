@@ -4,8 +4,5 @@ use Rattle.machines.proofs.resolve.state_head.Goals as goal
 pub returns-then-r-gt0 : goal.returns-then-r-gt0
 returns-then-r-gt0 c = head-kept _ _ _ _ _ _ _ c.requires.1 c.memo_regions-r.ensures c.if-r-gt0.true c.memo_longest.ensures
 
-pub read_state_head-requires : goal.read_state_head-requires
-read_state_head-requires c = (c.requires.0, c.requires.1.ends)
-
 pub returns : goal.returns
 returns c = λ ns e. c.read_state_head.ensures ns e (c.moves_of-m.ensures ns e)

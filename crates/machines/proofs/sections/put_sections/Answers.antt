@@ -4,7 +4,7 @@ use Rattle.machines.proofs.PartsLaws.{sections-put}
 use Rattle.machines.proofs.sections.put_sections.Goals as goal
 
 pub put_nodes-b-requires : goal.put_nodes-b-requires
-put_nodes-b-requires c = (c.requires.0, c.requires.1, long_kept _ _ _ _ _ _ c.put_enums_part-a.auto.layout c.put_enums_part-a.auto.rows c.put_enums_part-a.auto.qualified c.requires.2, c.requires.3)
+put_nodes-b-requires c = (c.requires.1, long_kept _ _ _ _ _ _ c.put_enums_part-a.auto.layout c.put_enums_part-a.auto.rows c.put_enums_part-a.auto.qualified c.requires.2)
 
 pub put_origins_part-requires : goal.put_origins_part-requires
 put_origins_part-requires c = (c.requires.0, c.requires.1)

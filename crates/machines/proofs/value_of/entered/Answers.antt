@@ -4,7 +4,7 @@ use Rattle.machines.proofs.ValueLaws.{entered_from, giving-done, giving-found, g
 use Rattle.machines.proofs.value_of.entered.Goals as goal
 
 pub loop-init : goal.loop-init
-loop-init c = (λ ns e. rw all_left, c.requires.2)
+loop-init c = (λ ns e. rw all_left, c.requires)
 
 pub require_cover_region-m-requires : goal.require_cover_region-m-requires
 require_cover_region-m-requires c = c.loop.invariant.1

@@ -9,7 +9,7 @@ pub returns-then-v : goal.returns-then-v
 returns-then-v c = λ ns e eqs h. stays-full _ _ _ _ _ _ c.if-v.true (c.loop-i.invariant ns e eqs h)
 
 pub put_new_node-v-requires : goal.put_new_node-v-requires
-put_new_node-v-requires c = (c.requires.0, c.requires.1, long_kept _ _ _ _ _ _ c.loop-i.auto.layout c.loop-i.auto.rows c.loop-i.auto.qualified c.requires.2, c.requires.3)
+put_new_node-v-requires c = (c.requires.0, long_kept _ _ _ _ _ _ c.loop-i.auto.layout c.loop-i.auto.rows c.loop-i.auto.qualified c.requires.1)
 
 pub loop-i-preserved : goal.loop-i-preserved
 loop-i-preserved c = λ ns e eqs h. each_more _ (new_node_t ns _ _ _ _ _ _ eqs) _ _ _ _ _ _ (one_more c.loop-i-test.true) (c.put_new_node-v.ensures ns e eqs h) (c.loop-i.invariant ns e eqs h)
