@@ -23,7 +23,7 @@ ghost use Rattle.machine_rules.specs.Call.{lower_machines, lower_package_machine
 
 use crate::added::small;
 use crate::checked_read::number;
-use crate::drawing::Drawing;
+use crate::drawing::{Drawing, NameTables};
 use crate::layout::between;
 use crate::memo::fill_memo;
 use crate::owners::{assign_nodes, place_nodes, refused_count};
@@ -64,41 +64,26 @@ fn fill_tables(
     let n = small(m.value);
     place_names(pack, sections.names, offsets);
     fill_memo(pack, sections.names, offsets, sections.machines, memo);
-    place_machines(
-        &Drawing {
-            pack,
-            names: sections.names,
-            memo,
-        },
-        sections.machines,
-        machines,
-    );
-    place_nodes(pack, sections.names, old, c.next, nodes);
-    judge_all(
+    let drawing = Drawing {
         pack,
-        sections.names,
+        names: sections.names,
+        memo,
+    };
+    place_machines(&drawing, sections.machines, machines);
+    place_nodes(pack, sections.names, old, c.next, nodes);
+    let tables = NameTables {
+        drawing,
         offsets,
         machines,
-        memo,
-        layout,
-        rows,
-        qualified,
-        n,
-        m.next,
-        defs,
-        regcounts,
-    );
+    };
+    judge_all(&tables, layout, rows, qualified, n, m.next, defs, regcounts);
     assign_nodes(pack, defs, regcounts, n, receivers, nodes, old);
     refused_count(receivers, n)
 }
 
 // The report of the first n machines, of which so many are refused, where it fits.
 fn report_all(
-    pack: &[u8],
-    names: usize,
-    offsets: &[u16],
-    machines: &[u16],
-    memo: &[u16],
+    tables: &NameTables,
     layout: &mut [usize],
     rows: &mut [usize],
     qualified: &mut [u8],
@@ -109,19 +94,17 @@ fn report_all(
     refused: usize,
     report: &mut [u8],
 ) -> Outcome
-    requires { (length pack.now ≤ max_bytes) × Long layout.old rows.old qualified.old × (n ≤ word_range) × Reports pack.now offsets.now machines.now defs.now regcounts.now receivers.now names n × MemoSound pack.now names offsets.now memo.now }
-    ensures { (ns : List Name) → length ns ≡ names → (es : ℕ → List ℕ) → EntersAll ns pack.now offsets.now machines.now defs.now regcounts.now receivers.now n es → (output : List ℕ) → Answers (reported (length report.old) (two refused ++ bytes_t (of_refused receivers.now es) n 0)) (number_for result) (value_for result) output output report.old report.new }
+    requires { Long layout.old rows.old qualified.old × (n ≤ word_range) × Reports tables.now.drawing.pack.now tables.now.offsets.now tables.now.machines.now defs.now regcounts.now receivers.now tables.now.drawing.names n }
+    ensures { (ns : List Name) → length ns ≡ tables.now.drawing.names → (es : ℕ → List ℕ) → EntersAll ns tables.now.drawing.pack.now tables.now.offsets.now tables.now.machines.now defs.now regcounts.now receivers.now n es → (output : List ℕ) → Answers (reported (length report.old) (two refused ++ bytes_t (of_refused receivers.now es) n 0)) (number_for result) (value_for result) output output report.old report.new }
 {
     let b = report_len(
-        pack, names, offsets, machines, memo, layout, rows, qualified, defs, receivers, regcounts,
-        n,
+        tables, layout, rows, qualified, defs, receivers, regcounts, n,
     );
     if report.len() < b {
         return Err(CallError::ReportRoom(b));
     }
     put_report(
-        pack, names, offsets, machines, memo, layout, rows, qualified, defs, receivers, regcounts,
-        n, refused, report,
+        tables, layout, rows, qualified, defs, receivers, regcounts, n, refused, report,
     );
     Err(CallError::Refused(b))
 }
@@ -242,9 +225,13 @@ fn lower_filled(
         regcounts,
     );
     if refused != 0 {
+        let tables = NameTables {
+            drawing: Drawing { pack, names, memo },
+            offsets,
+            machines,
+        };
         return report_all(
-            pack, names, offsets, machines, memo, layout, rows, qualified, defs, receivers,
-            regcounts, n, refused, report,
+            &tables, layout, rows, qualified, defs, receivers, regcounts, n, refused, report,
         );
     }
     write_out_of_line(

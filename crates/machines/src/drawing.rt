@@ -8,7 +8,7 @@ ghost use Rattle.pack_rules.specs.Read.{equation_in, expr_in, state_at};
 ghost use Rattle.pack_rules.specs.Limits.{max_bytes};
 ghost use Rattle.machines.specs.ResolvedIn.{end_of, over_in};
 ghost use Rattle.machines.specs.LayoutAt.{moves_at, regions_at};
-ghost use Rattle.machines.specs.MemoSound.{RowsSound};
+ghost use Rattle.machines.specs.MemoSound.{MemoSound, RowsSound};
 
 use crate::checked_read::{
     after_equation, after_equations, after_expr, after_state, after_transitions, number,
@@ -108,4 +108,14 @@ impl<'a> Drawing<'a> {
         }
         p
     }
+}
+
+// A drawing's tables by name index (`table`): where each name stands, and where the initial state of the machine of that name does. What
+// is kept of the drawing has also the lengths of names, which are right where names stand so.
+#[derive(Clone, Copy)]
+pub struct NameTables<'a> {
+    pub drawing: Drawing<'a>,
+    pub offsets: &'a [u16],
+    pub machines: &'a [u16],
+    pub ghost lengths: { MemoSound drawing.pack.now drawing.names offsets.now drawing.memo.now } by { Prim.hlevel props },
 }

@@ -15,7 +15,7 @@ ghost use Rattle.wire.specs.Bytes.{word_range};
 ghost use Rattle.machines.specs.EmptyRegions.{AtOnce, EmptyRun, empty_at, opened_of, taken_of};
 
 use crate::checked_read::{machine, number, region};
-use crate::drawing::Drawing;
+use crate::drawing::{Drawing, NameTables};
 use crate::layout::{RegionHead, region_head};
 use crate::memo::{EMPTY, memo_at, memo_beside, memo_longest, memo_regions};
 use crate::table::name_len;
@@ -130,19 +130,18 @@ pub fn read_state_head(drawing: &Drawing, offsets: &[u16], at: usize, m: usize) 
 }
 
 // The same, looked up where it is kept.
-pub fn state_head(pack: &[u8], names: usize, offsets: &[u16], memo: &[u16], at: usize) -> Number
-    requires { (length pack.now ≤ max_bytes) × MemoSound pack.now names offsets.now memo.now }
-    ensures { (ns : List Name) → length ns ≡ names → result ≡ head_t ns pack.now offsets.now at }
+pub fn state_head(tables: &NameTables, at: usize) -> Number
+    ensures { (ns : List Name) → length ns ≡ tables.now.drawing.names → result ≡ head_t ns tables.now.drawing.pack.now tables.now.offsets.now at }
 {
-    let r = memo_regions(memo, at);
+    let r = memo_regions(tables.drawing.memo, at);
     if 0 < r {
         return Number {
-            value: memo_longest(memo, at),
+            value: memo_longest(tables.drawing.memo, at),
             next: r,
         };
     }
-    let m = Drawing { pack, names, memo }.moves_of(at);
-    read_state_head(&Drawing { pack, names, memo }, offsets, at, m)
+    let m = tables.drawing.moves_of(at);
+    read_state_head(&tables.drawing, tables.offsets, at, m)
 }
 
 // --- Regions without states that follow one another: how many is kept once, so that a visit passes over all of them at once.
@@ -296,34 +295,33 @@ fn qualified_len(i: usize, w: usize, a: usize, next: usize, states: usize) -> Re
 // One state: it is counted, then its regions, then its refinement.
 #[cycle(resolve_state_resolve_states)]
 fn resolve_state(
-    pack: &[u8],
-    names: usize,
-    offsets: &[u16],
-    machines: &[u16],
-    memo: &[u16],
+    tables: &NameTables,
     levels: usize,
     p: RefineStack,
     at: usize,
     count: usize,
 ) -> Resolved
-    requires { (length pack.now ≤ max_bytes) × MemoSound pack.now names offsets.now memo.now }
-    ensures { (ns : List Name) → length ns ≡ names → result ≡ state_w ns pack.now offsets.now machines.now (walk_in ns pack.now offsets.now machines.now levels) p at count }
+    ensures { (ns : List Name) → length ns ≡ tables.now.drawing.names → result ≡ state_w ns tables.now.drawing.pack.now tables.now.offsets.now tables.now.machines.now (walk_in ns tables.now.drawing.pack.now tables.now.offsets.now tables.now.machines.now levels) p at count }
 {
     if Pack::STATES <= count {
         return Resolved::Large;
     }
-    let h = state_head(pack, names, offsets, memo, at);
-    let t = number(pack, h.next);
+    let h = state_head(tables, at);
+    let t = number(tables.drawing.pack, h.next);
     let mut n = t.value;
     let mut o = t.next;
     let mut c = count + 1;
     let mut a = h.value;
     while 0 < n {
-        let k = run_length(memo, n, o);
-        let g = take_regions(pack, offsets, memo, k, o);
-        let e = resolve_states(
-            pack, names, offsets, machines, memo, levels, p, g.states, g.next, c,
+        let k = run_length(tables.drawing.memo, n, o);
+        let g = take_regions(
+            tables.drawing.pack,
+            tables.offsets,
+            tables.drawing.memo,
+            k,
+            o,
         );
+        let e = resolve_states(tables, levels, p, g.states, g.next, c);
         let Resolved::Went(next, states, longest) = e else {
             return e;
         };
@@ -332,39 +330,47 @@ fn resolve_state(
         o = next;
         c = states;
     }
-    let f = number(pack, o);
+    let f = number(tables.drawing.pack, o);
     if f.value == Pack::ABSENT {
         return Resolved::Went(f.next, c, a);
     }
-    let i = number(pack, at);
-    let d = refinement(pack, offsets, machines, p, i.value, f.value);
+    let i = number(tables.drawing.pack, at);
+    let d = refinement(
+        tables.drawing.pack,
+        tables.offsets,
+        tables.machines,
+        p,
+        i.value,
+        f.value,
+    );
     let Resolved::Went(b, k, v) = d else {
         return d;
     };
     let q = push(p, f.value);
-    let y = resolve_states(pack, names, offsets, machines, memo, levels, q, k, b, c);
+    let y = resolve_states(tables, levels, q, k, b, c);
     let Resolved::Went(_, j, w) = y else {
         return y;
     };
-    qualified_len(name_len(pack, offsets, i.value), v.max(w), a, f.next, j)
+    qualified_len(
+        name_len(tables.drawing.pack, tables.offsets, i.value),
+        v.max(w),
+        a,
+        f.next,
+        j,
+    )
 }
 
 // So many states, with so many levels left: with none they may not open.
 #[cycle(resolve_state_resolve_states)]
 fn resolve_states(
-    pack: &[u8],
-    names: usize,
-    offsets: &[u16],
-    machines: &[u16],
-    memo: &[u16],
+    tables: &NameTables,
     levels: usize,
     p: RefineStack,
     count: usize,
     at: usize,
     done: usize,
 ) -> Resolved
-    requires { (length pack.now ≤ max_bytes) × MemoSound pack.now names offsets.now memo.now }
-    ensures { (ns : List Name) → length ns ≡ names → result ≡ walk_in ns pack.now offsets.now machines.now levels p count at done }
+    ensures { (ns : List Name) → length ns ≡ tables.now.drawing.names → result ≡ walk_in ns tables.now.drawing.pack.now tables.now.offsets.now tables.now.machines.now levels p count at done }
 {
     if levels == 0 {
         return Resolved::Large;
@@ -373,7 +379,7 @@ fn resolve_states(
     let mut c = done;
     let mut a: usize = 0;
     for _ in 0..count {
-        let e = resolve_state(pack, names, offsets, machines, memo, levels - 1, p, o, c);
+        let e = resolve_state(tables, levels - 1, p, o, c);
         let Resolved::Went(next, states, longest) = e else {
             return e;
         };
@@ -385,29 +391,9 @@ fn resolve_states(
 }
 
 // Resolves the machine of the name m, whose initial state stands at `at`.
-pub fn resolve_machine(
-    pack: &[u8],
-    names: usize,
-    offsets: &[u16],
-    machines: &[u16],
-    memo: &[u16],
-    m: usize,
-    at: usize,
-) -> Resolved
-    requires { (length pack.now ≤ max_bytes) × MemoSound pack.now names offsets.now memo.now }
-    ensures { (ns : List Name) → length ns ≡ names → result ≡ machine_w ns pack.now offsets.now machines.now m at }
+pub fn resolve_machine(tables: &NameTables, m: usize, at: usize) -> Resolved
+    ensures { (ns : List Name) → length ns ≡ tables.now.drawing.names → result ≡ machine_w ns tables.now.drawing.pack.now tables.now.offsets.now tables.now.machines.now m at }
 {
-    let k = machine(pack, at);
-    resolve_states(
-        pack,
-        names,
-        offsets,
-        machines,
-        memo,
-        Pack::LEVELS,
-        start_stack(m),
-        k.value,
-        k.next,
-        0,
-    )
+    let k = machine(tables.drawing.pack, at);
+    resolve_states(tables, Pack::LEVELS, start_stack(m), k.value, k.next, 0)
 }

@@ -17,7 +17,7 @@ ghost use Rattle.machines.specs.OwnersAt.{HasRegions, fill_t, machine_end, nth};
 
 use crate::checked_read::{after_port, number};
 use crate::cover::{ASSIGNS_MEMO, require_cover_region};
-use crate::drawing::Drawing;
+use crate::drawing::{Drawing, NameTables};
 use crate::duplicates::duplicate_name;
 use crate::layout::{layout_machine, layout_word};
 use crate::resolve::{Resolved, resolve_machine};
@@ -264,23 +264,18 @@ fn judge_laid(
 
 // The machine at the offset `at`. Where it resolves, it is then laid out in the tables.
 pub fn judge(
-    pack: &[u8],
-    names: usize,
-    offsets: &[u16],
-    machines: &[u16],
-    memo: &[u16],
+    tables: &NameTables,
     layout: &mut [usize],
     rows: &mut [usize],
     qualified: &mut [u8],
     at: usize,
 ) -> VerdictRow
-    requires { (length pack.now ≤ max_bytes) × MemoSound pack.now names offsets.now memo.now }
-    ensures value { (ns : List Name) → length ns ≡ names → result ≡ judge_at ns pack.now offsets.now machines.now at layout.old rows.old qualified.old }
-    ensures qualified_after { (ns : List Name) → length ns ≡ names → qualified.new ≡ (board_at ns pack.now offsets.now machines.now at layout.old rows.old qualified.old).qualified }
+    ensures value { (ns : List Name) → length ns ≡ tables.now.drawing.names → result ≡ judge_at ns tables.now.drawing.pack.now tables.now.offsets.now tables.now.machines.now at layout.old rows.old qualified.old }
+    ensures qualified_after { (ns : List Name) → length ns ≡ tables.now.drawing.names → qualified.new ≡ (board_at ns tables.now.drawing.pack.now tables.now.offsets.now tables.now.machines.now at layout.old rows.old qualified.old).qualified }
 {
-    let m = number(pack, at);
-    let i = to_initial(pack, names, m.next);
-    let w = resolve_machine(pack, names, offsets, machines, memo, m.value, i);
+    let m = number(tables.drawing.pack, at);
+    let i = to_initial(tables.drawing.pack, tables.drawing.names, m.next);
+    let w = resolve_machine(tables, m.value, i);
     match w {
         Resolved::Cycle(n) => refused(VerdictRow::REFINE_CYCLE, named(n), no_name()),
         Resolved::Unknown { state, name } => refused(
@@ -291,23 +286,16 @@ pub fn judge(
         Resolved::Large => refused(VerdictRow::TOO_LARGE, no_name(), no_name()),
         Resolved::Went(_, _, _) => {
             let l = layout_machine(
-                &Drawing { pack, names, memo },
-                offsets,
-                machines,
+                &tables.drawing,
+                tables.offsets,
+                tables.machines,
                 layout,
                 rows,
                 qualified,
                 i,
             );
-            let o = to_outputs(pack, names, m.next);
-            judge_laid(
-                &Drawing { pack, names, memo },
-                layout,
-                qualified,
-                l.letters,
-                l.regions,
-                o,
-            )
+            let o = to_outputs(tables.drawing.pack, tables.drawing.names, m.next);
+            judge_laid(&tables.drawing, layout, qualified, l.letters, l.regions, o)
         }
     }
 }
@@ -323,11 +311,7 @@ fn after_machine(drawing: &Drawing, at: usize) -> usize
 
 // Where each of `count` machines from `from` on is drawn, and how many regions it has: 0 where it is refused.
 pub fn judge_all(
-    pack: &[u8],
-    names: usize,
-    offsets: &[u16],
-    machines: &[u16],
-    memo: &[u16],
+    tables: &NameTables,
     layout: &mut [usize],
     rows: &mut [usize],
     qualified: &mut [u8],
@@ -336,17 +320,15 @@ pub fn judge_all(
     defs: &mut [usize],
     regcounts: &mut [usize],
 )
-    requires { (length pack.now ≤ max_bytes) × Long layout.old rows.old qualified.old × MemoSound pack.now names offsets.now memo.now }
-    ensures defs_after { (ns : List Name) → length ns ≡ names → defs.new ≡ fill_t (nth (machine_end ns pack.now) from) count 0 defs.old }
-    ensures regcounts_after { (ns : List Name) → length ns ≡ names → (gs : ℕ → ℕ) → ((i : ℕ) → i < count → HasRegions ns pack.now offsets.now machines.now (nth (machine_end ns pack.now) from i) (gs i)) → regcounts.new ≡ fill_t gs count 0 regcounts.old }
+    requires { Long layout.old rows.old qualified.old }
+    ensures defs_after { (ns : List Name) → length ns ≡ tables.now.drawing.names → defs.new ≡ fill_t (nth (machine_end ns tables.now.drawing.pack.now) from) count 0 defs.old }
+    ensures regcounts_after { (ns : List Name) → length ns ≡ tables.now.drawing.names → (gs : ℕ → ℕ) → ((i : ℕ) → i < count → HasRegions ns tables.now.drawing.pack.now tables.now.offsets.now tables.now.machines.now (nth (machine_end ns tables.now.drawing.pack.now) from i) (gs i)) → regcounts.new ≡ fill_t gs count 0 regcounts.old }
 {
     let mut p = from;
     for i in 0..count {
-        let j = judge(
-            pack, names, offsets, machines, memo, layout, rows, qualified, p,
-        );
+        let j = judge(tables, layout, rows, qualified, p);
         put(defs, i, p);
         put(regcounts, i, j.regions);
-        p = after_machine(&Drawing { pack, names, memo }, p);
+        p = after_machine(&tables.drawing, p);
     }
 }

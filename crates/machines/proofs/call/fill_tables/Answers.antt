@@ -10,9 +10,6 @@ fill_memo-requires c = (c.requires.0, blank-right _ _ _ _ c.requires.2)
 pub place_nodes-requires : goal.place_nodes-requires
 place_nodes-requires c = c.requires.0
 
-pub judge_all-requires : goal.judge_all-requires
-judge_all-requires c = (c.requires.0, c.requires.1, c.fill_memo.ensures)
-
 pub assign_nodes-requires : goal.assign_nodes-requires
 assign_nodes-requires c = (omega (arith, c.small-n.ensures.0), omega (arith, c.small-old.ensures.0))
 

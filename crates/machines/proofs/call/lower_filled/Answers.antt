@@ -4,7 +4,7 @@ use Rattle.machines.proofs.Answered.{answers-reported, answers-written, reports-
 use Rattle.machines.proofs.call.lower_filled.Goals as goal
 
 pub report_all-requires : goal.report_all-requires
-report_all-requires c = (c.requires.0, long_kept _ _ _ _ _ _ c.fill_tables-refused.auto.layout c.fill_tables-refused.auto.rows c.fill_tables-refused.auto.qualified c.requires.1, omega (arith, c.small-n.ensures.0), reports-known _ _ c.requires.3.held c.requires.3.stands (λ i. omega (arith, c.type_inv.pack i)) c.requires.0 _ _ _ _ _ _ _ _ _ _ _ _ c.requires.2 c.fill_tables-refused.ensures.filled _ _ _ c.requires.1 _ _ c.number-m.ensures c.small-n.ensures.1, c.fill_tables-refused.ensures.memo_sound)
+report_all-requires c = (long_kept _ _ _ _ _ _ c.fill_tables-refused.auto.layout c.fill_tables-refused.auto.rows c.fill_tables-refused.auto.qualified c.requires.1, omega (arith, c.small-n.ensures.0), reports-known _ _ c.requires.3.held c.requires.3.stands (λ i. omega (arith, c.type_inv.pack i)) c.requires.0 _ _ _ _ _ _ _ _ _ _ _ _ c.requires.2 c.fill_tables-refused.ensures.filled _ _ _ c.requires.1 _ _ c.number-m.ensures c.small-n.ensures.1)
 
 pub shape_of-offsets-then-refused-ne0 : goal.shape_of-offsets-then-refused-ne0
 shape_of-offsets-then-refused-ne0 c = c.fill_tables-refused.auto.offsets

@@ -29,7 +29,7 @@ resolve_state-resolve_states-e-requires t c = (omega (arith, c.decreases), c.req
 
 pub resolve_state-returns-in_default : goal.resolve_state-returns-in_default
 resolve_state-returns-in_default t c = λ ns e. state-on ns _ _ _ _ _ _ _ _ _ _ c.if-count-ge-STATES.false (c.state_head-h.ensures ns e) c.number-t.ensures
-    (stopped _ _ _ (unsealed c.in_default.in_default-own.keys2) (taken-stopped ns _ _ _ _ _ e c.requires.1 _ _ _ _ _ _ _ _ _ _ c.run_length-k.ensures c.take_regions-g.ensures (c.resolve_states-e.ensures ns e) (unsealed c.in_default.in_default-own.keys2) (c.loop-n.invariant ns e)))
+    (stopped _ _ _ (unsealed c.in_default.in_default-own.keys2) (taken-stopped ns _ _ _ _ _ e c.args.tables.now.lengths _ _ _ _ _ _ _ _ _ _ c.run_length-k.ensures c.take_regions-g.ensures (c.resolve_states-e.ensures ns e) (unsealed c.in_default.in_default-own.keys2) (c.loop-n.invariant ns e)))
 
 pub resolve_state-overflow_sub-n : goal.resolve_state-overflow_sub-n
 resolve_state-overflow_sub-n t c = c.run_length-k.ensures.few
@@ -38,7 +38,7 @@ pub resolve_state-loop-n-smaller : goal.resolve_state-loop-n-smaller
 resolve_state-loop-n-smaller t c = omega (arith, c.run_length-k.ensures.some, c.run_length-k.ensures.few)
 
 pub resolve_state-loop-n-preserved : goal.resolve_state-loop-n-preserved
-resolve_state-loop-n-preserved t c = λ ns e. taken-went ns _ _ _ _ _ e c.requires.1 _ _ _ _ _ _ _ _ _ _ _ _ _ _ _ c.run_length-k.ensures c.take_regions-g.ensures (c.resolve_states-e.ensures ns e) c.in-Went.is c.max.ensures c.max-a.ensures (c.loop-n.invariant ns e)
+resolve_state-loop-n-preserved t c = λ ns e. taken-went ns _ _ _ _ _ e c.args.tables.now.lengths _ _ _ _ _ _ _ _ _ _ _ _ _ _ _ c.run_length-k.ensures c.take_regions-g.ensures (c.resolve_states-e.ensures ns e) c.in-Went.is c.max.ensures c.max-a.ensures (c.loop-n.invariant ns e)
 
 pub resolve_state-returns-then-f-eq-ABSENT : goal.resolve_state-returns-then-f-eq-ABSENT
 resolve_state-returns-then-f-eq-ABSENT t c = λ ns e. state-on ns _ _ _ _ _ _ _ _ _ _ c.if-count-ge-STATES.false (c.state_head-h.ensures ns e) c.number-t.ensures
