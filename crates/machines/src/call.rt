@@ -22,7 +22,7 @@ ghost use Rattle.machines.specs.CallTables.{Empty, Filled, OpenedAs, Reports, ma
 ghost use Rattle.machine_rules.specs.Call.{lower_machines, lower_package_machines};
 
 use crate::added::small;
-use crate::checked_read::number;
+use crate::checked_read::{CheckedPack, number};
 use crate::drawing::{Drawing, NameTables};
 use crate::layout::between;
 use crate::memo::fill_memo;
@@ -64,9 +64,12 @@ fn fill_tables(
     let n = small(m.value);
     place_names(pack, sections.names, offsets);
     fill_memo(pack, sections.names, offsets, sections.machines, memo);
-    let drawing = Drawing {
-        pack,
+    let checked = CheckedPack {
+        bytes: pack,
         names: sections.names,
+    };
+    let drawing = Drawing {
+        pack: checked,
         memo,
     };
     place_machines(&drawing, sections.machines, machines);
@@ -94,8 +97,8 @@ fn report_all(
     refused: usize,
     report: &mut [u8],
 ) -> Outcome
-    requires { Long layout.old rows.old qualified.old × (n ≤ word_range) × Reports tables.now.drawing.pack.now tables.now.offsets.now tables.now.machines.now defs.now regcounts.now receivers.now tables.now.drawing.names n }
-    ensures { (ns : List Name) → length ns ≡ tables.now.drawing.names → (es : ℕ → List ℕ) → EntersAll ns tables.now.drawing.pack.now tables.now.offsets.now tables.now.machines.now defs.now regcounts.now receivers.now n es → (output : List ℕ) → Answers (reported (length report.old) (two refused ++ bytes_t (of_refused receivers.now es) n 0)) (number_for result) (value_for result) output output report.old report.new }
+    requires { Long layout.old rows.old qualified.old × (n ≤ word_range) × Reports tables.now.drawing.pack.bytes.now tables.now.offsets.now tables.now.machines.now defs.now regcounts.now receivers.now tables.now.drawing.pack.names n }
+    ensures { (ns : List Name) → length ns ≡ tables.now.drawing.pack.names → (es : ℕ → List ℕ) → EntersAll ns tables.now.drawing.pack.bytes.now tables.now.offsets.now tables.now.machines.now defs.now regcounts.now receivers.now n es → (output : List ℕ) → Answers (reported (length report.old) (two refused ++ bytes_t (of_refused receivers.now es) n 0)) (number_for result) (value_for result) output output report.old report.new }
 {
     let b = report_len(
         tables, layout, rows, qualified, defs, receivers, regcounts, n,
@@ -225,8 +228,13 @@ fn lower_filled(
         regcounts,
     );
     if refused != 0 {
+        let checked = CheckedPack { bytes: pack, names };
+        let drawing = Drawing {
+            pack: checked,
+            memo,
+        };
         let tables = NameTables {
-            drawing: Drawing { pack, names, memo },
+            drawing,
             offsets,
             machines,
         };

@@ -38,10 +38,10 @@ pub struct OnlyLeft {
 
 // Whether `out` is an equation's only left name.
 fn assigns_only(drawing: &Drawing, out: usize, at: usize) -> OnlyLeft
-    ensures { (ns : List Name) → length ns ≡ drawing.now.names → result ≡ gives_t ns drawing.now.pack.now out at }
+    ensures { (ns : List Name) → length ns ≡ drawing.now.pack.names → result ≡ gives_t ns drawing.now.pack.bytes.now out at }
 {
-    let k = number(drawing.pack, at);
-    let i = number(drawing.pack, k.next);
+    let k = number(drawing.pack.bytes, at);
+    let i = number(drawing.pack.bytes, k.next);
     let next = drawing.end_of(at);
     OnlyLeft {
         yes: k.value == 1 && i.value == out,
@@ -58,11 +58,11 @@ struct Hint {
 
 // What comes after the first equation of the state at `at` that gives `out`.
 fn assigns(drawing: &Drawing, out: usize, at: usize) -> Option<Hint>
-    ensures found { (ns : List Name) → length ns ≡ drawing.now.names → is_some result ≡ own_t ns drawing.now.pack.now out at }
-    ensures hint_of { IfSome result (λ h. HintOf drawing.now.pack.now drawing.now.names at h.left h.next) }
+    ensures found { (ns : List Name) → length ns ≡ drawing.now.pack.names → is_some result ≡ own_t ns drawing.now.pack.bytes.now out at }
+    ensures hint_of { IfSome result (λ h. HintOf drawing.now.pack.bytes.now drawing.now.pack.names at h.left h.next) }
 {
-    let i = number(drawing.pack, at);
-    let t = number(drawing.pack, i.next);
+    let i = number(drawing.pack.bytes, at);
+    let t = number(drawing.pack.bytes, i.next);
     let mut p = t.next;
     for left in (0..t.value).rev() {
         let e = assigns_only(drawing, out, p);
@@ -77,9 +77,9 @@ fn assigns(drawing: &Drawing, out: usize, at: usize) -> Option<Hint>
 // The same, with the equation after the one found last tried first: outputs mostly come in the order of the equations, and a
 // state may have thousands.
 fn assigns_from_hint(drawing: &Drawing, hints: &[u16], out: usize, at: usize) -> Option<Hint>
-    requires { AssignsSound drawing.now.pack.now drawing.now.names drawing.now.memo.now hints.now }
-    ensures found { (ns : List Name) → length ns ≡ drawing.now.names → is_some result ≡ own_t ns drawing.now.pack.now out at }
-    ensures hint_of { IfSome result (λ h. HintOf drawing.now.pack.now drawing.now.names at h.left h.next) }
+    requires { AssignsSound drawing.now.pack.bytes.now drawing.now.pack.names drawing.now.memo.now hints.now }
+    ensures found { (ns : List Name) → length ns ≡ drawing.now.pack.names → is_some result ≡ own_t ns drawing.now.pack.bytes.now out at }
+    ensures hint_of { IfSome result (λ h. HintOf drawing.now.pack.bytes.now drawing.now.pack.names at h.left h.next) }
 {
     let b = 3 * (at / 10 % HINTS);
     if cell(hints, b) != at {
@@ -124,9 +124,9 @@ fn mark(out: usize, given: bool) -> usize
 // Whether an equation of the state at `at`, which is kept, gives `out`. A state that is drawn once may stand hundreds of times in
 // a resolved machine: its equations are looked at only where its cell says nothing of `out`.
 fn assigns_by_mark(drawing: &Drawing, hints: &mut [u16], out: usize, at: usize) -> bool
-    requires { AssignsSound drawing.now.pack.now drawing.now.names drawing.now.memo.now hints.old × (out < 32767) × (0 < regions_in drawing.now.memo.now at) }
-    ensures value { (ns : List Name) → length ns ≡ drawing.now.names → result ≡ own_t ns drawing.now.pack.now out at }
-    ensures assigns_sound { AssignsSound drawing.now.pack.now drawing.now.names drawing.now.memo.now hints.new }
+    requires { AssignsSound drawing.now.pack.bytes.now drawing.now.pack.names drawing.now.memo.now hints.old × (out < 32767) × (0 < regions_in drawing.now.memo.now at) }
+    ensures value { (ns : List Name) → length ns ≡ drawing.now.pack.names → result ≡ own_t ns drawing.now.pack.bytes.now out at }
+    ensures assigns_sound { AssignsSound drawing.now.pack.bytes.now drawing.now.pack.names drawing.now.memo.now hints.new }
 {
     let b = MARKS + at / 10;
     let c = cell(hints, b);
@@ -149,9 +149,9 @@ fn assigns_by_mark(drawing: &Drawing, hints: &mut [u16], out: usize, at: usize) 
 
 // The same of any state. One that is not kept has no cell of its own, and the mark of a larger index fits no cell.
 pub fn assigns_with_memo(drawing: &Drawing, hints: &mut [u16], out: usize, at: usize) -> bool
-    requires { AssignsSound drawing.now.pack.now drawing.now.names drawing.now.memo.now hints.old }
-    ensures value { (ns : List Name) → length ns ≡ drawing.now.names → result ≡ own_t ns drawing.now.pack.now out at }
-    ensures assigns_sound { AssignsSound drawing.now.pack.now drawing.now.names drawing.now.memo.now hints.new }
+    requires { AssignsSound drawing.now.pack.bytes.now drawing.now.pack.names drawing.now.memo.now hints.old }
+    ensures value { (ns : List Name) → length ns ≡ drawing.now.pack.names → result ≡ own_t ns drawing.now.pack.bytes.now out at }
+    ensures assigns_sound { AssignsSound drawing.now.pack.bytes.now drawing.now.pack.names drawing.now.memo.now hints.new }
 {
     if 32767 <= out || memo_regions(drawing.memo, at) == 0 {
         return assigns(drawing, out, at).is_some();
@@ -170,9 +170,9 @@ fn require_cover_state(
     levels: usize,
     p: usize,
 ) -> usize
-    requires { AssignsSound drawing.now.pack.now drawing.now.names drawing.now.memo.now hints.old }
-    ensures value { (ns : List Name) → length ns ≡ drawing.now.names → result ≡ miss_t ns drawing.now.pack.now layout.now out (uncovered_t ns drawing.now.pack.now layout.now out levels) p }
-    ensures assigns_sound { AssignsSound drawing.now.pack.now drawing.now.names drawing.now.memo.now hints.new }
+    requires { AssignsSound drawing.now.pack.bytes.now drawing.now.pack.names drawing.now.memo.now hints.old }
+    ensures value { (ns : List Name) → length ns ≡ drawing.now.pack.names → result ≡ miss_t ns drawing.now.pack.bytes.now layout.now out (uncovered_t ns drawing.now.pack.bytes.now layout.now out levels) p }
+    ensures assigns_sound { AssignsSound drawing.now.pack.bytes.now drawing.now.pack.names drawing.now.memo.now hints.new }
 {
     if assigns_with_memo(drawing, hints, out, entry(layout, p)) {
         return 0;
@@ -204,9 +204,9 @@ pub fn require_cover_region(
     levels: usize,
     q: usize,
 ) -> usize
-    requires { AssignsSound drawing.now.pack.now drawing.now.names drawing.now.memo.now hints.old }
-    ensures value { (ns : List Name) → length ns ≡ drawing.now.names → result ≡ uncovered_t ns drawing.now.pack.now layout.now out levels q }
-    ensures assigns_sound { AssignsSound drawing.now.pack.now drawing.now.names drawing.now.memo.now hints.new }
+    requires { AssignsSound drawing.now.pack.bytes.now drawing.now.pack.names drawing.now.memo.now hints.old }
+    ensures value { (ns : List Name) → length ns ≡ drawing.now.pack.names → result ≡ uncovered_t ns drawing.now.pack.bytes.now layout.now out levels q }
+    ensures assigns_sound { AssignsSound drawing.now.pack.bytes.now drawing.now.pack.names drawing.now.memo.now hints.new }
 {
     if levels == 0 {
         return 0;

@@ -30,16 +30,16 @@ fn put_equations(
     made: &mut [u8],
     writer: Writer,
 ) -> Writer
-    ensures { (ns : List Name) → length ns ≡ drawing.now.names → state_of out.new made.new result ≡ render old.now (equations_at ns drawing.now.pack.now offsets.now machines.now at layout.old rows.old qualified.old) (state_of out.old made.old writer) }
+    ensures { (ns : List Name) → length ns ≡ drawing.now.pack.names → state_of out.new made.new result ≡ render old.now (equations_at ns drawing.now.pack.bytes.now offsets.now machines.now at layout.old rows.old qualified.old) (state_of out.old made.old writer) }
 {
-    let m = number(drawing.pack, at);
-    let i = to_initial(drawing.pack, drawing.names, m.next);
+    let m = number(drawing.pack.bytes, at);
+    let i = to_initial(drawing.pack.bytes, drawing.pack.names, m.next);
     let l = layout_machine(drawing, offsets, machines, layout, rows, qualified, i);
-    let o = to_outputs(drawing.pack, drawing.names, m.next);
+    let o = to_outputs(drawing.pack.bytes, drawing.pack.names, m.next);
     let v = emit_regions(
         old,
-        drawing.pack,
-        drawing.names,
+        drawing.pack.bytes,
+        drawing.pack.names,
         offsets,
         layout,
         rows,
@@ -66,12 +66,12 @@ fn put_machine_enums(
     made: &mut [u8],
     writer: Writer,
 ) -> Writer
-    ensures { (ns : List Name) → length ns ≡ drawing.now.names → state_of out.new made.new result ≡ render old.now (enums_at ns drawing.now.pack.now offsets.now machines.now at layout.old rows.old qualified.old) (state_of out.old made.old writer) }
+    ensures { (ns : List Name) → length ns ≡ drawing.now.pack.names → state_of out.new made.new result ≡ render old.now (enums_at ns drawing.now.pack.bytes.now offsets.now machines.now at layout.old rows.old qualified.old) (state_of out.old made.old writer) }
 {
-    let m = number(drawing.pack, at);
-    let i = to_initial(drawing.pack, drawing.names, m.next);
+    let m = number(drawing.pack.bytes, at);
+    let i = to_initial(drawing.pack.bytes, drawing.pack.names, m.next);
     let l = layout_machine(drawing, offsets, machines, layout, rows, qualified, i);
-    let n = pack_name(drawing.pack, offsets, m.value);
+    let n = pack_name(drawing.pack.bytes, offsets, m.value);
     put_enums(
         old, n, layout, rows, qualified, l.regions, out, made, writer,
     )
@@ -94,7 +94,7 @@ fn put_added_equations(
     made: &mut [u8],
     writer: Writer,
 ) -> Writer
-    ensures { (ns : List Name) → length ns ≡ drawing.now.names → state_of out.new made.new result ≡ render old.now (added_at ns drawing.now.pack.now offsets.now machines.now defs.now receivers.now k i layout.old rows.old qualified.old) (state_of out.old made.old writer) }
+    ensures { (ns : List Name) → length ns ≡ drawing.now.pack.names → state_of out.new made.new result ≡ render old.now (added_at ns drawing.now.pack.bytes.now offsets.now machines.now defs.now receivers.now k i layout.old rows.old qualified.old) (state_of out.old made.old writer) }
 {
     let a = entry(receivers, i);
     let m = entry(defs, i);
@@ -124,7 +124,7 @@ pub fn put_all_equations(
     writer: Writer,
 ) -> Writer
     requires { Long layout.old rows.old qualified.old }
-    ensures { (ns : List Name) → length ns ≡ drawing.now.names → (eqs : ℕ → List Item) → AllWrite old.now (equations_at ns drawing.now.pack.now offsets.now machines.now) defs.now n eqs → state_of out.new made.new result ≡ render old.now (each_t (added_equations_t receivers.now eqs k) n 0) (state_of out.old made.old writer) }
+    ensures { (ns : List Name) → length ns ≡ drawing.now.pack.names → (eqs : ℕ → List Item) → AllWrite old.now (equations_at ns drawing.now.pack.bytes.now offsets.now machines.now) defs.now n eqs → state_of out.new made.new result ≡ render old.now (each_t (added_equations_t receivers.now eqs k) n 0) (state_of out.old made.old writer) }
 {
     let mut v = writer;
     for i in 0..n {
@@ -155,7 +155,7 @@ pub fn put_all_enums(
     writer: Writer,
 ) -> Writer
     requires { Long layout.old rows.old qualified.old }
-    ensures { (ns : List Name) → length ns ≡ drawing.now.names → (ens : ℕ → List Item) → AllWrite old.now (enums_at ns drawing.now.pack.now offsets.now machines.now) defs.now n ens → state_of out.new made.new result ≡ render old.now (each_t ens n 0) (state_of out.old made.old writer) }
+    ensures { (ns : List Name) → length ns ≡ drawing.now.pack.names → (ens : ℕ → List Item) → AllWrite old.now (enums_at ns drawing.now.pack.bytes.now offsets.now machines.now) defs.now n ens → state_of out.new made.new result ≡ render old.now (each_t ens n 0) (state_of out.old made.old writer) }
 {
     let mut v = writer;
     for i in 0..n {

@@ -265,10 +265,18 @@ fn open_state(
     m: usize,
     c: LayoutPos,
 ) -> Entered
-    ensures { (ns : List Name) → length ns ≡ drawing.now.names → ((reg : List ℕ) → (result ≡ entered_of ns drawing.now.pack.now offsets.now a m (board layout.old reg qualified.old c)) × (board layout.new reg qualified.new (laid result.next result.words c.regions result.letters c.hole) ≡ open_state ns drawing.now.pack.now offsets.now a m (board layout.old reg qualified.old c))) }
+    ensures { (ns : List Name) → length ns ≡ drawing.now.pack.names → ((reg : List ℕ) → (result ≡ entered_of ns drawing.now.pack.bytes.now offsets.now a m (board layout.old reg qualified.old c)) × (board layout.new reg qualified.new (laid result.next result.words c.regions result.letters c.hole) ≡ open_state ns drawing.now.pack.bytes.now offsets.now a m (board layout.old reg qualified.old c))) }
 {
-    let i = number(drawing.pack, c.next);
-    let w = qualify(drawing.pack, offsets, i.value, a, m, qualified, c.letters);
+    let i = number(drawing.pack.bytes, c.next);
+    let w = qualify(
+        drawing.pack.bytes,
+        offsets,
+        i.value,
+        a,
+        m,
+        qualified,
+        c.letters,
+    );
     let l = saturating_add(c.letters, 1);
     let d = drawing.inside_of(c.next);
     put_state_row(layout, c.words, c.next, d.moves, l, w);
@@ -352,7 +360,7 @@ fn layout_state(
     m: usize,
     c: LayoutPos,
 ) -> LayoutPos
-    ensures { (ns : List Name) → length ns ≡ drawing.now.names → board layout.new rows.new qualified.new result ≡ layout_state ns drawing.now.pack.now offsets.now machines.now (layout_region ns drawing.now.pack.now offsets.now machines.now levels) up a m (board layout.old rows.old qualified.old c) }
+    ensures { (ns : List Name) → length ns ≡ drawing.now.pack.names → board layout.new rows.new qualified.new result ≡ layout_state ns drawing.now.pack.bytes.now offsets.now machines.now (layout_region ns drawing.now.pack.bytes.now offsets.now machines.now levels) up a m (board layout.old rows.old qualified.old c) }
 {
     let b = open_state(drawing, offsets, layout, qualified, a, m, c);
     let mut n = b.regions;
@@ -366,7 +374,7 @@ fn layout_state(
     };
     while 0 < n {
         let j = skip_empty_regions(drawing.memo, levels, e.hole, n, e.next);
-        let h = open_regions(drawing.pack, j, e.next);
+        let h = open_regions(drawing.pack.bytes, j, e.next);
         let d = layout_region(
             drawing, offsets, machines, layout, rows, qualified, levels, c.words, up, a, m, h, e,
         );
@@ -374,11 +382,11 @@ fn layout_state(
         n -= j;
         e = d;
     }
-    let f = number(drawing.pack, e.next);
+    let f = number(drawing.pack.bytes, e.next);
     if f.value == Pack::ABSENT {
         return close_state(layout, c.words, k, f.next, e);
     }
-    let h = machine_head(drawing.pack, 0, cell(machines, f.value));
+    let h = machine_head(drawing.pack.bytes, 0, cell(machines, f.value));
     let d = layout_region(
         drawing, offsets, machines, layout, rows, qualified, levels, c.words, up, b.letter,
         b.length, h, e,
@@ -410,7 +418,7 @@ fn layout_region(
     h: RegionHead,
     c: LayoutPos,
 ) -> LayoutPos
-    ensures { (ns : List Name) → length ns ≡ drawing.now.names → board layout.new rows.new qualified.new result ≡ layout_region ns drawing.now.pack.now offsets.now machines.now levels st up a m h (board layout.old rows.old qualified.old c) }
+    ensures { (ns : List Name) → length ns ≡ drawing.now.pack.names → board layout.new rows.new qualified.new result ≡ layout_region ns drawing.now.pack.bytes.now offsets.now machines.now levels st up a m h (board layout.old rows.old qualified.old c) }
 {
     if levels == 0 {
         return at_offset(c, 0);
@@ -448,7 +456,7 @@ pub fn layout_machine(
     qualified: &mut [u8],
     at: usize,
 ) -> LayoutPos
-    ensures { (ns : List Name) → length ns ≡ drawing.now.names → board layout.new rows.new qualified.new result ≡ layout_machine ns drawing.now.pack.now offsets.now machines.now at layout.old rows.old qualified.old }
+    ensures { (ns : List Name) → length ns ≡ drawing.now.pack.names → board layout.new rows.new qualified.new result ≡ layout_machine ns drawing.now.pack.bytes.now offsets.now machines.now at layout.old rows.old qualified.old }
 {
     let c = LayoutPos {
         next: 0,
@@ -457,7 +465,7 @@ pub fn layout_machine(
         letters: 0,
         hole: false,
     };
-    let h = machine_head(drawing.pack, 1, at);
+    let h = machine_head(drawing.pack.bytes, 1, at);
     layout_region(
         drawing,
         offsets,

@@ -19,7 +19,7 @@ ghost use Rattle.machines.specs.MemoSound.{MemoSound};
 ghost use Rattle.machines.specs.UnknownTargets.{IsDrawn, drawn_state, target_d, unknown_target_d};
 ghost use Rattle.machines.specs.StateHeads.{head_of};
 
-use crate::checked_read::{after_equation, machine, number};
+use crate::checked_read::{CheckedPack, after_equation, machine, number};
 use crate::drawing::Drawing;
 use crate::resolve::{empty_run_from, read_state_head};
 use crate::table::to_initial;
@@ -159,11 +159,11 @@ pub struct UnknownTarget {
 
 // Whether one of `count` states drawn from `from` on has the pack's name x.
 fn is_drawn_state(drawing: &Drawing, x: usize, count: usize, from: usize) -> bool
-    ensures { (ns : List Name) → length ns ≡ drawing.now.names → result ≡ drawn_state ns drawing.now.pack.now x count from }
+    ensures { (ns : List Name) → length ns ≡ drawing.now.pack.names → result ≡ drawn_state ns drawing.now.pack.bytes.now x count from }
 {
     let mut p = from;
     for _ in 0..count {
-        let i = number(drawing.pack, p);
+        let i = number(drawing.pack.bytes, p);
         if i.value == x {
             return true;
         }
@@ -175,8 +175,8 @@ fn is_drawn_state(drawing: &Drawing, x: usize, count: usize, from: usize) -> boo
 // Whether one of the n states drawn from f on has the pack's name x, where it may be known of the name `last`: transitions to one
 // state mostly follow one another.
 fn is_known_target(drawing: &Drawing, n: usize, f: usize, last: Option<usize>, x: usize) -> bool
-    requires { IfSome last (IsDrawn drawing.now.pack.now drawing.now.names n f) }
-    ensures { (ns : List Name) → length ns ≡ drawing.now.names → result ≡ drawn_state ns drawing.now.pack.now x n f }
+    requires { IfSome last (IsDrawn drawing.now.pack.bytes.now drawing.now.pack.names n f) }
+    ensures { (ns : List Name) → length ns ≡ drawing.now.pack.names → result ≡ drawn_state ns drawing.now.pack.bytes.now x n f }
 {
     if last == Some(x) {
         return true;
@@ -186,12 +186,12 @@ fn is_known_target(drawing: &Drawing, n: usize, f: usize, last: Option<usize>, x
 
 // What `count` transitions from `from` on do, of a state of the n states drawn from f on.
 fn first_unknown_target(drawing: &Drawing, n: usize, f: usize, count: usize, from: usize) -> Targets
-    ensures { (ns : List Name) → length ns ≡ drawing.now.names → result ≡ target_d ns drawing.now.pack.now n f count from }
+    ensures { (ns : List Name) → length ns ≡ drawing.now.pack.names → result ≡ target_d ns drawing.now.pack.bytes.now n f count from }
 {
     let mut o = from;
     let mut last = None;
     for _ in 0..count {
-        let x = number(drawing.pack, drawing.guard_end(o));
+        let x = number(drawing.pack.bytes, drawing.guard_end(o));
         if !is_known_target(drawing, n, f, last, x.value) {
             return Targets::Stray(x.value);
         }
@@ -203,11 +203,11 @@ fn first_unknown_target(drawing: &Drawing, n: usize, f: usize, count: usize, fro
 
 // The first of the n states drawn from f on that has an unknown target.
 pub fn unknown_targets(drawing: &Drawing, n: usize, f: usize) -> UnknownTarget
-    ensures { (ns : List Name) → length ns ≡ drawing.now.names → result ≡ unknown_target_d ns drawing.now.pack.now n f }
+    ensures { (ns : List Name) → length ns ≡ drawing.now.pack.names → result ≡ unknown_target_d ns drawing.now.pack.bytes.now n f }
 {
     let mut p = f;
     for fine in 0..n {
-        let c = number(drawing.pack, drawing.moves_of(p));
+        let c = number(drawing.pack.bytes, drawing.moves_of(p));
         let a = first_unknown_target(drawing, n, f, c.value, c.next);
         if let Targets::Stray(name) = a {
             return UnknownTarget { fine, name };
@@ -315,7 +315,12 @@ fn memo_head(pack: &[u8], names: usize, offsets: &[u16], memo: &mut [u16], at: u
     let moves = memo_ends(pack, names, memo, c.value, c.next);
     let g = number(pack, moves);
     let regions = memo_guards(pack, names, memo, g.value, g.next);
-    let head = read_state_head(&Drawing { pack, names, memo }, offsets, at, moves);
+    let checked = CheckedPack { bytes: pack, names };
+    let drawing = Drawing {
+        pack: checked,
+        memo,
+    };
+    let head = read_state_head(&drawing, offsets, at, moves);
     Head {
         head,
         moves,
@@ -400,7 +405,12 @@ fn memo_unknown_targets(pack: &[u8], names: usize, offsets: &[u16], memo: &mut [
     if Pack::STATES < c.value {
         return;
     }
-    let r = unknown_targets(&Drawing { pack, names, memo }, c.value, from);
+    let checked = CheckedPack { bytes: pack, names };
+    let drawing = Drawing {
+        pack: checked,
+        memo,
+    };
+    let r = unknown_targets(&drawing, c.value, from);
     if WORD_MAX <= r.fine.max(r.name) {
         return;
     }

@@ -9,7 +9,6 @@ ghost use Rattle.pack_rules.specs.Limits.{max_bytes};
 ghost use Rattle.machines.specs.Layout.{prefix_of};
 ghost use Rattle.machines.specs.ReportEntries.{called_of, entry_bytes, name_bytes, names_bytes};
 ghost use Rattle.pack_rules.specs.Names.{Name};
-ghost use Rattle.machines.specs.MemoSound.{MemoSound};
 ghost use Rattle.machines.specs.EmitMachineAt.{Long};
 ghost use Rattle.machines.specs.ReportAt.{EntersAll, RoomAt, RoomForAll, bytes_t, letters_t, of_refused, refusal_t, refused_entry_t};
 
@@ -175,16 +174,16 @@ fn refusal_of(
     regcounts: &[usize],
     i: usize,
 ) -> VerdictRow
-    ensures value { (ns : List Name) → length ns ≡ tables.now.drawing.names → result ≡ refusal_t ns tables.now.drawing.pack.now tables.now.offsets.now tables.now.machines.now defs.now regcounts.now i layout.old rows.old qualified.old }
-    ensures qualified_after { (ns : List Name) → length ns ≡ tables.now.drawing.names → qualified.new ≡ letters_t ns tables.now.drawing.pack.now tables.now.offsets.now tables.now.machines.now defs.now regcounts.now i layout.old rows.old qualified.old }
+    ensures value { (ns : List Name) → length ns ≡ tables.now.drawing.pack.names → result ≡ refusal_t ns tables.now.drawing.pack.bytes.now tables.now.offsets.now tables.now.machines.now defs.now regcounts.now i layout.old rows.old qualified.old }
+    ensures qualified_after { (ns : List Name) → length ns ≡ tables.now.drawing.pack.names → qualified.new ≡ letters_t ns tables.now.drawing.pack.bytes.now tables.now.offsets.now tables.now.machines.now defs.now regcounts.now i layout.old rows.old qualified.old }
 {
     let at = entry(defs, i);
     let g = entry(regcounts, i);
     if g == 0 {
         return judge(tables, layout, rows, qualified, at);
     }
-    let m = number(tables.drawing.pack, at);
-    let o = number(tables.drawing.pack, m.next);
+    let m = number(tables.drawing.pack.bytes, at);
+    let o = number(tables.drawing.pack.bytes, m.next);
     refused(VerdictRow::UNKNOWN_OWNER, named(o.value), no_name())
 }
 
@@ -200,16 +199,22 @@ fn refusal_len(
     i: usize,
 ) -> usize
     requires { Long layout.old rows.old qualified.old }
-    ensures { (result ≤ 34359738368) × ((ns : List Name) → length ns ≡ tables.now.drawing.names → result ≡ length (refused_entry_t ns tables.now.drawing.pack.now tables.now.offsets.now tables.now.machines.now defs.now regcounts.now receivers.now i layout.old rows.old qualified.old)) }
+    ensures { (result ≤ 34359738368) × ((ns : List Name) → length ns ≡ tables.now.drawing.pack.names → result ≡ length (refused_entry_t ns tables.now.drawing.pack.bytes.now tables.now.offsets.now tables.now.machines.now defs.now regcounts.now receivers.now i layout.old rows.old qualified.old)) }
 {
     let a = entry(receivers, i);
     if a != Pack::ABSENT {
         return 0;
     }
     let at = entry(defs, i);
-    let m = number(tables.drawing.pack, at);
+    let m = number(tables.drawing.pack.bytes, at);
     let j = refusal_of(tables, layout, rows, qualified, defs, regcounts, i);
-    entry_len(tables.drawing.pack, tables.offsets, qualified, m.value, j)
+    entry_len(
+        tables.drawing.pack.bytes,
+        tables.offsets,
+        qualified,
+        m.value,
+        j,
+    )
 }
 
 // How many bytes the report of the first n machines takes.
@@ -224,7 +229,7 @@ pub fn report_len(
     n: usize,
 ) -> usize
     requires { Long layout.old rows.old qualified.old × (n ≤ word_range) }
-    ensures { (ns : List Name) → length ns ≡ tables.now.drawing.names → (es : ℕ → List ℕ) → EntersAll ns tables.now.drawing.pack.now tables.now.offsets.now tables.now.machines.now defs.now regcounts.now receivers.now n es → result ≡ 2 + length (bytes_t (of_refused receivers.now es) n 0) }
+    ensures { (ns : List Name) → length ns ≡ tables.now.drawing.pack.names → (es : ℕ → List ℕ) → EntersAll ns tables.now.drawing.pack.bytes.now tables.now.offsets.now tables.now.machines.now defs.now regcounts.now receivers.now n es → result ≡ 2 + length (bytes_t (of_refused receivers.now es) n 0) }
 {
     let mut c = 2;
     for i in 0..n {
@@ -248,18 +253,18 @@ fn put_refusal(
     report: &mut [u8],
     at: usize,
 ) -> usize
-    requires { RoomAt tables.now.drawing.pack.now tables.now.offsets.now tables.now.machines.now defs.now regcounts.now receivers.now layout.old rows.old qualified.old tables.now.drawing.names i at (length report.old) }
-    ensures { (ns : List Name) → length ns ≡ tables.now.drawing.names → (result ≡ at + length (refused_entry_t ns tables.now.drawing.pack.now tables.now.offsets.now tables.now.machines.now defs.now regcounts.now receivers.now i layout.old rows.old qualified.old)) × (report.new ≡ overwritten at (refused_entry_t ns tables.now.drawing.pack.now tables.now.offsets.now tables.now.machines.now defs.now regcounts.now receivers.now i layout.old rows.old qualified.old) report.old) }
+    requires { RoomAt tables.now.drawing.pack.bytes.now tables.now.offsets.now tables.now.machines.now defs.now regcounts.now receivers.now layout.old rows.old qualified.old tables.now.drawing.pack.names i at (length report.old) }
+    ensures { (ns : List Name) → length ns ≡ tables.now.drawing.pack.names → (result ≡ at + length (refused_entry_t ns tables.now.drawing.pack.bytes.now tables.now.offsets.now tables.now.machines.now defs.now regcounts.now receivers.now i layout.old rows.old qualified.old)) × (report.new ≡ overwritten at (refused_entry_t ns tables.now.drawing.pack.bytes.now tables.now.offsets.now tables.now.machines.now defs.now regcounts.now receivers.now i layout.old rows.old qualified.old) report.old) }
 {
     let a = entry(receivers, i);
     if a != Pack::ABSENT {
         return at;
     }
     let p = entry(defs, i);
-    let m = number(tables.drawing.pack, p);
+    let m = number(tables.drawing.pack.bytes, p);
     let j = refusal_of(tables, layout, rows, qualified, defs, regcounts, i);
     put_entry(
-        tables.drawing.pack,
+        tables.drawing.pack.bytes,
         tables.offsets,
         qualified,
         m.value,
@@ -282,8 +287,8 @@ pub fn put_report(
     refused: usize,
     report: &mut [u8],
 )
-    requires { Long layout.old rows.old qualified.old × RoomForAll tables.now.drawing.pack.now tables.now.offsets.now tables.now.machines.now defs.now regcounts.now receivers.now tables.now.drawing.names n (length report.old) }
-    ensures { (ns : List Name) → length ns ≡ tables.now.drawing.names → (es : ℕ → List ℕ) → EntersAll ns tables.now.drawing.pack.now tables.now.offsets.now tables.now.machines.now defs.now regcounts.now receivers.now n es → report.new ≡ overwritten 0 (two refused ++ bytes_t (of_refused receivers.now es) n 0) report.old }
+    requires { Long layout.old rows.old qualified.old × RoomForAll tables.now.drawing.pack.bytes.now tables.now.offsets.now tables.now.machines.now defs.now regcounts.now receivers.now tables.now.drawing.pack.names n (length report.old) }
+    ensures { (ns : List Name) → length ns ≡ tables.now.drawing.pack.names → (es : ℕ → List ℕ) → EntersAll ns tables.now.drawing.pack.bytes.now tables.now.offsets.now tables.now.machines.now defs.now regcounts.now receivers.now n es → report.new ≡ overwritten 0 (two refused ++ bytes_t (of_refused receivers.now es) n 0) report.old }
 {
     put_count(refused, report);
     let mut e = 2;

@@ -7,10 +7,8 @@
 ghost use Rattle.std.specs.Prelude.{◌≡◌, ◌||◌, eqb, List, ◌<◌, ◌≤◌, length};
 ghost use Rattle.machines.specs.RefineStack.{on_of, pushed_of, start_of};
 ghost use Rattle.pack_rules.specs.Names.{Name};
-ghost use Rattle.pack_rules.specs.Limits.{max_bytes};
 ghost use Rattle.machines.specs.ResolveAt.{enter_w, head_t, len_at, machine_w, qualify_of, state_w, target_t, walk as walk_in};
 ghost use Rattle.machines.specs.LayoutAt.{moves_at};
-ghost use Rattle.machines.specs.MemoSound.{MemoSound};
 ghost use Rattle.wire.specs.Bytes.{word_range};
 ghost use Rattle.machines.specs.EmptyRegions.{AtOnce, EmptyRun, empty_at, opened_of, taken_of};
 
@@ -104,23 +102,23 @@ pub fn len_at(pack: &[u8], offsets: &[u16], at: usize) -> usize
 
 // A transition: its target's length.
 fn target_len(drawing: &Drawing, offsets: &[u16], at: usize) -> Number
-    ensures { (ns : List Name) → length ns ≡ drawing.now.names → result ≡ target_t ns drawing.now.pack.now offsets.now at }
+    ensures { (ns : List Name) → length ns ≡ drawing.now.pack.names → result ≡ target_t ns drawing.now.pack.bytes.now offsets.now at }
 {
-    let i = number(drawing.pack, drawing.guard_end(at));
+    let i = number(drawing.pack.bytes, drawing.guard_end(at));
     Number {
-        value: name_len(drawing.pack, offsets, i.value),
+        value: name_len(drawing.pack.bytes, offsets, i.value),
         next: i.next,
     }
 }
 
 // The head of the state at `at`, whose transitions begin at m: the longest name, and where its regions' count stands.
 pub fn read_state_head(drawing: &Drawing, offsets: &[u16], at: usize, m: usize) -> Number
-    ensures { (ns : List Name) → length ns ≡ drawing.now.names → m ≡ moves_at ns drawing.now.pack.now at → result ≡ head_t ns drawing.now.pack.now offsets.now at }
+    ensures { (ns : List Name) → length ns ≡ drawing.now.pack.names → m ≡ moves_at ns drawing.now.pack.bytes.now at → result ≡ head_t ns drawing.now.pack.bytes.now offsets.now at }
 {
-    let i = number(drawing.pack, at);
-    let t = number(drawing.pack, m);
+    let i = number(drawing.pack.bytes, at);
+    let t = number(drawing.pack.bytes, m);
     let mut p = t.next;
-    let mut a = name_len(drawing.pack, offsets, i.value);
+    let mut a = name_len(drawing.pack.bytes, offsets, i.value);
     for _ in 0..t.value {
         let x = target_len(drawing, offsets, p);
         a = a.max(x.value);
@@ -131,7 +129,7 @@ pub fn read_state_head(drawing: &Drawing, offsets: &[u16], at: usize, m: usize) 
 
 // The same, looked up where it is kept.
 pub fn state_head(tables: &NameTables, at: usize) -> Number
-    ensures { (ns : List Name) → length ns ≡ tables.now.drawing.names → result ≡ head_t ns tables.now.drawing.pack.now tables.now.offsets.now at }
+    ensures { (ns : List Name) → length ns ≡ tables.now.drawing.pack.names → result ≡ head_t ns tables.now.drawing.pack.bytes.now tables.now.offsets.now at }
 {
     let r = memo_regions(tables.drawing.memo, at);
     if 0 < r {
@@ -301,13 +299,13 @@ fn resolve_state(
     at: usize,
     count: usize,
 ) -> Resolved
-    ensures { (ns : List Name) → length ns ≡ tables.now.drawing.names → result ≡ state_w ns tables.now.drawing.pack.now tables.now.offsets.now tables.now.machines.now (walk_in ns tables.now.drawing.pack.now tables.now.offsets.now tables.now.machines.now levels) p at count }
+    ensures { (ns : List Name) → length ns ≡ tables.now.drawing.pack.names → result ≡ state_w ns tables.now.drawing.pack.bytes.now tables.now.offsets.now tables.now.machines.now (walk_in ns tables.now.drawing.pack.bytes.now tables.now.offsets.now tables.now.machines.now levels) p at count }
 {
     if Pack::STATES <= count {
         return Resolved::Large;
     }
     let h = state_head(tables, at);
-    let t = number(tables.drawing.pack, h.next);
+    let t = number(tables.drawing.pack.bytes, h.next);
     let mut n = t.value;
     let mut o = t.next;
     let mut c = count + 1;
@@ -315,7 +313,7 @@ fn resolve_state(
     while 0 < n {
         let k = run_length(tables.drawing.memo, n, o);
         let g = take_regions(
-            tables.drawing.pack,
+            tables.drawing.pack.bytes,
             tables.offsets,
             tables.drawing.memo,
             k,
@@ -330,13 +328,13 @@ fn resolve_state(
         o = next;
         c = states;
     }
-    let f = number(tables.drawing.pack, o);
+    let f = number(tables.drawing.pack.bytes, o);
     if f.value == Pack::ABSENT {
         return Resolved::Went(f.next, c, a);
     }
-    let i = number(tables.drawing.pack, at);
+    let i = number(tables.drawing.pack.bytes, at);
     let d = refinement(
-        tables.drawing.pack,
+        tables.drawing.pack.bytes,
         tables.offsets,
         tables.machines,
         p,
@@ -352,7 +350,7 @@ fn resolve_state(
         return y;
     };
     qualified_len(
-        name_len(tables.drawing.pack, tables.offsets, i.value),
+        name_len(tables.drawing.pack.bytes, tables.offsets, i.value),
         v.max(w),
         a,
         f.next,
@@ -370,7 +368,7 @@ fn resolve_states(
     at: usize,
     done: usize,
 ) -> Resolved
-    ensures { (ns : List Name) → length ns ≡ tables.now.drawing.names → result ≡ walk_in ns tables.now.drawing.pack.now tables.now.offsets.now tables.now.machines.now levels p count at done }
+    ensures { (ns : List Name) → length ns ≡ tables.now.drawing.pack.names → result ≡ walk_in ns tables.now.drawing.pack.bytes.now tables.now.offsets.now tables.now.machines.now levels p count at done }
 {
     if levels == 0 {
         return Resolved::Large;
@@ -392,8 +390,8 @@ fn resolve_states(
 
 // Resolves the machine of the name m, whose initial state stands at `at`.
 pub fn resolve_machine(tables: &NameTables, m: usize, at: usize) -> Resolved
-    ensures { (ns : List Name) → length ns ≡ tables.now.drawing.names → result ≡ machine_w ns tables.now.drawing.pack.now tables.now.offsets.now tables.now.machines.now m at }
+    ensures { (ns : List Name) → length ns ≡ tables.now.drawing.pack.names → result ≡ machine_w ns tables.now.drawing.pack.bytes.now tables.now.offsets.now tables.now.machines.now m at }
 {
-    let k = machine(tables.drawing.pack, at);
+    let k = machine(tables.drawing.pack.bytes, at);
     resolve_states(tables, Pack::LEVELS, start_stack(m), k.value, k.next, 0)
 }

@@ -20,7 +20,7 @@ ghost use Rattle.machines.specs.WriteNodesAt.{enums_part_t, origins_part_t, sect
 use crate::added::{
     added_equations, adds_equations, equation_count, owned, owned_count, small, sum_of,
 };
-use crate::checked_read::number;
+use crate::checked_read::{CheckedPack, number};
 use crate::drawing::Drawing;
 use crate::emit_machine::put_all_enums;
 use crate::layout::between;
@@ -178,12 +178,12 @@ fn put_enums_part(
     writer: Writer,
 ) -> Writer
     requires { (n ≤ word_range) × Long layout.old rows.old qualified.old }
-    ensures { (ns : List Name) → length ns ≡ drawing.now.names → (receivers : List ℕ) (ens : ℕ → List Item) → AllWrite old.now (enums_at ns drawing.now.pack.now offsets.now machines.now) defs.now n ens → state_of out.new made.new result ≡ render old.now (enums_part_t ns drawing.now.pack.now defs.now receivers regcounts.now offsets.now n ens at end) (state_of out.old made.old writer) }
+    ensures { (ns : List Name) → length ns ≡ drawing.now.pack.names → (receivers : List ℕ) (ens : ℕ → List Item) → AllWrite old.now (enums_at ns drawing.now.pack.bytes.now offsets.now machines.now) defs.now n ens → state_of out.new made.new result ≡ render old.now (enums_part_t ns drawing.now.pack.bytes.now defs.now receivers regcounts.now offsets.now n ens at end) (state_of out.old made.old writer) }
 {
-    let c = number(drawing.pack, at);
+    let c = number(drawing.pack.bytes, at);
     let o = small(c.value);
     let g = sum_of(regcounts, n);
-    let h = between(drawing.pack, c.next, end);
+    let h = between(drawing.pack.bytes, c.next, end);
     let a = put_u16(out, writer, o + g);
     let b = put_bytes(h, out, a);
     put_all_enums(
@@ -241,9 +241,12 @@ pub fn put_sections(
     requires { (length pack.now ≤ max_bytes) × (n ≤ word_range) × Long layout.old rows.old qualified.old × RowsSound pack.now sections.names memo.now }
     ensures { (ns : List Name) → length ns ≡ sections.names → (eqs ens : ℕ → List Item) → AllWrite old.now (equations_at ns pack.now offsets.now machines.now) defs.now n eqs → AllWrite old.now (enums_at ns pack.now offsets.now machines.now) defs.now n ens → state_of out.new made.new result ≡ render old.now (sections_t ns pack.now defs.now receivers.now regcounts.now offsets.now n eqs ens sections) (started out.old made.old) }
 {
-    let drawing = Drawing {
-        pack,
+    let checked = CheckedPack {
+        bytes: pack,
         names: sections.names,
+    };
+    let drawing = Drawing {
+        pack: checked,
         memo,
     };
     let w = start();

@@ -98,21 +98,21 @@ pub fn to_initial(pack: &[u8], names: usize, at: usize) -> usize
 
 // From a machine's initial state, past its states.
 pub fn after_states(drawing: &Drawing, at: usize) -> usize
-    ensures { (ns : List Name) → length ns ≡ drawing.now.names → result ≡ states_end ns drawing.now.pack.now at }
+    ensures { (ns : List Name) → length ns ≡ drawing.now.pack.names → result ≡ states_end ns drawing.now.pack.bytes.now at }
 {
-    let i = number(drawing.pack, at);
+    let i = number(drawing.pack.bytes, at);
     drawing.past_states(i.next)
 }
 
 // Where the initial state of the last machine of each name is. In a table of zeros, 0 stays where there is none.
 pub fn place_machines(drawing: &Drawing, at: usize, machines: &mut [u16])
-    ensures { (ns : List Name) → length ns ≡ drawing.now.names → machines.new ≡ machines_placed ns drawing.now.pack.now at machines.old }
+    ensures { (ns : List Name) → length ns ≡ drawing.now.pack.names → machines.new ≡ machines_placed ns drawing.now.pack.bytes.now at machines.old }
 {
-    let c = number(drawing.pack, at);
+    let c = number(drawing.pack.bytes, at);
     let mut p = c.next;
     for _ in 0..c.value {
-        let i = number(drawing.pack, p);
-        let w = to_initial(drawing.pack, drawing.names, i.next);
+        let i = number(drawing.pack.bytes, p);
+        let w = to_initial(drawing.pack.bytes, drawing.pack.names, i.next);
         put_cell(machines, i.value, w);
         p = after_states(drawing, w);
     }

@@ -26,14 +26,14 @@ pub struct TargetMemo {
 
 // Whether the row at the word p is that of the state drawn at `at`.
 fn row_drawn(drawing: &Drawing, layout: &[usize], p: usize, at: usize) -> bool
-    ensures { (ns : List Name) → length ns ≡ drawing.now.names → result ≡ row_drawn ns drawing.now.pack.now layout.now p at }
+    ensures { (ns : List Name) → length ns ≡ drawing.now.pack.names → result ≡ row_drawn ns drawing.now.pack.bytes.now layout.now p at }
 {
     entry(layout, p) == at && layout_word(layout, p, 1) == drawing.moves_of(at)
 }
 
 // Whether `count` rows from the word `from` on are those of the states drawn one after the other from f on.
 fn rows_drawn(drawing: &Drawing, layout: &[usize], count: usize, from: usize, f: usize) -> bool
-    ensures { (ns : List Name) → length ns ≡ drawing.now.names → result ≡ rows_drawn ns drawing.now.pack.now layout.now count from f }
+    ensures { (ns : List Name) → length ns ≡ drawing.now.pack.names → result ≡ rows_drawn ns drawing.now.pack.bytes.now layout.now count from f }
 {
     let mut p = from;
     let mut at = f;
@@ -60,7 +60,7 @@ fn empty_memo() -> TargetMemo
 
 // What is kept of the states of the region at the word q, where they are those of a drawn region.
 pub fn recall_targets(drawing: &Drawing, layout: &[usize], q: usize) -> TargetMemo
-    ensures { AllRecalled drawing.now.pack.now drawing.now.names layout.now result q (get_or layout.now (q + 6) 0) (q + 9) }
+    ensures { AllRecalled drawing.now.pack.bytes.now drawing.now.pack.names layout.now result q (get_or layout.now (q + 6) 0) (q + 9) }
 {
     let n = layout_word(layout, q, 6);
     let p = first(layout, q);
@@ -72,7 +72,7 @@ pub fn recall_targets(drawing: &Drawing, layout: &[usize], q: usize) -> TargetMe
     if x == 0 {
         return empty_memo();
     }
-    let c = number(drawing.pack, f - 2);
+    let c = number(drawing.pack.bytes, f - 2);
     if c.value == n {
         return TargetMemo {
             known: rows_drawn(drawing, layout, n, p, f),
@@ -147,14 +147,14 @@ fn has_target(pack: &[u8], layout: &[usize], q: usize, last: Option<usize>, x: u
 
 // The targets of the state at the word p, in the region at the word q.
 fn check_targets(drawing: &Drawing, layout: &[usize], q: usize, p: usize) -> Checked
-    ensures { (ns : List Name) → length ns ≡ drawing.now.names → result ≡ targets_t ns drawing.now.pack.now layout.now q p }
+    ensures { (ns : List Name) → length ns ≡ drawing.now.pack.names → result ≡ targets_t ns drawing.now.pack.bytes.now layout.now q p }
 {
-    let c = number(drawing.pack, layout_word(layout, p, 1));
+    let c = number(drawing.pack.bytes, layout_word(layout, p, 1));
     let mut o = c.next;
     let mut last = None;
     for _ in 0..c.value {
-        let x = number(drawing.pack, drawing.guard_end(o));
-        if !has_target(drawing.pack, layout, q, last, x.value) {
+        let x = number(drawing.pack.bytes, drawing.guard_end(o));
+        if !has_target(drawing.pack.bytes, layout, q, last, x.value) {
             return Checked::Target {
                 state: p,
                 region: q,
@@ -189,8 +189,8 @@ fn check_transitions(
     q: usize,
     p: usize,
 ) -> Checked
-    requires { OneRecalled drawing.now.pack.now drawing.now.names layout.now v q p }
-    ensures { (ns : List Name) → length ns ≡ drawing.now.names → result ≡ targets_t ns drawing.now.pack.now layout.now q p }
+    requires { OneRecalled drawing.now.pack.bytes.now drawing.now.pack.names layout.now v q p }
+    ensures { (ns : List Name) → length ns ≡ drawing.now.pack.names → result ≡ targets_t ns drawing.now.pack.bytes.now layout.now q p }
 {
     if v.known {
         return recall(v, q, p);
@@ -208,8 +208,8 @@ fn validate_state(
     q: usize,
     p: usize,
 ) -> Checked
-    requires { OneRecalled drawing.now.pack.now drawing.now.names layout.now v q p }
-    ensures { (ns : List Name) → length ns ≡ drawing.now.names → result ≡ checked_state ns drawing.now.pack.now layout.now (checked_region ns drawing.now.pack.now layout.now levels) q p }
+    requires { OneRecalled drawing.now.pack.bytes.now drawing.now.pack.names layout.now v q p }
+    ensures { (ns : List Name) → length ns ≡ drawing.now.pack.names → result ≡ checked_state ns drawing.now.pack.bytes.now layout.now (checked_region ns drawing.now.pack.bytes.now layout.now levels) q p }
 {
     let c = check_transitions(drawing, layout, v, q, p);
     let Checked::Fine = c else {
@@ -229,12 +229,12 @@ fn validate_state(
 // A region: its initial state, then its states.
 #[cycle(validate_region_validate_state)]
 pub fn validate_region(drawing: &Drawing, layout: &[usize], levels: usize, q: usize) -> Checked
-    ensures { (ns : List Name) → length ns ≡ drawing.now.names → result ≡ checked_region ns drawing.now.pack.now layout.now levels q }
+    ensures { (ns : List Name) → length ns ≡ drawing.now.pack.names → result ≡ checked_region ns drawing.now.pack.bytes.now layout.now levels q }
 {
     if levels == 0 {
         return Checked::Fine;
     }
-    if !has_state(drawing.pack, layout, q, entry(layout, q)) {
+    if !has_state(drawing.pack.bytes, layout, q, entry(layout, q)) {
         return Checked::Initial(q);
     }
     let mut v = recall_targets(drawing, layout, q);

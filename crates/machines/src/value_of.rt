@@ -19,14 +19,14 @@ use wire::writer::{Writer, put_bytes, put_u16};
 
 // Where the right side stands of the first equation of the state at `at` that has x as its only left name; 0 where there is none.
 fn own_rhs(drawing: &Drawing, x: usize, at: usize) -> usize
-    ensures { (ns : List Name) → length ns ≡ drawing.now.names → result ≡ side_t ns drawing.now.pack.now x at }
+    ensures { (ns : List Name) → length ns ≡ drawing.now.pack.names → result ≡ side_t ns drawing.now.pack.bytes.now x at }
 {
-    let i = number(drawing.pack, at);
-    let c = number(drawing.pack, i.next);
+    let i = number(drawing.pack.bytes, at);
+    let c = number(drawing.pack.bytes, i.next);
     let mut p = c.next;
     for _ in 0..c.value {
-        let k = number(drawing.pack, p);
-        let l = number(drawing.pack, k.next);
+        let k = number(drawing.pack.bytes, p);
+        let l = number(drawing.pack.bytes, k.next);
         if k.value == 1 && l.value == x {
             return l.next;
         }
@@ -44,11 +44,11 @@ fn put_own(
     out: &mut [u8],
     writer: Writer,
 ) -> Writer
-    ensures { (ns : List Name) → length ns ≡ drawing.now.names → (m : List ℕ) → state_of out.new m result ≡ puts (side_bytes ns drawing.now.pack.now x (get_or layout.now p 0)) (state_of out.old m writer) }
+    ensures { (ns : List Name) → length ns ≡ drawing.now.pack.names → (m : List ℕ) → state_of out.new m result ≡ puts (side_bytes ns drawing.now.pack.bytes.now x (get_or layout.now p 0)) (state_of out.old m writer) }
 {
     let a = own_rhs(drawing, x, entry(layout, p));
-    let e = after_expr(drawing.pack, drawing.names, a);
-    put_bytes(between(drawing.pack, a, e), out, writer)
+    let e = after_expr(drawing.pack.bytes, drawing.pack.names, a);
+    put_bytes(between(drawing.pack.bytes, a, e), out, writer)
 }
 
 // The first region of the state at the word p that gives x in all its states; 0 where there is none.
@@ -60,9 +60,9 @@ fn entered(
     levels: usize,
     p: usize,
 ) -> usize
-    requires { AssignsSound drawing.now.pack.now drawing.now.names drawing.now.memo.now hints.old }
-    ensures value { (ns : List Name) → length ns ≡ drawing.now.names → result ≡ entered_t layout.now (uncovered_t ns drawing.now.pack.now layout.now x levels) p }
-    ensures assigns_sound { AssignsSound drawing.now.pack.now drawing.now.names drawing.now.memo.now hints.new }
+    requires { AssignsSound drawing.now.pack.bytes.now drawing.now.pack.names drawing.now.memo.now hints.old }
+    ensures value { (ns : List Name) → length ns ≡ drawing.now.pack.names → result ≡ entered_t layout.now (uncovered_t ns drawing.now.pack.bytes.now layout.now x levels) p }
+    ensures assigns_sound { AssignsSound drawing.now.pack.bytes.now drawing.now.pack.names drawing.now.memo.now hints.new }
 {
     let mut g = inner(layout, p);
     for _ in 0..layout_word(layout, p, 5) {
@@ -90,9 +90,9 @@ fn value_in_state(
     made: &mut [u8],
     writer: Writer,
 ) -> Writer
-    requires { AssignsSound drawing.now.pack.now drawing.now.names drawing.now.memo.now hints.old }
-    ensures result_after { (ns : List Name) → length ns ≡ drawing.now.names → state_of out.new made.new result ≡ render old.now (in_state_t drawing.now.pack.now layout.now qualified.now ns x (value_t drawing.now.pack.now layout.now qualified.now ns x levels) (uncovered_t ns drawing.now.pack.now layout.now x levels) p) (state_of out.old made.old writer) }
-    ensures assigns_sound { AssignsSound drawing.now.pack.now drawing.now.names drawing.now.memo.now hints.new }
+    requires { AssignsSound drawing.now.pack.bytes.now drawing.now.pack.names drawing.now.memo.now hints.old }
+    ensures result_after { (ns : List Name) → length ns ≡ drawing.now.pack.names → state_of out.new made.new result ≡ render old.now (in_state_t drawing.now.pack.bytes.now layout.now qualified.now ns x (value_t drawing.now.pack.bytes.now layout.now qualified.now ns x levels) (uncovered_t ns drawing.now.pack.bytes.now layout.now x levels) p) (state_of out.old made.old writer) }
+    ensures assigns_sound { AssignsSound drawing.now.pack.bytes.now drawing.now.pack.names drawing.now.memo.now hints.new }
 {
     let g = entered(drawing, layout, hints, x, levels, p);
     if g == 0 {
@@ -118,9 +118,9 @@ fn value_of(
     made: &mut [u8],
     writer: Writer,
 ) -> Writer
-    requires { AssignsSound drawing.now.pack.now drawing.now.names drawing.now.memo.now hints.old }
-    ensures result_after { (ns : List Name) → length ns ≡ drawing.now.names → state_of out.new made.new result ≡ render old.now (value_t drawing.now.pack.now layout.now qualified.now ns x levels q) (state_of out.old made.old writer) }
-    ensures assigns_sound { AssignsSound drawing.now.pack.now drawing.now.names drawing.now.memo.now hints.new }
+    requires { AssignsSound drawing.now.pack.bytes.now drawing.now.pack.names drawing.now.memo.now hints.old }
+    ensures result_after { (ns : List Name) → length ns ≡ drawing.now.pack.names → state_of out.new made.new result ≡ render old.now (value_t drawing.now.pack.bytes.now layout.now qualified.now ns x levels q) (state_of out.old made.old writer) }
+    ensures assigns_sound { AssignsSound drawing.now.pack.bytes.now drawing.now.pack.names drawing.now.memo.now hints.new }
 {
     if levels == 0 {
         return writer;
@@ -159,9 +159,9 @@ fn put_output(
     made: &mut [u8],
     writer: Writer,
 ) -> Writer
-    requires { AssignsSound drawing.now.pack.now drawing.now.names drawing.now.memo.now hints.old }
-    ensures result_after { (ns : List Name) → length ns ≡ drawing.now.names → state_of out.new made.new result ≡ render old.now (output_t drawing.now.pack.now layout.now qualified.now ns x) (state_of out.old made.old writer) }
-    ensures assigns_sound { AssignsSound drawing.now.pack.now drawing.now.names drawing.now.memo.now hints.new }
+    requires { AssignsSound drawing.now.pack.bytes.now drawing.now.pack.names drawing.now.memo.now hints.old }
+    ensures result_after { (ns : List Name) → length ns ≡ drawing.now.pack.names → state_of out.new made.new result ≡ render old.now (output_t drawing.now.pack.bytes.now layout.now qualified.now ns x) (state_of out.old made.old writer) }
+    ensures assigns_sound { AssignsSound drawing.now.pack.bytes.now drawing.now.pack.names drawing.now.memo.now hints.new }
 {
     let a = put_u16(out, writer, 1);
     let b = put_u16(out, a, x);
@@ -191,21 +191,21 @@ pub fn put_outputs(
     made: &mut [u8],
     writer: Writer,
 ) -> Writer
-    ensures { (ns : List Name) → length ns ≡ drawing.now.names → state_of out.new made.new result ≡ render old.now (port_outputs_t drawing.now.pack.now layout.now qualified.now ns at) (state_of out.old made.old writer) }
+    ensures { (ns : List Name) → length ns ≡ drawing.now.pack.names → state_of out.new made.new result ≡ render old.now (port_outputs_t drawing.now.pack.bytes.now layout.now qualified.now ns at) (state_of out.old made.old writer) }
 {
     let mut told = [0u16; ASSIGNS_MEMO];
-    let c = number(drawing.pack, at);
+    let c = number(drawing.pack.bytes, at);
     let mut p = c.next;
     let mut v = writer;
     for _ in 0..c.value {
         if v.full {
             return v;
         }
-        let x = number(drawing.pack, p);
+        let x = number(drawing.pack.bytes, p);
         v = put_output(
             old, drawing, layout, qualified, &mut told, x.value, out, made, v,
         );
-        p = after_port(drawing.pack, drawing.names, p);
+        p = after_port(drawing.pack.bytes, drawing.pack.names, p);
     }
     v
 }

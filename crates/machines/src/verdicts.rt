@@ -7,9 +7,8 @@
 // refusal (`VerdictRow`) is not kept: the report judges the machine again.
 ghost use Rattle.std.specs.Prelude.{List, ◌≡◌, ◌<◌, ◌≤◌, ℕ, length};
 ghost use Rattle.pack_rules.specs.Names.{Name};
-ghost use Rattle.pack_rules.specs.Limits.{max_bytes, max_level};
+ghost use Rattle.pack_rules.specs.Limits.{max_level};
 ghost use Rattle.machines.specs.CoverAt.{uncovered_t};
-ghost use Rattle.machines.specs.MemoSound.{MemoSound};
 ghost use Rattle.machines.specs.AssignsMemo.{AssignmentSound, AssignsSound};
 ghost use Rattle.machines.specs.VerdictAt.{again_called, board_at, called_at, checked_j, judge_at, laid_j, named as named_of, no_name, outputs_j, refused_by, state_called};
 ghost use Rattle.machines.specs.EmitMachineAt.{Long};
@@ -153,10 +152,10 @@ fn uncovered_output(
     given: &mut [u8],
     x: usize,
 ) -> usize
-    requires { AssignsSound drawing.now.pack.now drawing.now.names drawing.now.memo.now hints.old × AssignmentSound drawing.now.pack.now drawing.now.names layout.now given.old }
-    ensures value { (ns : List Name) → length ns ≡ drawing.now.names → result ≡ uncovered_t ns drawing.now.pack.now layout.now x max_level 0 }
-    ensures assigns_sound { AssignsSound drawing.now.pack.now drawing.now.names drawing.now.memo.now hints.new }
-    ensures assignment_sound { AssignmentSound drawing.now.pack.now drawing.now.names layout.now given.new }
+    requires { AssignsSound drawing.now.pack.bytes.now drawing.now.pack.names drawing.now.memo.now hints.old × AssignmentSound drawing.now.pack.bytes.now drawing.now.pack.names layout.now given.old }
+    ensures value { (ns : List Name) → length ns ≡ drawing.now.pack.names → result ≡ uncovered_t ns drawing.now.pack.bytes.now layout.now x max_level 0 }
+    ensures assigns_sound { AssignsSound drawing.now.pack.bytes.now drawing.now.pack.names drawing.now.memo.now hints.new }
+    ensures assignment_sound { AssignmentSound drawing.now.pack.bytes.now drawing.now.pack.names layout.now given.new }
 {
     if 0 < byte_at(given, x) {
         return 0;
@@ -179,13 +178,13 @@ fn judge_outputs(
     from: usize,
     regions: usize,
 ) -> VerdictRow
-    ensures { (ns : List Name) → length ns ≡ drawing.now.names → result ≡ outputs_j ns drawing.now.pack.now layout.now regions count from }
+    ensures { (ns : List Name) → length ns ≡ drawing.now.pack.names → result ≡ outputs_j ns drawing.now.pack.bytes.now layout.now regions count from }
 {
     let mut told = [0u16; ASSIGNS_MEMO];
     let mut given = [0u8; 17408];
     let mut p = from;
     for _ in 0..count {
-        let x = number(drawing.pack, p);
+        let x = number(drawing.pack.bytes, p);
         let m = uncovered_output(drawing, layout, &mut told, &mut given, x.value);
         if m != 0 {
             return refused(
@@ -194,7 +193,7 @@ fn judge_outputs(
                 state_called(layout, m),
             );
         }
-        p = after_port(drawing.pack, drawing.names, p);
+        p = after_port(drawing.pack.bytes, drawing.pack.names, p);
     }
     VerdictRow {
         kind: VerdictRow::ACCEPTED,
@@ -212,11 +211,11 @@ fn judge_checked(
     outputs: usize,
     regions: usize,
 ) -> VerdictRow
-    ensures { (ns : List Name) → length ns ≡ drawing.now.names → result ≡ checked_j ns drawing.now.pack.now layout.now c outputs regions }
+    ensures { (ns : List Name) → length ns ≡ drawing.now.pack.names → result ≡ checked_j ns drawing.now.pack.bytes.now layout.now c outputs regions }
 {
     match c {
         Checked::Fine => {
-            let k = number(drawing.pack, outputs);
+            let k = number(drawing.pack.bytes, outputs);
             judge_outputs(drawing, layout, k.value, k.next, regions)
         }
         Checked::Initial(q) => refused(
@@ -245,7 +244,7 @@ fn judge_laid(
     regions: usize,
     outputs: usize,
 ) -> VerdictRow
-    ensures { (ns : List Name) → length ns ≡ drawing.now.names → result ≡ laid_j ns drawing.now.pack.now layout.now qualified.now letters regions outputs }
+    ensures { (ns : List Name) → length ns ≡ drawing.now.pack.names → result ≡ laid_j ns drawing.now.pack.bytes.now layout.now qualified.now letters regions outputs }
 {
     if entry(layout, 6) == 0 {
         return refused(VerdictRow::NO_STATES, no_name(), no_name());
@@ -270,11 +269,11 @@ pub fn judge(
     qualified: &mut [u8],
     at: usize,
 ) -> VerdictRow
-    ensures value { (ns : List Name) → length ns ≡ tables.now.drawing.names → result ≡ judge_at ns tables.now.drawing.pack.now tables.now.offsets.now tables.now.machines.now at layout.old rows.old qualified.old }
-    ensures qualified_after { (ns : List Name) → length ns ≡ tables.now.drawing.names → qualified.new ≡ (board_at ns tables.now.drawing.pack.now tables.now.offsets.now tables.now.machines.now at layout.old rows.old qualified.old).qualified }
+    ensures value { (ns : List Name) → length ns ≡ tables.now.drawing.pack.names → result ≡ judge_at ns tables.now.drawing.pack.bytes.now tables.now.offsets.now tables.now.machines.now at layout.old rows.old qualified.old }
+    ensures qualified_after { (ns : List Name) → length ns ≡ tables.now.drawing.pack.names → qualified.new ≡ (board_at ns tables.now.drawing.pack.bytes.now tables.now.offsets.now tables.now.machines.now at layout.old rows.old qualified.old).qualified }
 {
-    let m = number(tables.drawing.pack, at);
-    let i = to_initial(tables.drawing.pack, tables.drawing.names, m.next);
+    let m = number(tables.drawing.pack.bytes, at);
+    let i = to_initial(tables.drawing.pack.bytes, tables.drawing.pack.names, m.next);
     let w = resolve_machine(tables, m.value, i);
     match w {
         Resolved::Cycle(n) => refused(VerdictRow::REFINE_CYCLE, named(n), no_name()),
@@ -294,7 +293,7 @@ pub fn judge(
                 qualified,
                 i,
             );
-            let o = to_outputs(tables.drawing.pack, tables.drawing.names, m.next);
+            let o = to_outputs(tables.drawing.pack.bytes, tables.drawing.pack.names, m.next);
             judge_laid(&tables.drawing, layout, qualified, l.letters, l.regions, o)
         }
     }
@@ -302,10 +301,10 @@ pub fn judge(
 
 // Past the machine at `at`.
 fn after_machine(drawing: &Drawing, at: usize) -> usize
-    ensures { (ns : List Name) → length ns ≡ drawing.now.names → result ≡ machine_end ns drawing.now.pack.now at }
+    ensures { (ns : List Name) → length ns ≡ drawing.now.pack.names → result ≡ machine_end ns drawing.now.pack.bytes.now at }
 {
-    let m = number(drawing.pack, at);
-    let i = to_initial(drawing.pack, drawing.names, m.next);
+    let m = number(drawing.pack.bytes, at);
+    let i = to_initial(drawing.pack.bytes, drawing.pack.names, m.next);
     after_states(drawing, i)
 }
 
@@ -321,8 +320,8 @@ pub fn judge_all(
     regcounts: &mut [usize],
 )
     requires { Long layout.old rows.old qualified.old }
-    ensures defs_after { (ns : List Name) → length ns ≡ tables.now.drawing.names → defs.new ≡ fill_t (nth (machine_end ns tables.now.drawing.pack.now) from) count 0 defs.old }
-    ensures regcounts_after { (ns : List Name) → length ns ≡ tables.now.drawing.names → (gs : ℕ → ℕ) → ((i : ℕ) → i < count → HasRegions ns tables.now.drawing.pack.now tables.now.offsets.now tables.now.machines.now (nth (machine_end ns tables.now.drawing.pack.now) from i) (gs i)) → regcounts.new ≡ fill_t gs count 0 regcounts.old }
+    ensures defs_after { (ns : List Name) → length ns ≡ tables.now.drawing.pack.names → defs.new ≡ fill_t (nth (machine_end ns tables.now.drawing.pack.bytes.now) from) count 0 defs.old }
+    ensures regcounts_after { (ns : List Name) → length ns ≡ tables.now.drawing.pack.names → (gs : ℕ → ℕ) → ((i : ℕ) → i < count → HasRegions ns tables.now.drawing.pack.bytes.now tables.now.offsets.now tables.now.machines.now (nth (machine_end ns tables.now.drawing.pack.bytes.now) from i) (gs i)) → regcounts.new ≡ fill_t gs count 0 regcounts.old }
 {
     let mut p = from;
     for i in 0..count {

@@ -196,19 +196,19 @@ fn put_node_equations(
     writer: Writer,
 ) -> Writer
     requires { (n ≤ word_range) × Long layout.old rows.old qualified.old }
-    ensures { (ns : List Name) → length ns ≡ drawing.now.names → (eqs : ℕ → List Item) → AllWrite old.now (equations_at ns drawing.now.pack.now offsets.now machines.now) defs.now n eqs → state_of out.new made.new result ≡ render old.now (node_equations_t ns drawing.now.pack.now defs.now receivers.now regcounts.now offsets.now n eqs k own from end) (state_of out.old made.old writer) }
+    ensures { (ns : List Name) → length ns ≡ drawing.now.pack.names → (eqs : ℕ → List Item) → AllWrite old.now (equations_at ns drawing.now.pack.bytes.now offsets.now machines.now) defs.now n eqs → state_of out.new made.new result ≡ render old.now (node_equations_t ns drawing.now.pack.bytes.now defs.now receivers.now regcounts.now offsets.now n eqs k own from end) (state_of out.old made.old writer) }
 {
     let o = small(own);
     let m = added_equations(
-        drawing.pack,
-        drawing.names,
+        drawing.pack.bytes,
+        drawing.pack.names,
         defs,
         receivers,
         regcounts,
         n,
         k,
     );
-    let h = between(drawing.pack, from, end);
+    let h = between(drawing.pack.bytes, from, end);
     let a = put_u16(out, writer, o + m);
     let b = put_bytes(h, out, a);
     put_all_equations(
@@ -237,15 +237,15 @@ fn put_old_node(
     writer: Writer,
 ) -> Writer
     requires { (n ≤ word_range) × Long layout.old rows.old qualified.old }
-    ensures { (ns : List Name) → length ns ≡ drawing.now.names → (eqs : ℕ → List Item) → AllWrite old.now (equations_at ns drawing.now.pack.now offsets.now machines.now) defs.now n eqs → state_of out.new made.new result ≡ render old.now (old_node_t ns drawing.now.pack.now defs.now receivers.now regcounts.now offsets.now n eqs k at) (state_of out.old made.old writer) }
+    ensures { (ns : List Name) → length ns ≡ drawing.now.pack.names → (eqs : ℕ → List Item) → AllWrite old.now (equations_at ns drawing.now.pack.bytes.now offsets.now machines.now) defs.now n eqs → state_of out.new made.new result ≡ render old.now (old_node_t ns drawing.now.pack.bytes.now defs.now receivers.now regcounts.now offsets.now n eqs k at) (state_of out.old made.old writer) }
 {
-    let e = to_node_equations(drawing.pack, drawing.names, at);
-    let z = after_equations(drawing.pack, drawing.names, e);
-    let c = number(drawing.pack, e);
+    let e = to_node_equations(drawing.pack.bytes, drawing.pack.names, at);
+    let z = after_equations(drawing.pack.bytes, drawing.pack.names, e);
+    let c = number(drawing.pack.bytes, e);
     let a = put_old_head(
         old,
-        drawing.pack,
-        drawing.names,
+        drawing.pack.bytes,
+        drawing.pack.names,
         offsets,
         defs,
         receivers,
@@ -283,7 +283,7 @@ fn put_old_nodes(
     writer: Writer,
 ) -> Writer
     requires { (n ≤ word_range) × Long layout.old rows.old qualified.old }
-    ensures { (ns : List Name) → length ns ≡ drawing.now.names → (eqs : ℕ → List Item) → AllWrite old.now (equations_at ns drawing.now.pack.now offsets.now machines.now) defs.now n eqs → state_of out.new made.new result ≡ render old.now (old_nodes_t ns drawing.now.pack.now defs.now receivers.now regcounts.now offsets.now n eqs count 0 from) (state_of out.old made.old writer) }
+    ensures { (ns : List Name) → length ns ≡ drawing.now.pack.names → (eqs : ℕ → List Item) → AllWrite old.now (equations_at ns drawing.now.pack.bytes.now offsets.now machines.now) defs.now n eqs → state_of out.new made.new result ≡ render old.now (old_nodes_t ns drawing.now.pack.bytes.now defs.now receivers.now regcounts.now offsets.now n eqs count 0 from) (state_of out.old made.old writer) }
 {
     let mut v = writer;
     let mut p = from;
@@ -298,8 +298,8 @@ fn put_old_nodes(
             old, drawing, offsets, machines, layout, rows, qualified, defs, receivers, regcounts,
             m, k, p, out, made, v,
         );
-        let e = to_node_equations(drawing.pack, drawing.names, p);
-        p = after_equations(drawing.pack, drawing.names, e);
+        let e = to_node_equations(drawing.pack.bytes, drawing.pack.names, p);
+        p = after_equations(drawing.pack.bytes, drawing.pack.names, e);
     }
     v
 }
@@ -324,7 +324,7 @@ fn put_begun(
     writer: Writer,
 ) -> Writer
     requires { (n ≤ word_range) × Long layout.old rows.old qualified.old }
-    ensures { (ns : List Name) → length ns ≡ drawing.now.names → (eqs : ℕ → List Item) → AllWrite old.now (equations_at ns drawing.now.pack.now offsets.now machines.now) defs.now n eqs → state_of out.new made.new result ≡ render old.now (new_head_t ns drawing.now.pack.now defs.now receivers.now regcounts.now offsets.now n k at ++ node_equations_t ns drawing.now.pack.now defs.now receivers.now regcounts.now offsets.now n eqs k 0 0 0) (state_of out.old made.old writer) }
+    ensures { (ns : List Name) → length ns ≡ drawing.now.pack.names → (eqs : ℕ → List Item) → AllWrite old.now (equations_at ns drawing.now.pack.bytes.now offsets.now machines.now) defs.now n eqs → state_of out.new made.new result ≡ render old.now (new_head_t ns drawing.now.pack.bytes.now defs.now receivers.now regcounts.now offsets.now n k at ++ node_equations_t ns drawing.now.pack.bytes.now defs.now receivers.now regcounts.now offsets.now n eqs k 0 0 0) (state_of out.old made.old writer) }
 {
     let f = next_to(receivers, n, k, 0);
     let m = span(receivers, n, k, f);
@@ -333,8 +333,8 @@ fn put_begun(
     let rs = table_from(regcounts, f);
     let a = put_new_head(
         old,
-        drawing.pack,
-        drawing.names,
+        drawing.pack.bytes,
+        drawing.pack.names,
         offsets,
         ms,
         gs,
@@ -371,9 +371,9 @@ fn put_new_node(
     writer: Writer,
 ) -> Writer
     requires { (n ≤ word_range) × Long layout.old rows.old qualified.old }
-    ensures { (ns : List Name) → length ns ≡ drawing.now.names → (eqs : ℕ → List Item) → AllWrite old.now (equations_at ns drawing.now.pack.now offsets.now machines.now) defs.now n eqs → state_of out.new made.new result ≡ render old.now (new_node_t ns drawing.now.pack.now defs.now receivers.now regcounts.now offsets.now n eqs i) (state_of out.old made.old writer) }
+    ensures { (ns : List Name) → length ns ≡ drawing.now.pack.names → (eqs : ℕ → List Item) → AllWrite old.now (equations_at ns drawing.now.pack.bytes.now offsets.now machines.now) defs.now n eqs → state_of out.new made.new result ≡ render old.now (new_node_t ns drawing.now.pack.bytes.now defs.now receivers.now regcounts.now offsets.now n eqs i) (state_of out.old made.old writer) }
 {
-    let o = owned(drawing.pack, defs, i);
+    let o = owned(drawing.pack.bytes, defs, i);
     let k = entry(receivers, i);
     let at = entry(defs, i);
     if o == 0 {
@@ -403,7 +403,7 @@ fn put_new_nodes(
     writer: Writer,
 ) -> Writer
     requires { (n ≤ word_range) × Long layout.old rows.old qualified.old }
-    ensures { (ns : List Name) → length ns ≡ drawing.now.names → (eqs : ℕ → List Item) → AllWrite old.now (equations_at ns drawing.now.pack.now offsets.now machines.now) defs.now n eqs → state_of out.new made.new result ≡ render old.now (each_t (new_node_t ns drawing.now.pack.now defs.now receivers.now regcounts.now offsets.now n eqs) n 0) (state_of out.old made.old writer) }
+    ensures { (ns : List Name) → length ns ≡ drawing.now.pack.names → (eqs : ℕ → List Item) → AllWrite old.now (equations_at ns drawing.now.pack.bytes.now offsets.now machines.now) defs.now n eqs → state_of out.new made.new result ≡ render old.now (each_t (new_node_t ns drawing.now.pack.bytes.now defs.now receivers.now regcounts.now offsets.now n eqs) n 0) (state_of out.old made.old writer) }
 {
     let mut v = writer;
     for i in 0..n {
@@ -446,11 +446,11 @@ pub fn put_nodes(
     writer: Writer,
 ) -> Writer
     requires { (n ≤ word_range) × Long layout.old rows.old qualified.old }
-    ensures { (ns : List Name) → length ns ≡ drawing.now.names → (eqs : ℕ → List Item) → AllWrite old.now (equations_at ns drawing.now.pack.now offsets.now machines.now) defs.now n eqs → state_of out.new made.new result ≡ render old.now (nodes_t ns drawing.now.pack.now defs.now receivers.now regcounts.now offsets.now n eqs at) (state_of out.old made.old writer) }
+    ensures { (ns : List Name) → length ns ≡ drawing.now.pack.names → (eqs : ℕ → List Item) → AllWrite old.now (equations_at ns drawing.now.pack.bytes.now offsets.now machines.now) defs.now n eqs → state_of out.new made.new result ≡ render old.now (nodes_t ns drawing.now.pack.bytes.now defs.now receivers.now regcounts.now offsets.now n eqs at) (state_of out.old made.old writer) }
 {
-    let c = number(drawing.pack, at);
+    let c = number(drawing.pack.bytes, at);
     let o = small(c.value);
-    let g = begun(drawing.pack, defs, n);
+    let g = begun(drawing.pack.bytes, defs, n);
     let a = put_u16(out, writer, o + g);
     let b = put_old_nodes(
         old, drawing, offsets, machines, layout, rows, qualified, defs, receivers, regcounts, n,

@@ -9,8 +9,8 @@ memo_ends-moves-requires c = c.requires.0
 pub memo_guards-regions-requires : goal.memo_guards-regions-requires
 memo_guards-regions-requires c = c.requires.0
 
-pub invariant_of-read_state_head-clause-sound : goal.invariant_of-read_state_head-clause-sound
-invariant_of-read_state_head-clause-sound c = (c.memo_guards-regions.ensures.by_index _ (c.memo_ends-moves.ensures.by_index _ c.requires.1)).ends
+pub invariant_of-drawing : goal.invariant_of-drawing
+invariant_of-drawing c = record { sound = (c.memo_guards-regions.ensures.by_index _ (c.memo_ends-moves.ensures.by_index _ c.requires.1)).ends }
 
 pub shape_of-memo : goal.shape_of-memo
 shape_of-memo c = c.memo_guards-regions.auto.memo ∙ c.memo_ends-moves.auto.memo

@@ -9,4 +9,4 @@ use Rattle.machines.specs.ResolvedIn.{end_of}
 use Rattle.machines.proofs.drawing.Drawing.past_states.Given as goal
 
 abbrev pub invariant-loop : goal.invariant-loop
-invariant-loop l = (ns : List Name) → length ns ≡ l.self.names → end_of (many (state_at ns l.self.pack.now) (l.end - l.counter) l.p) ≡ end_of (many (state_at ns l.self.pack.now) l.end l.initial.p)
+invariant-loop l = (ns : List Name) → length ns ≡ l.self.pack.names → end_of (many (state_at ns l.self.pack.bytes.now) (l.end - l.counter) l.p) ≡ end_of (many (state_at ns l.self.pack.bytes.now) l.end l.initial.p)
