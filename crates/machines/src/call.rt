@@ -58,16 +58,16 @@ fn fill_tables(
     ensures value { result ≡ total_t (refused_t receivers.new) (machine_count pack.now sections) 0 }
     ensures memo_sound { MemoSound pack.now sections.names offsets.new memo.new }
 {
+    let checked = CheckedPack {
+        bytes: pack,
+        names: sections.names,
+    };
     let c = number(pack, sections.nodes);
     let m = number(pack, sections.machines);
     let old = small(c.value);
     let n = small(m.value);
     place_names(pack, sections.names, offsets);
-    fill_memo(pack, sections.names, offsets, sections.machines, memo);
-    let checked = CheckedPack {
-        bytes: pack,
-        names: sections.names,
-    };
+    fill_memo(&checked, offsets, sections.machines, memo);
     let drawing = Drawing {
         pack: checked,
         memo,

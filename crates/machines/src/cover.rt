@@ -4,7 +4,7 @@
 //   hints   256 rows of three, at 3 * (p / 10 % 256): the state at p, the equation after the one found last, how many are left there
 //   marks   from MARKS on, at p / 10, of the output x asked last: 2 * x + 2 where the state at p gives it, 2 * x + 1 where not
 // Rows of hints are shared, and say whose they are. What is not there is looked for in the equations.
-ghost use Rattle.std.specs.Prelude.{List, ◌≡◌, ◌<◌, ◌≤◌, length, is_some, IfSome};
+ghost use Rattle.std.specs.Prelude.{List, ◌≡◌, ◌<◌, length, is_some, IfSome};
 ghost use Rattle.pack_rules.specs.Names.{Name};
 ghost use Rattle.machines.specs.Memo.{regions_in};
 ghost use Rattle.machines.specs.CoverAt.{gives_t, miss_t, own_t, uncovered_t};

@@ -33,13 +33,12 @@ fn put_equations(
     ensures { (ns : List Name) → length ns ≡ drawing.now.pack.names → state_of out.new made.new result ≡ render old.now (equations_at ns drawing.now.pack.bytes.now offsets.now machines.now at layout.old rows.old qualified.old) (state_of out.old made.old writer) }
 {
     let m = number(drawing.pack.bytes, at);
-    let i = to_initial(drawing.pack.bytes, drawing.pack.names, m.next);
+    let i = to_initial(&drawing.pack, m.next);
     let l = layout_machine(drawing, offsets, machines, layout, rows, qualified, i);
-    let o = to_outputs(drawing.pack.bytes, drawing.pack.names, m.next);
+    let o = to_outputs(&drawing.pack, m.next);
     let v = emit_regions(
         old,
-        drawing.pack.bytes,
-        drawing.pack.names,
+        &drawing.pack,
         offsets,
         layout,
         rows,
@@ -69,7 +68,7 @@ fn put_machine_enums(
     ensures { (ns : List Name) → length ns ≡ drawing.now.pack.names → state_of out.new made.new result ≡ render old.now (enums_at ns drawing.now.pack.bytes.now offsets.now machines.now at layout.old rows.old qualified.old) (state_of out.old made.old writer) }
 {
     let m = number(drawing.pack.bytes, at);
-    let i = to_initial(drawing.pack.bytes, drawing.pack.names, m.next);
+    let i = to_initial(&drawing.pack, m.next);
     let l = layout_machine(drawing, offsets, machines, layout, rows, qualified, i);
     let n = pack_name(drawing.pack.bytes, offsets, m.value);
     put_enums(

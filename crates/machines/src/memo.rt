@@ -13,7 +13,7 @@ ghost use Rattle.wire.specs.Answer.{Answer, below, counted, many};
 ghost use Rattle.wire.specs.Code.{onward};
 ghost use Rattle.pack_rules.specs.Names.{Name};
 ghost use Rattle.pack_rules.specs.Read.{OneRegion, equation_in, name_in, region_at, state_with, transition_in};
-ghost use Rattle.pack_rules.specs.Limits.{max_bytes, max_level};
+ghost use Rattle.pack_rules.specs.Limits.{max_level};
 ghost use Rattle.machines.specs.ResolvedIn.{end_of, over_in};
 ghost use Rattle.machines.specs.MemoSound.{MemoSound};
 ghost use Rattle.machines.specs.UnknownTargets.{IsDrawn, drawn_state, target_d, unknown_target_d};
@@ -230,25 +230,23 @@ struct Head {
 }
 
 // Keeps where the equation at `at` ends, and answers it.
-fn memo_end(pack: &[u8], names: usize, memo: &mut [u16], at: usize) -> usize
-    requires { length pack.now ≤ max_bytes }
-    ensures value { (ns : List Name) → length ns ≡ names → result ≡ end_of (equation_in ns pack.now at) }
-    ensures by_index { (offsets : List ℕ) → MemoSound pack.now names offsets memo.old → MemoSound pack.now names offsets memo.new }
+fn memo_end(pack: &CheckedPack, memo: &mut [u16], at: usize) -> usize
+    ensures value { (ns : List Name) → length ns ≡ pack.now.names → result ≡ end_of (equation_in ns pack.now.bytes.now at) }
+    ensures by_index { (offsets : List ℕ) → MemoSound pack.now.bytes.now pack.now.names offsets memo.old → MemoSound pack.now.bytes.now pack.now.names offsets memo.new }
 {
-    let e = after_equation(pack, names, at);
+    let e = after_equation(pack.bytes, pack.names, at);
     memo_put(memo, at, EQUATION, 0, e);
     e
 }
 
 // The ends of `count` equations from `from` on; the offset after them, 0 where one does not read.
-fn memo_ends(pack: &[u8], names: usize, memo: &mut [u16], count: usize, from: usize) -> usize
-    requires { length pack.now ≤ max_bytes }
-    ensures value { (ns : List Name) → length ns ≡ names → result ≡ end_of (many (equation_in ns pack.now) count from) }
-    ensures by_index { (offsets : List ℕ) → MemoSound pack.now names offsets memo.old → MemoSound pack.now names offsets memo.new }
+fn memo_ends(pack: &CheckedPack, memo: &mut [u16], count: usize, from: usize) -> usize
+    ensures value { (ns : List Name) → length ns ≡ pack.now.names → result ≡ end_of (many (equation_in ns pack.now.bytes.now) count from) }
+    ensures by_index { (offsets : List ℕ) → MemoSound pack.now.bytes.now pack.now.names offsets memo.old → MemoSound pack.now.bytes.now pack.now.names offsets memo.new }
 {
     let mut p = from;
     for _ in 0..count {
-        p = memo_end(pack, names, memo, p);
+        p = memo_end(pack, memo, p);
         if p == 0 {
             return 0;
         }
@@ -257,28 +255,26 @@ fn memo_ends(pack: &[u8], names: usize, memo: &mut [u16], count: usize, from: us
 }
 
 // Keeps where the guard at `at` ends; the offset after its transition.
-fn memo_guard(pack: &[u8], names: usize, memo: &mut [u16], at: usize) -> usize
-    requires { length pack.now ≤ max_bytes }
-    ensures value { (ns : List Name) → length ns ≡ names → result ≡ end_of (transition_in ns pack.now at) }
-    ensures by_index { (offsets : List ℕ) → MemoSound pack.now names offsets memo.old → MemoSound pack.now names offsets memo.new }
+fn memo_guard(pack: &CheckedPack, memo: &mut [u16], at: usize) -> usize
+    ensures value { (ns : List Name) → length ns ≡ pack.now.names → result ≡ end_of (transition_in ns pack.now.bytes.now at) }
+    ensures by_index { (offsets : List ℕ) → MemoSound pack.now.bytes.now pack.now.names offsets memo.old → MemoSound pack.now.bytes.now pack.now.names offsets memo.new }
 {
-    let guard = skip_expr(pack, names, at);
+    let guard = skip_expr(pack.bytes, pack.names, at);
     memo_put(memo, at, GUARD, 0, reached(guard));
     match guard {
-        Ok(p) => reached(skip_index(pack, names, p)),
+        Ok(p) => reached(skip_index(pack.bytes, pack.names, p)),
         Err(_) => 0,
     }
 }
 
 // The guards of `count` transitions from `from` on; the offset after them, 0 where one does not read.
-fn memo_guards(pack: &[u8], names: usize, memo: &mut [u16], count: usize, from: usize) -> usize
-    requires { length pack.now ≤ max_bytes }
-    ensures value { (ns : List Name) → length ns ≡ names → result ≡ end_of (many (transition_in ns pack.now) count from) }
-    ensures by_index { (offsets : List ℕ) → MemoSound pack.now names offsets memo.old → MemoSound pack.now names offsets memo.new }
+fn memo_guards(pack: &CheckedPack, memo: &mut [u16], count: usize, from: usize) -> usize
+    ensures value { (ns : List Name) → length ns ≡ pack.now.names → result ≡ end_of (many (transition_in ns pack.now.bytes.now) count from) }
+    ensures by_index { (offsets : List ℕ) → MemoSound pack.now.bytes.now pack.now.names offsets memo.old → MemoSound pack.now.bytes.now pack.now.names offsets memo.new }
 {
     let mut p = from;
     for _ in 0..count {
-        p = memo_guard(pack, names, memo, p);
+        p = memo_guard(pack, memo, p);
         if p == 0 {
             return 0;
         }
@@ -305,17 +301,17 @@ fn memo_state(memo: &mut [u16], at: usize, h: Head, o: usize)
 }
 
 // Keeps the equations and the guards of the state at `at`; what is read of it before its regions.
-fn memo_head(pack: &[u8], names: usize, offsets: &[u16], memo: &mut [u16], at: usize) -> Head
-    requires { (length pack.now ≤ max_bytes) × MemoSound pack.now names offsets.now memo.old }
-    ensures value { (ns : List Name) → length ns ≡ names → result ≡ head_of ns pack.now offsets.now at }
-    ensures memo_sound { MemoSound pack.now names offsets.now memo.new }
+fn memo_head(pack: &CheckedPack, offsets: &[u16], memo: &mut [u16], at: usize) -> Head
+    requires { MemoSound pack.now.bytes.now pack.now.names offsets.now memo.old }
+    ensures value { (ns : List Name) → length ns ≡ pack.now.names → result ≡ head_of ns pack.now.bytes.now offsets.now at }
+    ensures memo_sound { MemoSound pack.now.bytes.now pack.now.names offsets.now memo.new }
 {
-    let i = number(pack, at);
-    let c = number(pack, i.next);
-    let moves = memo_ends(pack, names, memo, c.value, c.next);
-    let g = number(pack, moves);
-    let regions = memo_guards(pack, names, memo, g.value, g.next);
-    let checked = CheckedPack { bytes: pack, names };
+    let i = number(pack.bytes, at);
+    let c = number(pack.bytes, i.next);
+    let moves = memo_ends(pack, memo, c.value, c.next);
+    let g = number(pack.bytes, moves);
+    let regions = memo_guards(pack, memo, g.value, g.next);
+    let checked = *pack;
     let drawing = Drawing {
         pack: checked,
         memo,
@@ -361,21 +357,20 @@ fn states_in(pack: &[u8], names: usize, at: usize) -> Number
 // Keeps how many of n regions from `at` on have no states, where these are several; how many follow the one at `at`. Where `known`
 // are known to follow, they are kept already.
 fn memo_empty_regions(
-    pack: &[u8],
-    names: usize,
+    pack: &CheckedPack,
     offsets: &[u16],
     memo: &mut [u16],
     n: usize,
     known: usize,
     at: usize,
 ) -> usize
-    requires { (length pack.now ≤ max_bytes) × MemoSound pack.now names offsets.now memo.old }
-    ensures { MemoSound pack.now names offsets.now memo.new }
+    requires { MemoSound pack.now.bytes.now pack.now.names offsets.now memo.old }
+    ensures { MemoSound pack.now.bytes.now pack.now.names offsets.now memo.new }
 {
     if 0 < known {
         return known - 1;
     }
-    let e = empty_run_from(pack, offsets, n, at);
+    let e = empty_run_from(pack.bytes, offsets, n, at);
     let k = e.count;
     let l = e.longest;
     if k < 2 {
@@ -391,21 +386,21 @@ fn memo_empty_regions(
 // Keeps which of the states from `from` on, whose count stands before them, is the first with an unknown target. The row is that of the bytes
 // before the states, where no equation and no guard begins; without states it is left to regions that have none. A region with more
 // states than a machine may have is never checked.
-fn memo_unknown_targets(pack: &[u8], names: usize, offsets: &[u16], memo: &mut [u16], from: usize)
-    requires { (length pack.now ≤ max_bytes) × MemoSound pack.now names offsets.now memo.old }
-    ensures { MemoSound pack.now names offsets.now memo.new }
+fn memo_unknown_targets(pack: &CheckedPack, offsets: &[u16], memo: &mut [u16], from: usize)
+    requires { MemoSound pack.now.bytes.now pack.now.names offsets.now memo.old }
+    ensures { MemoSound pack.now.bytes.now pack.now.names offsets.now memo.new }
 {
     if from < 5 {
         return;
     }
-    let c = number(pack, from - 2);
+    let c = number(pack.bytes, from - 2);
     if c.value == 0 {
         return;
     }
     if Pack::STATES < c.value {
         return;
     }
-    let checked = CheckedPack { bytes: pack, names };
+    let checked = *pack;
     let drawing = Drawing {
         pack: checked,
         memo,
@@ -420,30 +415,29 @@ fn memo_unknown_targets(pack: &[u8], names: usize, offsets: &[u16], memo: &mut [
 // The state at `at` and the states in its regions; the offset after it, 0 where it does not read.
 #[cycle(fill_state_fill_states)]
 fn fill_state(
-    pack: &[u8],
-    names: usize,
+    pack: &CheckedPack,
     offsets: &[u16],
     memo: &mut [u16],
     levels: usize,
     at: usize,
 ) -> usize
-    requires { (length pack.now ≤ max_bytes) × MemoSound pack.now names offsets.now memo.old × (levels < max_level) }
-    ensures value { (ns : List Name) → length ns ≡ names → 0 < result → result ≡ end_of (state_with (region_at levels ns pack.now) ns pack.now at) }
-    ensures memo_sound { MemoSound pack.now names offsets.now memo.new }
+    requires { MemoSound pack.now.bytes.now pack.now.names offsets.now memo.old × (levels < max_level) }
+    ensures value { (ns : List Name) → length ns ≡ pack.now.names → 0 < result → result ≡ end_of (state_with (region_at levels ns pack.now.bytes.now) ns pack.now.bytes.now at) }
+    ensures memo_sound { MemoSound pack.now.bytes.now pack.now.names offsets.now memo.new }
 {
-    let h = memo_head(pack, names, offsets, memo, at);
-    let r = number(pack, h.regions);
+    let h = memo_head(pack, offsets, memo, at);
+    let r = number(pack.bytes, h.regions);
     let mut p = r.next;
     let mut known = 0;
     for i in 0..r.value {
-        let c = states_in(pack, names, p);
-        known = memo_empty_regions(pack, names, offsets, memo, r.value - i, known, p);
-        p = fill_states(pack, names, offsets, memo, levels, c.value, c.next);
+        let c = states_in(pack.bytes, pack.names, p);
+        known = memo_empty_regions(pack, offsets, memo, r.value - i, known, p);
+        p = fill_states(pack, offsets, memo, levels, c.value, c.next);
         if p == 0 {
             return 0;
         }
     }
-    let o = state_end(pack, names, at, h, p);
+    let o = state_end(pack.bytes, pack.names, at, h, p);
     memo_state(memo, at, h, o);
     o
 }
@@ -451,42 +445,41 @@ fn fill_state(
 // `count` states from `from` on; the offset after them, 0 where one does not read.
 #[cycle(fill_state_fill_states)]
 fn fill_states(
-    pack: &[u8],
-    names: usize,
+    pack: &CheckedPack,
     offsets: &[u16],
     memo: &mut [u16],
     levels: usize,
     count: usize,
     from: usize,
 ) -> usize
-    requires { (length pack.now ≤ max_bytes) × MemoSound pack.now names offsets.now memo.old × (levels ≤ max_level) }
-    ensures fact { (ns : List Name) → length ns ≡ names → 0 < result → (levels ≡ 0 → ⊥) × (result ≡ end_of (many (state_with (region_at (levels - 1) ns pack.now) ns pack.now) count from)) }
-    ensures memo_sound { MemoSound pack.now names offsets.now memo.new }
+    requires { MemoSound pack.now.bytes.now pack.now.names offsets.now memo.old × (levels ≤ max_level) }
+    ensures fact { (ns : List Name) → length ns ≡ pack.now.names → 0 < result → (levels ≡ 0 → ⊥) × (result ≡ end_of (many (state_with (region_at (levels - 1) ns pack.now.bytes.now) ns pack.now.bytes.now) count from)) }
+    ensures memo_sound { MemoSound pack.now.bytes.now pack.now.names offsets.now memo.new }
 {
     if levels == 0 {
         return 0;
     }
     let mut p = from;
     for _ in 0..count {
-        p = fill_state(pack, names, offsets, memo, levels - 1, p);
+        p = fill_state(pack, offsets, memo, levels - 1, p);
         if p == 0 {
             return 0;
         }
     }
-    memo_unknown_targets(pack, names, offsets, memo, from);
+    memo_unknown_targets(pack, offsets, memo, from);
     p
 }
 
 // Those of all machines, whose count stands at `at`.
-pub fn fill_memo(pack: &[u8], names: usize, offsets: &[u16], at: usize, memo: &mut [u16])
-    requires { (length pack.now ≤ max_bytes) × MemoSound pack.now names offsets.now memo.old }
-    ensures { MemoSound pack.now names offsets.now memo.new }
+pub fn fill_memo(pack: &CheckedPack, offsets: &[u16], at: usize, memo: &mut [u16])
+    requires { MemoSound pack.now.bytes.now pack.now.names offsets.now memo.old }
+    ensures { MemoSound pack.now.bytes.now pack.now.names offsets.now memo.new }
 {
-    let c = number(pack, at);
+    let c = number(pack.bytes, at);
     let mut p = c.next;
     for _ in 0..c.value {
-        let m = number(pack, p);
-        let h = machine(pack, to_initial(pack, names, m.next));
-        p = fill_states(pack, names, offsets, memo, Pack::LEVELS, h.value, h.next);
+        let m = number(pack.bytes, p);
+        let h = machine(pack.bytes, to_initial(pack, m.next));
+        p = fill_states(pack, offsets, memo, Pack::LEVELS, h.value, h.next);
     }
 }

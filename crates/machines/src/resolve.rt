@@ -4,7 +4,7 @@
 //   read_state_head, state_head    a state's longest name and where its regions are, read, or looked up in `memo`
 //   EmptyRegions, SkippedRegions   regions without states that follow one another, passed in one step
 //   resolve_machine                the walk: where it ended, or why it stopped (`Resolved`)
-ghost use Rattle.std.specs.Prelude.{◌≡◌, ◌||◌, eqb, List, ◌<◌, ◌≤◌, length};
+ghost use Rattle.std.specs.Prelude.{◌≡◌, ◌||◌, eqb, List, ◌<◌, length};
 ghost use Rattle.machines.specs.RefineStack.{on_of, pushed_of, start_of};
 ghost use Rattle.pack_rules.specs.Names.{Name};
 ghost use Rattle.machines.specs.ResolveAt.{enter_w, head_t, len_at, machine_w, qualify_of, state_w, target_t, walk as walk_in};

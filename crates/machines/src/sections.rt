@@ -54,8 +54,7 @@ fn put_numbers(o: usize, m: usize, f: usize, e: usize, out: &mut [u8], writer: W
 
 // The origin of the machine i, where it has an owner and `first` equations come before it.
 fn put_origin(
-    pack: &[u8],
-    names: usize,
+    pack: &CheckedPack,
     defs: &[usize],
     regcounts: &[usize],
     i: usize,
@@ -63,25 +62,24 @@ fn put_origin(
     out: &mut [u8],
     writer: Writer,
 ) -> Writer
-    requires { (length pack.now ≤ max_bytes) × (first < 1099511627776) }
-    ensures { (ns : List Name) → length ns ≡ names → (old l : List ℕ) → state_of out.new l result ≡ render old (given_origin_t ns pack.now defs.now regcounts.now first i) (state_of out.old l writer) }
+    requires { first < 1099511627776 }
+    ensures { (ns : List Name) → length ns ≡ pack.now.names → (old l : List ℕ) → state_of out.new l result ≡ render old (given_origin_t ns pack.now.bytes.now defs.now regcounts.now first i) (state_of out.old l writer) }
 {
     let at = entry(defs, i);
-    let m = number(pack, at);
-    let o = number(pack, m.next);
+    let m = number(pack.bytes, at);
+    let o = number(pack.bytes, m.next);
     if o.value == Pack::ABSENT {
         return writer;
     }
     let g = entry(regcounts, i);
-    let e = equation_count(pack, names, at, g);
+    let e = equation_count(pack, at, g);
     put_numbers(o.value, m.value, first, e, out, writer)
 }
 
 // How many equations come before the machine i in its owner. `count` old nodes stand from `from` on; they and the earlier
 // machines are asked only where the owner is another node than before.
 fn count_before(
-    pack: &[u8],
-    names: usize,
+    pack: &CheckedPack,
     defs: &[usize],
     receivers: &[usize],
     regcounts: &[usize],
@@ -90,10 +88,10 @@ fn count_before(
     i: usize,
     d: Counted,
 ) -> Counted
-    requires { (length pack.now ≤ max_bytes) × (i ≤ word_range) × (d.first ≤ word_range + 1048576 * i) }
-    ensures { (result.first ≤ word_range + 1048576 * i) × ((ns : List Name) → length ns ≡ names → result ≡ counted_t ns pack.now defs.now receivers.now regcounts.now count from d i) }
+    requires { (i ≤ word_range) × (d.first ≤ word_range + 1048576 * i) }
+    ensures { (result.first ≤ word_range + 1048576 * i) × ((ns : List Name) → length ns ≡ pack.now.names → result ≡ counted_t ns pack.now.bytes.now defs.now receivers.now regcounts.now count from d i) }
 {
-    let o = owned(pack, defs, i);
+    let o = owned(pack.bytes, defs, i);
     let k = entry(receivers, i);
     if o == 0 {
         return d;
@@ -101,8 +99,8 @@ fn count_before(
     if d.node == k {
         return d;
     }
-    let b = old_equations(pack, names, count, from, k);
-    let c = added_equations(pack, names, defs, receivers, regcounts, i, k);
+    let b = old_equations(pack, count, from, k);
+    let c = added_equations(pack, defs, receivers, regcounts, i, k);
     Counted {
         node: k,
         first: b + c,
@@ -111,18 +109,17 @@ fn count_before(
 
 // The same past the machine i.
 fn count_past(
-    pack: &[u8],
-    names: usize,
+    pack: &CheckedPack,
     defs: &[usize],
     receivers: &[usize],
     regcounts: &[usize],
     i: usize,
     d: Counted,
 ) -> Counted
-    requires { (length pack.now ≤ max_bytes) × (i ≤ word_range) × (d.first ≤ word_range + 1048576 * i) }
-    ensures { (result.first ≤ word_range + 1048576 * (i + 1)) × ((ns : List Name) → length ns ≡ names → result ≡ passed_t ns pack.now defs.now receivers.now regcounts.now d i) }
+    requires { (i ≤ word_range) × (d.first ≤ word_range + 1048576 * i) }
+    ensures { (result.first ≤ word_range + 1048576 * (i + 1)) × ((ns : List Name) → length ns ≡ pack.now.names → result ≡ passed_t ns pack.now.bytes.now defs.now receivers.now regcounts.now d i) }
 {
-    let b = adds_equations(pack, names, defs, receivers, regcounts, d.node, i);
+    let b = adds_equations(pack, defs, receivers, regcounts, d.node, i);
     Counted {
         node: d.node,
         first: d.first + b,
@@ -131,8 +128,7 @@ fn count_past(
 
 // The origins of the first n machines.
 pub fn put_origins(
-    pack: &[u8],
-    names: usize,
+    pack: &CheckedPack,
     defs: &[usize],
     receivers: &[usize],
     regcounts: &[usize],
@@ -142,19 +138,19 @@ pub fn put_origins(
     out: &mut [u8],
     writer: Writer,
 ) -> Writer
-    requires { (length pack.now ≤ max_bytes) × (n ≤ word_range) }
-    ensures { (ns : List Name) → length ns ≡ names → (old l : List ℕ) → state_of out.new l result ≡ render old (each_t (own_origin_t ns pack.now defs.now receivers.now regcounts.now count from) n 0) (state_of out.old l writer) }
+    requires { n ≤ word_range }
+    ensures { (ns : List Name) → length ns ≡ pack.now.names → (old l : List ℕ) → state_of out.new l result ≡ render old (each_t (own_origin_t ns pack.now.bytes.now defs.now receivers.now regcounts.now count from) n 0) (state_of out.old l writer) }
 {
-    let b = old_equations(pack, names, count, from, 0);
+    let b = old_equations(pack, count, from, 0);
     let mut d = Counted { node: 0, first: b };
     let mut v = writer;
     for i in 0..n {
         if v.full {
             return v;
         }
-        d = count_before(pack, names, defs, receivers, regcounts, count, from, i, d);
-        v = put_origin(pack, names, defs, regcounts, i, d.first, out, v);
-        d = count_past(pack, names, defs, receivers, regcounts, i, d);
+        d = count_before(pack, defs, receivers, regcounts, count, from, i, d);
+        v = put_origin(pack, defs, regcounts, i, d.first, out, v);
+        d = count_past(pack, defs, receivers, regcounts, i, d);
     }
     v
 }
@@ -193,8 +189,7 @@ fn put_enums_part(
 
 // All origins: those from `at` on up to `end`, after their count, and those of the first n machines. The count of nodes is at `nodes`.
 fn put_origins_part(
-    pack: &[u8],
-    names: usize,
+    pack: &CheckedPack,
     defs: &[usize],
     receivers: &[usize],
     regcounts: &[usize],
@@ -205,19 +200,17 @@ fn put_origins_part(
     out: &mut [u8],
     writer: Writer,
 ) -> Writer
-    requires { (length pack.now ≤ max_bytes) × (n ≤ word_range) }
-    ensures { (ns : List Name) → length ns ≡ names → (offsets old l : List ℕ) → state_of out.new l result ≡ render old (origins_part_t ns pack.now defs.now receivers.now regcounts.now offsets n at end nodes) (state_of out.old l writer) }
+    requires { n ≤ word_range }
+    ensures { (ns : List Name) → length ns ≡ pack.now.names → (offsets old l : List ℕ) → state_of out.new l result ≡ render old (origins_part_t ns pack.now.bytes.now defs.now receivers.now regcounts.now offsets n at end nodes) (state_of out.old l writer) }
 {
-    let c = number(pack, at);
+    let c = number(pack.bytes, at);
     let o = small(c.value);
-    let d = number(pack, nodes);
-    let g = owned_count(pack, defs, n);
-    let h = between(pack, c.next, end);
+    let d = number(pack.bytes, nodes);
+    let g = owned_count(pack.bytes, defs, n);
+    let h = between(pack.bytes, c.next, end);
     let a = put_u16(out, writer, o + g);
     let b = put_bytes(h, out, a);
-    put_origins(
-        pack, names, defs, receivers, regcounts, n, d.value, d.next, out, b,
-    )
+    put_origins(pack, defs, receivers, regcounts, n, d.value, d.next, out, b)
 }
 
 // All that follows the names: no machines are left, activations stay.
@@ -288,8 +281,7 @@ pub fn put_sections(
     let h = between(pack, sections.activations, sections.origins);
     let d = put_bytes(h, out, c);
     put_origins_part(
-        pack,
-        sections.names,
+        &checked,
         defs,
         receivers,
         regcounts,

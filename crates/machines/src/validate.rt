@@ -2,7 +2,7 @@
 // region call each other, with the levels left as the falling number. Names within a region share their prefix, so that they are
 // compared as indexes. `memo` has of a drawn region which state is the first with an unknown target: where the rows of the layout are
 // those of that region, which is tested, its transitions are not looked at again (`TargetMemo`).
-ghost use Rattle.std.specs.Prelude.{List, ◌≡◌, ◌+◌, ◌≤◌, get_or, length, IfSome};
+ghost use Rattle.std.specs.Prelude.{List, ◌≡◌, ◌+◌, get_or, length, IfSome};
 ghost use Rattle.pack_rules.specs.Names.{Name};
 ghost use Rattle.machines.specs.ValidateAt.{AllRecalled, Has, OneRecalled, checked_region, checked_state, has_t, is_state_t, onward as onward_of, recall_t as foretold_of, row_drawn, rows_drawn, targets_t, unknown};
 

@@ -5,7 +5,7 @@
 //   outputs            OutputUnassigned (`cover`)
 // Of all machines two tables are kept: `defs`, where each is drawn, and `regcounts`, how many regions it has, 0 where it is refused. A
 // refusal (`VerdictRow`) is not kept: the report judges the machine again.
-ghost use Rattle.std.specs.Prelude.{List, ◌≡◌, ◌<◌, ◌≤◌, ℕ, length};
+ghost use Rattle.std.specs.Prelude.{List, ◌≡◌, ◌<◌, ℕ, length};
 ghost use Rattle.pack_rules.specs.Names.{Name};
 ghost use Rattle.pack_rules.specs.Limits.{max_level};
 ghost use Rattle.machines.specs.CoverAt.{uncovered_t};
@@ -273,7 +273,7 @@ pub fn judge(
     ensures qualified_after { (ns : List Name) → length ns ≡ tables.now.drawing.pack.names → qualified.new ≡ (board_at ns tables.now.drawing.pack.bytes.now tables.now.offsets.now tables.now.machines.now at layout.old rows.old qualified.old).qualified }
 {
     let m = number(tables.drawing.pack.bytes, at);
-    let i = to_initial(tables.drawing.pack.bytes, tables.drawing.pack.names, m.next);
+    let i = to_initial(&tables.drawing.pack, m.next);
     let w = resolve_machine(tables, m.value, i);
     match w {
         Resolved::Cycle(n) => refused(VerdictRow::REFINE_CYCLE, named(n), no_name()),
@@ -293,7 +293,7 @@ pub fn judge(
                 qualified,
                 i,
             );
-            let o = to_outputs(tables.drawing.pack.bytes, tables.drawing.pack.names, m.next);
+            let o = to_outputs(&tables.drawing.pack, m.next);
             judge_laid(&tables.drawing, layout, qualified, l.letters, l.regions, o)
         }
     }
@@ -304,7 +304,7 @@ fn after_machine(drawing: &Drawing, at: usize) -> usize
     ensures { (ns : List Name) → length ns ≡ drawing.now.pack.names → result ≡ machine_end ns drawing.now.pack.bytes.now at }
 {
     let m = number(drawing.pack.bytes, at);
-    let i = to_initial(drawing.pack.bytes, drawing.pack.names, m.next);
+    let i = to_initial(&drawing.pack, m.next);
     after_states(drawing, i)
 }
 

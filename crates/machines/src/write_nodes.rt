@@ -21,7 +21,7 @@ use crate::added::{
     added_equations, added_locals, after_ports, asked, next_receiver, next_to, owned, owned_count,
     put_all_locals, small, span, table_from, to_locals,
 };
-use crate::checked_read::{after_equations, number, read_or_zero};
+use crate::checked_read::{CheckedPack, after_equations, number, read_or_zero};
 use crate::drawing::Drawing;
 use crate::emit_machine::put_all_equations;
 use crate::layout::between;
@@ -64,18 +64,17 @@ pub fn to_node_equations(pack: &[u8], names: usize, at: usize) -> usize
 }
 
 // How many equations the node k of `count` nodes from `from` on has.
-pub fn old_equations(pack: &[u8], names: usize, count: usize, from: usize, k: usize) -> usize
-    requires { length pack.now ≤ max_bytes }
-    ensures { (result < word_range) × ((ns : List Name) → length ns ≡ names → result ≡ old_t ns pack.now count from k) }
+pub fn old_equations(pack: &CheckedPack, count: usize, from: usize, k: usize) -> usize
+    ensures { (result < word_range) × ((ns : List Name) → length ns ≡ pack.now.names → result ≡ old_t ns pack.now.bytes.now count from k) }
 {
     let mut p = from;
     for i in 0..count {
-        let e = to_node_equations(pack, names, p);
+        let e = to_node_equations(pack.bytes, pack.names, p);
         if i == k {
-            let c = number(pack, e);
+            let c = number(pack.bytes, e);
             return small(c.value);
         }
-        p = after_equations(pack, names, e);
+        p = after_equations(pack.bytes, pack.names, e);
     }
     0
 }
@@ -85,8 +84,7 @@ pub fn old_equations(pack: &[u8], names: usize, count: usize, from: usize, k: us
 // The locals of the node k: `own` ones that stand from `from` up to `to`, and those that n machines bring.
 fn put_node_locals(
     old: &[u8],
-    pack: &[u8],
-    names: usize,
+    pack: &CheckedPack,
     offsets: &[u16],
     defs: &[usize],
     receivers: &[usize],
@@ -100,24 +98,23 @@ fn put_node_locals(
     made: &mut [u8],
     writer: Writer,
 ) -> Writer
-    requires { (length pack.now ≤ max_bytes) × (n ≤ word_range) }
-    ensures { (ns : List Name) → length ns ≡ names → state_of out.new made.new result ≡ render old.now (node_locals_t ns pack.now defs.now receivers.now regcounts.now offsets.now n k own from to) (state_of out.old made.old writer) }
+    requires { n ≤ word_range }
+    ensures { (ns : List Name) → length ns ≡ pack.now.names → state_of out.new made.new result ≡ render old.now (node_locals_t ns pack.now.bytes.now defs.now receivers.now regcounts.now offsets.now n k own from to) (state_of out.old made.old writer) }
 {
     let o = small(own);
-    let m = added_locals(pack, names, defs, receivers, regcounts, n, k);
+    let m = added_locals(pack, defs, receivers, regcounts, n, k);
     let a = put_u16(out, writer, o + m);
-    let h = between(pack, from, to);
+    let h = between(pack.bytes, from, to);
     let b = put_bytes(h, out, a);
     put_all_locals(
-        old, pack, names, offsets, defs, receivers, regcounts, n, k, out, made, b,
+        old, pack, offsets, defs, receivers, regcounts, n, k, out, made, b,
     )
 }
 
 // The node k that stands at `at`.
 pub fn put_old_head(
     old: &[u8],
-    pack: &[u8],
-    names: usize,
+    pack: &CheckedPack,
     offsets: &[u16],
     defs: &[usize],
     receivers: &[usize],
@@ -129,25 +126,23 @@ pub fn put_old_head(
     made: &mut [u8],
     writer: Writer,
 ) -> Writer
-    requires { (length pack.now ≤ max_bytes) × (n ≤ word_range) }
-    ensures { (ns : List Name) → length ns ≡ names → state_of out.new made.new result ≡ render old.now (old_head_t ns pack.now defs.now receivers.now regcounts.now offsets.now n k at) (state_of out.old made.old writer) }
+    requires { n ≤ word_range }
+    ensures { (ns : List Name) → length ns ≡ pack.now.names → state_of out.new made.new result ≡ render old.now (old_head_t ns pack.now.bytes.now defs.now receivers.now regcounts.now offsets.now n k at) (state_of out.old made.old writer) }
 {
-    let l = to_node_locals(pack, names, at);
-    let e = after_ports(pack, names, l);
-    let c = number(pack, l);
-    let h = between(pack, at, l);
+    let l = to_node_locals(pack.bytes, pack.names, at);
+    let e = after_ports(pack.bytes, pack.names, l);
+    let c = number(pack.bytes, l);
+    let h = between(pack.bytes, at, l);
     let a = put_bytes(h, out, writer);
     put_node_locals(
-        old, pack, names, offsets, defs, receivers, regcounts, n, k, c.value, c.next, e, out, made,
-        a,
+        old, pack, offsets, defs, receivers, regcounts, n, k, c.value, c.next, e, out, made, a,
     )
 }
 
 // The node k that the machine drawn at `at` begins.
 pub fn put_new_head(
     old: &[u8],
-    pack: &[u8],
-    names: usize,
+    pack: &CheckedPack,
     offsets: &[u16],
     defs: &[usize],
     receivers: &[usize],
@@ -159,18 +154,18 @@ pub fn put_new_head(
     made: &mut [u8],
     writer: Writer,
 ) -> Writer
-    requires { (length pack.now ≤ max_bytes) × (n ≤ word_range) }
-    ensures { (ns : List Name) → length ns ≡ names → state_of out.new made.new result ≡ render old.now (new_head_t ns pack.now defs.now receivers.now regcounts.now offsets.now n k at) (state_of out.old made.old writer) }
+    requires { n ≤ word_range }
+    ensures { (ns : List Name) → length ns ≡ pack.now.names → state_of out.new made.new result ≡ render old.now (new_head_t ns pack.now.bytes.now defs.now receivers.now regcounts.now offsets.now n k at) (state_of out.old made.old writer) }
 {
-    let m = number(pack, at);
-    let o = number(pack, m.next);
-    let l = to_locals(pack, names, at);
-    let h = between(pack, o.next, l);
+    let m = number(pack.bytes, at);
+    let o = number(pack.bytes, m.next);
+    let l = to_locals(pack, at);
+    let h = between(pack.bytes, o.next, l);
     let a = put_u16(out, writer, m.value);
     let b = put_byte(out, a, 1);
     let c = put_bytes(h, out, b);
     put_node_locals(
-        old, pack, names, offsets, defs, receivers, regcounts, n, k, 0, 0, 0, out, made, c,
+        old, pack, offsets, defs, receivers, regcounts, n, k, 0, 0, 0, out, made, c,
     )
 }
 
@@ -199,15 +194,7 @@ fn put_node_equations(
     ensures { (ns : List Name) → length ns ≡ drawing.now.pack.names → (eqs : ℕ → List Item) → AllWrite old.now (equations_at ns drawing.now.pack.bytes.now offsets.now machines.now) defs.now n eqs → state_of out.new made.new result ≡ render old.now (node_equations_t ns drawing.now.pack.bytes.now defs.now receivers.now regcounts.now offsets.now n eqs k own from end) (state_of out.old made.old writer) }
 {
     let o = small(own);
-    let m = added_equations(
-        drawing.pack.bytes,
-        drawing.pack.names,
-        defs,
-        receivers,
-        regcounts,
-        n,
-        k,
-    );
+    let m = added_equations(&drawing.pack, defs, receivers, regcounts, n, k);
     let h = between(drawing.pack.bytes, from, end);
     let a = put_u16(out, writer, o + m);
     let b = put_bytes(h, out, a);
@@ -244,8 +231,7 @@ fn put_old_node(
     let c = number(drawing.pack.bytes, e);
     let a = put_old_head(
         old,
-        drawing.pack.bytes,
-        drawing.pack.names,
+        &drawing.pack,
         offsets,
         defs,
         receivers,
@@ -333,8 +319,7 @@ fn put_begun(
     let rs = table_from(regcounts, f);
     let a = put_new_head(
         old,
-        drawing.pack.bytes,
-        drawing.pack.names,
+        &drawing.pack,
         offsets,
         ms,
         gs,

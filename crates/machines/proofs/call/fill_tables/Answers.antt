@@ -5,10 +5,7 @@ use Rattle.machines.proofs.MemoSoundLaws.{blank-right}
 use Rattle.machines.proofs.call.fill_tables.Goals as goal
 
 pub fill_memo-requires : goal.fill_memo-requires
-fill_memo-requires c = (c.requires.0, blank-right _ _ _ _ c.requires.2)
-
-pub place_nodes-requires : goal.place_nodes-requires
-place_nodes-requires c = c.requires.0
+fill_memo-requires c = blank-right _ _ _ _ c.requires.2
 
 pub assign_nodes-requires : goal.assign_nodes-requires
 assign_nodes-requires c = (omega (arith, c.small-n.ensures.0), omega (arith, c.small-old.ensures.0))

@@ -1,9 +1,6 @@
 use Rattle.machines.proofs.EmitMachineLaws.{equations-put}
 use Rattle.machines.proofs.emit_machine.put_equations.Goals as goal
 
-pub emit_regions-v-requires : goal.emit_regions-v-requires
-emit_regions-v-requires c = c.args.drawing.now.pack.short
-
 pub shape_of-layout : goal.shape_of-layout
 shape_of-layout c = c.layout_machine-l.auto.layout
 

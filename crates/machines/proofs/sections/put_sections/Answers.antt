@@ -7,7 +7,7 @@ pub put_nodes-b-requires : goal.put_nodes-b-requires
 put_nodes-b-requires c = (c.requires.1, long_kept _ _ _ _ _ _ c.put_enums_part-a.auto.layout c.put_enums_part-a.auto.rows c.put_enums_part-a.auto.qualified c.requires.2)
 
 pub put_origins_part-requires : goal.put_origins_part-requires
-put_origins_part-requires c = (c.requires.0, c.requires.1)
+put_origins_part-requires c = c.requires.1
 
 pub shape_of-layout : goal.shape_of-layout
 shape_of-layout c = c.put_nodes-b.auto.layout ∙ c.put_enums_part-a.auto.layout

@@ -4,7 +4,7 @@ use Rattle.machines.proofs.SpanLaws.{all_from, begun-put}
 use Rattle.machines.proofs.write_nodes.put_begun.Goals as goal
 
 pub put_new_head-a-requires : goal.put_new_head-a-requires
-put_new_head-a-requires c = (c.args.drawing.now.pack.short, omega (arith, c.span-m.ensures.0, c.requires.0))
+put_new_head-a-requires c = omega (arith, c.span-m.ensures.0, c.requires.0)
 
 pub put_node_equations-requires : goal.put_node_equations-requires
 put_node_equations-requires c = (omega (arith, c.span-m.ensures.0, c.requires.0), c.requires.1)

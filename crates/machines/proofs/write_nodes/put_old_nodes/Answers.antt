@@ -16,12 +16,6 @@ returns-then-v c = λ ns e eqs h. stays-full _ _ _ _ _ _ c.if-v.true (c.loop-k.i
 pub put_old_node-v-requires : goal.put_old_node-v-requires
 put_old_node-v-requires c = (omega (arith, asked-few _ _ _ _ c.asked-m.ensures, c.requires.0), long_kept _ _ _ _ _ _ c.loop-k.auto.layout c.loop-k.auto.rows c.loop-k.auto.qualified c.requires.1)
 
-pub to_node_equations-e-requires : goal.to_node_equations-e-requires
-to_node_equations-e-requires c = c.args.drawing.now.pack.short
-
-pub after_equations-p-requires : goal.after_equations-p-requires
-after_equations-p-requires c = c.args.drawing.now.pack.short
-
 pub loop-k-preserved : goal.loop-k-preserved
 loop-k-preserved c = (λ j l q. next-idle (goes_t _) _ _ _ _ c.next_receiver-b.ensures c.loop-k.invariant.0 j l (omega (arith, q)), λ ns e eqs h. olds-more ns _ _ _ _ _ _ eqs _ _ _ _ _ _ _ _ _ _ (one_more c.loop-k-test.true) (asked-put ns _ _ _ _ _ _ _ _ _ eqs _ _ _ _ c.asked-m.ensures (next-idle (goes_t _) _ _ _ _ c.next_receiver-b.ensures c.loop-k.invariant.0) (c.put_old_node-v.ensures ns e eqs (λ i l. h i (omega (arith, l, asked-few _ _ _ _ c.asked-m.ensures))))) (c.to_node_equations-e.ensures ns e) (c.after_equations-p.ensures ns e) (c.loop-k.invariant.1 ns e eqs h))
 
