@@ -12,9 +12,6 @@ validate_region-returns-then-levels-eq0 t c = λ ns e. region-none ns _ _ _ _ c.
 pub validate_region-loop-init : goal.validate_region-loop-init
 validate_region-loop-init t c = (λ ns e. rw all_left (rows-from _ _ _ _ _ _ c.layout_word-end.ensures c.first-p.ensures), λ ns e. rw all_left (foreseen-from ns _ _ _ _ _ _ _ _ c.layout_word-end.ensures c.first-p.ensures (c.recall_targets-v.ensures ns e)))
 
-pub validate_region-overflow_sub-levels : goal.validate_region-overflow_sub-levels
-validate_region-overflow_sub-levels t c = omega (arith, c.if-levels-eq0.false)
-
 pub validate_region-validate_state-r-requires : goal.validate_region-validate_state-r-requires
 validate_region-validate_state-r-requires t c = (omega (arith, c.if-levels-eq0.false, c.decreases), (λ ns e. foreseen-one ns _ _ _ _ _ _ (some_left c.loop-test.true) (c.loop.invariant.1 ns e)))
 

@@ -1,14 +1,11 @@
 use native.Mathlib.Omega.{arith}
 use Rattle.machines.specs.ReceivingNodes.{goes_t}
-use Rattle.machines.proofs.Remaining.{all_left, none_left, one_more}
+use Rattle.machines.proofs.Remaining.{none_left, one_more}
 use Rattle.machines.proofs.RowLaws.{stays-full}
 use Rattle.machines.proofs.ReceiverLaws.{asked-few, asked-put, next-idle}
 use Rattle.machines.proofs.EmitMachineLaws.{long_kept}
 use Rattle.machines.proofs.PartsLaws.{olds-more, olds-none}
 use Rattle.machines.proofs.write_nodes.put_old_nodes.Goals as goal
-
-pub loop-k-init : goal.loop-k-init
-loop-k-init c = (λ j l q r. omega arith, λ ns e eqs h. rw all_left)
 
 pub returns-then-v : goal.returns-then-v
 returns-then-v c = λ ns e eqs h. stays-full _ _ _ _ _ _ c.if-v.true (c.loop-k.invariant.1 ns e eqs h)
