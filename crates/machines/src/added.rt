@@ -15,7 +15,7 @@ ghost use Rattle.machines.specs.ReceivingNodes.{asked_t, goes_t, nearer_t, next_
 ghost use Rattle.wire.specs.Writer.{state_of};
 ghost use Rattle.pack.specs.Intern.{render};
 
-use crate::checked_read::number;
+use crate::checked_read::{CheckedPack, number};
 use crate::emit_region::{put_inner_locals, put_region_locals};
 use crate::layout::{between, pack_name};
 use crate::table::{entry, to_outputs};
@@ -61,33 +61,30 @@ pub fn after_ports(pack: &[u8], names: usize, at: usize) -> usize
 }
 
 // From a machine to its own locals.
-pub fn to_locals(pack: &[u8], names: usize, at: usize) -> usize
-    requires { length pack.now ≤ max_bytes }
-    ensures { (ns : List Name) → length ns ≡ names → result ≡ locals_in ns pack.now at }
+pub fn to_locals(pack: &CheckedPack, at: usize) -> usize
+    ensures { (ns : List Name) → length ns ≡ pack.now.names → result ≡ locals_in ns pack.now.bytes.now at }
 {
-    let m = number(pack, at);
-    let o = to_outputs(pack, names, m.next);
-    after_ports(pack, names, o)
+    let m = number(pack.bytes, at);
+    let o = to_outputs(pack, m.next);
+    after_ports(pack.bytes, pack.names, o)
 }
 
 // How many equations a machine makes.
-pub fn equation_count(pack: &[u8], names: usize, at: usize, regions: usize) -> usize
-    requires { length pack.now ≤ max_bytes }
-    ensures { (result < 1048576) × ((ns : List Name) → length ns ≡ names → result ≡ equation_count_t ns pack.now at regions) }
+pub fn equation_count(pack: &CheckedPack, at: usize, regions: usize) -> usize
+    ensures { (result < 1048576) × ((ns : List Name) → length ns ≡ pack.now.names → result ≡ equation_count_t ns pack.now.bytes.now at regions) }
 {
-    let m = number(pack, at);
-    let a = to_outputs(pack, names, m.next);
-    let o = number(pack, a);
+    let m = number(pack.bytes, at);
+    let a = to_outputs(pack, m.next);
+    let o = number(pack.bytes, a);
     made_count(regions, o.value)
 }
 
 // How many locals it has in the end.
-pub fn local_count(pack: &[u8], names: usize, at: usize, regions: usize) -> usize
-    requires { length pack.now ≤ max_bytes }
-    ensures { (result < 1048576) × ((ns : List Name) → length ns ≡ names → result ≡ local_count_t ns pack.now at regions) }
+pub fn local_count(pack: &CheckedPack, at: usize, regions: usize) -> usize
+    ensures { (result < 1048576) × ((ns : List Name) → length ns ≡ pack.now.names → result ≡ local_count_t ns pack.now.bytes.now at regions) }
 {
-    let a = to_locals(pack, names, at);
-    let l = number(pack, a);
+    let a = to_locals(pack, at);
+    let l = number(pack.bytes, a);
     made_count(regions, l.value)
 }
 
@@ -105,78 +102,72 @@ pub fn next_to(receivers: &[usize], n: usize, k: usize, i: usize) -> usize
 
 // How many equations the machine i brings to the node k.
 pub fn adds_equations(
-    pack: &[u8],
-    names: usize,
+    pack: &CheckedPack,
     defs: &[usize],
     receivers: &[usize],
     regcounts: &[usize],
     k: usize,
     i: usize,
 ) -> usize
-    requires { length pack.now ≤ max_bytes }
-    ensures { (result < 1048576) × ((ns : List Name) → length ns ≡ names → result ≡ adds_equations_t ns pack.now defs.now receivers.now regcounts.now k i) }
+    ensures { (result < 1048576) × ((ns : List Name) → length ns ≡ pack.now.names → result ≡ adds_equations_t ns pack.now.bytes.now defs.now receivers.now regcounts.now k i) }
 {
     if entry(receivers, i) != k {
         return 0;
     }
-    equation_count(pack, names, entry(defs, i), entry(regcounts, i))
+    equation_count(pack, entry(defs, i), entry(regcounts, i))
 }
 
 // How many locals it brings there.
 fn adds_locals(
-    pack: &[u8],
-    names: usize,
+    pack: &CheckedPack,
     defs: &[usize],
     receivers: &[usize],
     regcounts: &[usize],
     k: usize,
     i: usize,
 ) -> usize
-    requires { length pack.now ≤ max_bytes }
-    ensures { (result < 1048576) × ((ns : List Name) → length ns ≡ names → result ≡ adds_locals_t ns pack.now defs.now receivers.now regcounts.now k i) }
+    ensures { (result < 1048576) × ((ns : List Name) → length ns ≡ pack.now.names → result ≡ adds_locals_t ns pack.now.bytes.now defs.now receivers.now regcounts.now k i) }
 {
     if entry(receivers, i) != k {
         return 0;
     }
-    local_count(pack, names, entry(defs, i), entry(regcounts, i))
+    local_count(pack, entry(defs, i), entry(regcounts, i))
 }
 
 // How many equations the first n machines bring to the node k.
 pub fn added_equations(
-    pack: &[u8],
-    names: usize,
+    pack: &CheckedPack,
     defs: &[usize],
     receivers: &[usize],
     regcounts: &[usize],
     n: usize,
     k: usize,
 ) -> usize
-    requires { (length pack.now ≤ max_bytes) × (n ≤ word_range) }
-    ensures { (result ≤ 1048576 * n) × ((ns : List Name) → length ns ≡ names → result ≡ total_t (adds_equations_t ns pack.now defs.now receivers.now regcounts.now k) n 0) }
+    requires { n ≤ word_range }
+    ensures { (result ≤ 1048576 * n) × ((ns : List Name) → length ns ≡ pack.now.names → result ≡ total_t (adds_equations_t ns pack.now.bytes.now defs.now receivers.now regcounts.now k) n 0) }
 {
     let mut c = 0;
     for i in 0..n {
-        c += adds_equations(pack, names, defs, receivers, regcounts, k, i);
+        c += adds_equations(pack, defs, receivers, regcounts, k, i);
     }
     c
 }
 
 // How many locals they bring to it.
 pub fn added_locals(
-    pack: &[u8],
-    names: usize,
+    pack: &CheckedPack,
     defs: &[usize],
     receivers: &[usize],
     regcounts: &[usize],
     n: usize,
     k: usize,
 ) -> usize
-    requires { (length pack.now ≤ max_bytes) × (n ≤ word_range) }
-    ensures { (result ≤ 1048576 * n) × ((ns : List Name) → length ns ≡ names → result ≡ total_t (adds_locals_t ns pack.now defs.now receivers.now regcounts.now k) n 0) }
+    requires { n ≤ word_range }
+    ensures { (result ≤ 1048576 * n) × ((ns : List Name) → length ns ≡ pack.now.names → result ≡ total_t (adds_locals_t ns pack.now.bytes.now defs.now receivers.now regcounts.now k) n 0) }
 {
     let mut c = 0;
     for i in 0..n {
-        c += adds_locals(pack, names, defs, receivers, regcounts, k, i);
+        c += adds_locals(pack, defs, receivers, regcounts, k, i);
     }
     c
 }
@@ -280,8 +271,7 @@ pub fn table_from(layout: &[usize], f: usize) -> &[usize]
 // The locals of the machine drawn at `at`.
 fn put_locals(
     old: &[u8],
-    pack: &[u8],
-    names: usize,
+    pack: &CheckedPack,
     offsets: &[u16],
     at: usize,
     regions: usize,
@@ -289,16 +279,15 @@ fn put_locals(
     made: &mut [u8],
     writer: Writer,
 ) -> Writer
-    requires { length pack.now ≤ max_bytes }
-    ensures { (ns : List Name) → length ns ≡ names → state_of out.new made.new result ≡ render old.now (locals_t ns pack.now offsets.now at regions) (state_of out.old made.old writer) }
+    ensures { (ns : List Name) → length ns ≡ pack.now.names → state_of out.new made.new result ≡ render old.now (locals_t ns pack.now.bytes.now offsets.now at regions) (state_of out.old made.old writer) }
 {
-    let m = number(pack, at);
-    let n = pack_name(pack, offsets, m.value);
-    let a = to_locals(pack, names, at);
-    let e = after_ports(pack, names, a);
-    let l = number(pack, a);
+    let m = number(pack.bytes, at);
+    let n = pack_name(pack.bytes, offsets, m.value);
+    let a = to_locals(pack, at);
+    let e = after_ports(pack.bytes, pack.names, a);
+    let l = number(pack.bytes, a);
     let k = inner_count(regions);
-    let b = between(pack, l.next, e);
+    let b = between(pack.bytes, l.next, e);
     let x = put_bytes(b, out, writer);
     let y = put_region_locals(old, n, 0, out, made, x);
     put_inner_locals(old, n, 1, k, out, made, y)
@@ -307,8 +296,7 @@ fn put_locals(
 // The locals of the machine i, where it goes to the node k.
 fn put_added_locals(
     old: &[u8],
-    pack: &[u8],
-    names: usize,
+    pack: &CheckedPack,
     offsets: &[u16],
     defs: &[usize],
     receivers: &[usize],
@@ -319,14 +307,13 @@ fn put_added_locals(
     made: &mut [u8],
     writer: Writer,
 ) -> Writer
-    requires { length pack.now ≤ max_bytes }
-    ensures { (ns : List Name) → length ns ≡ names → state_of out.new made.new result ≡ render old.now (added_locals_t ns pack.now defs.now receivers.now regcounts.now offsets.now k i) (state_of out.old made.old writer) }
+    ensures { (ns : List Name) → length ns ≡ pack.now.names → state_of out.new made.new result ≡ render old.now (added_locals_t ns pack.now.bytes.now defs.now receivers.now regcounts.now offsets.now k i) (state_of out.old made.old writer) }
 {
     let a = entry(receivers, i);
     let m = entry(defs, i);
     let r = entry(regcounts, i);
     if a == k {
-        return put_locals(old, pack, names, offsets, m, r, out, made, writer);
+        return put_locals(old, pack, offsets, m, r, out, made, writer);
     }
     writer
 }
@@ -334,8 +321,7 @@ fn put_added_locals(
 // The locals that the first n machines bring to the node k.
 pub fn put_all_locals(
     old: &[u8],
-    pack: &[u8],
-    names: usize,
+    pack: &CheckedPack,
     offsets: &[u16],
     defs: &[usize],
     receivers: &[usize],
@@ -346,8 +332,7 @@ pub fn put_all_locals(
     made: &mut [u8],
     writer: Writer,
 ) -> Writer
-    requires { length pack.now ≤ max_bytes }
-    ensures { (ns : List Name) → length ns ≡ names → state_of out.new made.new result ≡ render old.now (each_t (added_locals_t ns pack.now defs.now receivers.now regcounts.now offsets.now k) n 0) (state_of out.old made.old writer) }
+    ensures { (ns : List Name) → length ns ≡ pack.now.names → state_of out.new made.new result ≡ render old.now (each_t (added_locals_t ns pack.now.bytes.now defs.now receivers.now regcounts.now offsets.now k) n 0) (state_of out.old made.old writer) }
 {
     let mut v = writer;
     for i in 0..n {
@@ -355,7 +340,7 @@ pub fn put_all_locals(
             return v;
         }
         v = put_added_locals(
-            old, pack, names, offsets, defs, receivers, regcounts, k, i, out, made, v,
+            old, pack, offsets, defs, receivers, regcounts, k, i, out, made, v,
         );
     }
     v

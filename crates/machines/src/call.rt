@@ -22,7 +22,8 @@ ghost use Rattle.machines.specs.CallTables.{Empty, Filled, OpenedAs, Reports, ma
 ghost use Rattle.machine_rules.specs.Call.{lower_machines, lower_package_machines};
 
 use crate::added::small;
-use crate::checked_read::number;
+use crate::checked_read::{CheckedPack, number};
+use crate::drawing::{Drawing, NameTables};
 use crate::layout::between;
 use crate::memo::fill_memo;
 use crate::owners::{assign_nodes, place_nodes, refused_count};
@@ -57,39 +58,35 @@ fn fill_tables(
     ensures value { result ≡ total_t (refused_t receivers.new) (machine_count pack.now sections) 0 }
     ensures memo_sound { MemoSound pack.now sections.names offsets.new memo.new }
 {
+    let checked = CheckedPack {
+        bytes: pack,
+        names: sections.names,
+    };
     let c = number(pack, sections.nodes);
     let m = number(pack, sections.machines);
     let old = small(c.value);
     let n = small(m.value);
     place_names(pack, sections.names, offsets);
-    fill_memo(pack, sections.names, offsets, sections.machines, memo);
-    place_machines(pack, sections.names, memo, sections.machines, machines);
+    fill_memo(&checked, offsets, sections.machines, memo);
+    let drawing = Drawing {
+        pack: checked,
+        memo,
+    };
+    place_machines(&drawing, sections.machines, machines);
     place_nodes(pack, sections.names, old, c.next, nodes);
-    judge_all(
-        pack,
-        sections.names,
+    let tables = NameTables {
+        drawing,
         offsets,
         machines,
-        memo,
-        layout,
-        rows,
-        qualified,
-        n,
-        m.next,
-        defs,
-        regcounts,
-    );
+    };
+    judge_all(&tables, layout, rows, qualified, n, m.next, defs, regcounts);
     assign_nodes(pack, defs, regcounts, n, receivers, nodes, old);
     refused_count(receivers, n)
 }
 
 // The report of the first n machines, of which so many are refused, where it fits.
 fn report_all(
-    pack: &[u8],
-    names: usize,
-    offsets: &[u16],
-    machines: &[u16],
-    memo: &[u16],
+    tables: &NameTables,
     layout: &mut [usize],
     rows: &mut [usize],
     qualified: &mut [u8],
@@ -100,19 +97,17 @@ fn report_all(
     refused: usize,
     report: &mut [u8],
 ) -> Outcome
-    requires { (length pack.now ≤ max_bytes) × Long layout.old rows.old qualified.old × (n ≤ word_range) × Reports pack.now offsets.now machines.now defs.now regcounts.now receivers.now names n × MemoSound pack.now names offsets.now memo.now }
-    ensures { (ns : List Name) → length ns ≡ names → (es : ℕ → List ℕ) → EntersAll ns pack.now offsets.now machines.now defs.now regcounts.now receivers.now n es → (output : List ℕ) → Answers (reported (length report.old) (two refused ++ bytes_t (of_refused receivers.now es) n 0)) (number_for result) (value_for result) output output report.old report.new }
+    requires { Long layout.old rows.old qualified.old × (n ≤ word_range) × Reports tables.now.drawing.pack.bytes.now tables.now.offsets.now tables.now.machines.now defs.now regcounts.now receivers.now tables.now.drawing.pack.names n }
+    ensures { (ns : List Name) → length ns ≡ tables.now.drawing.pack.names → (es : ℕ → List ℕ) → EntersAll ns tables.now.drawing.pack.bytes.now tables.now.offsets.now tables.now.machines.now defs.now regcounts.now receivers.now n es → (output : List ℕ) → Answers (reported (length report.old) (two refused ++ bytes_t (of_refused receivers.now es) n 0)) (number_for result) (value_for result) output output report.old report.new }
 {
     let b = report_len(
-        pack, names, offsets, machines, memo, layout, rows, qualified, defs, receivers, regcounts,
-        n,
+        tables, layout, rows, qualified, defs, receivers, regcounts, n,
     );
     if report.len() < b {
         return Err(CallError::ReportRoom(b));
     }
     put_report(
-        pack, names, offsets, machines, memo, layout, rows, qualified, defs, receivers, regcounts,
-        n, refused, report,
+        tables, layout, rows, qualified, defs, receivers, regcounts, n, refused, report,
     );
     Err(CallError::Refused(b))
 }
@@ -233,9 +228,18 @@ fn lower_filled(
         regcounts,
     );
     if refused != 0 {
+        let checked = CheckedPack { bytes: pack, names };
+        let drawing = Drawing {
+            pack: checked,
+            memo,
+        };
+        let tables = NameTables {
+            drawing,
+            offsets,
+            machines,
+        };
         return report_all(
-            pack, names, offsets, machines, memo, layout, rows, qualified, defs, receivers,
-            regcounts, n, refused, report,
+            &tables, layout, rows, qualified, defs, receivers, regcounts, n, refused, report,
         );
     }
     write_out_of_line(

@@ -15,6 +15,14 @@ use pack::record::Pack;
 use wire::answer::{Number, Read};
 use wire::number::{read_byte, read_u16};
 
+// The bytes of a checked pack, which are no more than the check allows, and how many names it has.
+#[derive(Clone, Copy)]
+pub struct CheckedPack<'a> {
+    pub bytes: &'a [u8],
+    pub names: usize,
+    pub ghost short: { length bytes.now ≤ max_bytes },
+}
+
 // What was read, 0 and 0 where reading stopped.
 #[tactic(auto, unfolding(crate::specs::CheckedReads::sure_of))]
 pub fn read_or_zero(r: Read) -> Number

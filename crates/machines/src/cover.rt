@@ -4,17 +4,16 @@
 //   hints   256 rows of three, at 3 * (p / 10 % 256): the state at p, the equation after the one found last, how many are left there
 //   marks   from MARKS on, at p / 10, of the output x asked last: 2 * x + 2 where the state at p gives it, 2 * x + 1 where not
 // Rows of hints are shared, and say whose they are. What is not there is looked for in the equations.
-ghost use Rattle.std.specs.Prelude.{List, ◌≡◌, ◌<◌, ◌≤◌, length, is_some, IfSome};
+ghost use Rattle.std.specs.Prelude.{List, ◌≡◌, ◌<◌, length, is_some, IfSome};
 ghost use Rattle.pack_rules.specs.Names.{Name};
-ghost use Rattle.pack_rules.specs.Limits.{max_bytes};
-ghost use Rattle.machines.specs.MemoSound.{RowsSound};
 ghost use Rattle.machines.specs.Memo.{regions_in};
 ghost use Rattle.machines.specs.CoverAt.{gives_t, miss_t, own_t, uncovered_t};
 ghost use Rattle.machines.specs.AssignsMemo.{AssignsSound, HintOf, assigns_mark, hint_put};
 
 use crate::checked_read::{first_some, number};
+use crate::drawing::Drawing;
 use crate::layout::{first, inner, layout_word};
-use crate::memo::{end_of, memo_regions};
+use crate::memo::memo_regions;
 use crate::table::entry;
 use pack::cells::{cell, put_cell};
 use wire::number::WORD_RANGE;
@@ -38,13 +37,12 @@ pub struct OnlyLeft {
 }
 
 // Whether `out` is an equation's only left name.
-fn assigns_only(pack: &[u8], names: usize, memo: &[u16], out: usize, at: usize) -> OnlyLeft
-    requires { (length pack.now ≤ max_bytes) × RowsSound pack.now names memo.now }
-    ensures { (ns : List Name) → length ns ≡ names → result ≡ gives_t ns pack.now out at }
+fn assigns_only(drawing: &Drawing, out: usize, at: usize) -> OnlyLeft
+    ensures { (ns : List Name) → length ns ≡ drawing.now.pack.names → result ≡ gives_t ns drawing.now.pack.bytes.now out at }
 {
-    let k = number(pack, at);
-    let i = number(pack, k.next);
-    let next = end_of(pack, names, memo, at);
+    let k = number(drawing.pack.bytes, at);
+    let i = number(drawing.pack.bytes, k.next);
+    let next = drawing.end_of(at);
     OnlyLeft {
         yes: k.value == 1 && i.value == out,
         next,
@@ -59,16 +57,15 @@ struct Hint {
 }
 
 // What comes after the first equation of the state at `at` that gives `out`.
-fn assigns(pack: &[u8], names: usize, memo: &[u16], out: usize, at: usize) -> Option<Hint>
-    requires { (length pack.now ≤ max_bytes) × RowsSound pack.now names memo.now }
-    ensures found { (ns : List Name) → length ns ≡ names → is_some result ≡ own_t ns pack.now out at }
-    ensures hint_of { IfSome result (λ h. HintOf pack.now names at h.left h.next) }
+fn assigns(drawing: &Drawing, out: usize, at: usize) -> Option<Hint>
+    ensures found { (ns : List Name) → length ns ≡ drawing.now.pack.names → is_some result ≡ own_t ns drawing.now.pack.bytes.now out at }
+    ensures hint_of { IfSome result (λ h. HintOf drawing.now.pack.bytes.now drawing.now.pack.names at h.left h.next) }
 {
-    let i = number(pack, at);
-    let t = number(pack, i.next);
+    let i = number(drawing.pack.bytes, at);
+    let t = number(drawing.pack.bytes, i.next);
     let mut p = t.next;
     for left in (0..t.value).rev() {
-        let e = assigns_only(pack, names, memo, out, p);
+        let e = assigns_only(drawing, out, p);
         if e.yes {
             return Some(Hint { left, next: e.next });
         }
@@ -79,34 +76,27 @@ fn assigns(pack: &[u8], names: usize, memo: &[u16], out: usize, at: usize) -> Op
 
 // The same, with the equation after the one found last tried first: outputs mostly come in the order of the equations, and a
 // state may have thousands.
-fn assigns_from_hint(
-    pack: &[u8],
-    names: usize,
-    memo: &[u16],
-    hints: &[u16],
-    out: usize,
-    at: usize,
-) -> Option<Hint>
-    requires { (length pack.now ≤ max_bytes) × RowsSound pack.now names memo.now × AssignsSound pack.now names memo.now hints.now }
-    ensures found { (ns : List Name) → length ns ≡ names → is_some result ≡ own_t ns pack.now out at }
-    ensures hint_of { IfSome result (λ h. HintOf pack.now names at h.left h.next) }
+fn assigns_from_hint(drawing: &Drawing, hints: &[u16], out: usize, at: usize) -> Option<Hint>
+    requires { AssignsSound drawing.now.pack.bytes.now drawing.now.pack.names drawing.now.memo.now hints.now }
+    ensures found { (ns : List Name) → length ns ≡ drawing.now.pack.names → is_some result ≡ own_t ns drawing.now.pack.bytes.now out at }
+    ensures hint_of { IfSome result (λ h. HintOf drawing.now.pack.bytes.now drawing.now.pack.names at h.left h.next) }
 {
     let b = 3 * (at / 10 % HINTS);
     if cell(hints, b) != at {
-        return assigns(pack, names, memo, out, at);
+        return assigns(drawing, out, at);
     }
     let n = cell(hints, b + 2);
     if n == 0 {
-        return assigns(pack, names, memo, out, at);
+        return assigns(drawing, out, at);
     }
-    let e = assigns_only(pack, names, memo, out, cell(hints, b + 1));
+    let e = assigns_only(drawing, out, cell(hints, b + 1));
     if e.yes {
         return Some(Hint {
             left: n - 1,
             next: e.next,
         });
     }
-    assigns(pack, names, memo, out, at)
+    assigns(drawing, out, at)
 }
 
 // Remembers that n equations from q on are left of the state at p, where all fits a cell. A row is the last state's that took it.
@@ -133,17 +123,10 @@ fn mark(out: usize, given: bool) -> usize
 
 // Whether an equation of the state at `at`, which is kept, gives `out`. A state that is drawn once may stand hundreds of times in
 // a resolved machine: its equations are looked at only where its cell says nothing of `out`.
-fn assigns_by_mark(
-    pack: &[u8],
-    names: usize,
-    memo: &[u16],
-    hints: &mut [u16],
-    out: usize,
-    at: usize,
-) -> bool
-    requires { (length pack.now ≤ max_bytes) × RowsSound pack.now names memo.now × AssignsSound pack.now names memo.now hints.old × (out < 32767) × (0 < regions_in memo.now at) }
-    ensures value { (ns : List Name) → length ns ≡ names → result ≡ own_t ns pack.now out at }
-    ensures assigns_sound { AssignsSound pack.now names memo.now hints.new }
+fn assigns_by_mark(drawing: &Drawing, hints: &mut [u16], out: usize, at: usize) -> bool
+    requires { AssignsSound drawing.now.pack.bytes.now drawing.now.pack.names drawing.now.memo.now hints.old × (out < 32767) × (0 < regions_in drawing.now.memo.now at) }
+    ensures value { (ns : List Name) → length ns ≡ drawing.now.pack.names → result ≡ own_t ns drawing.now.pack.bytes.now out at }
+    ensures assigns_sound { AssignsSound drawing.now.pack.bytes.now drawing.now.pack.names drawing.now.memo.now hints.new }
 {
     let b = MARKS + at / 10;
     let c = cell(hints, b);
@@ -153,7 +136,7 @@ fn assigns_by_mark(
     if c == mark(out, true) {
         return true;
     }
-    let r = assigns_from_hint(pack, names, memo, hints, out, at);
+    let r = assigns_from_hint(drawing, hints, out, at);
     put_cell(hints, b, mark(out, r.is_some()));
     match r {
         Some(h) => {
@@ -165,42 +148,33 @@ fn assigns_by_mark(
 }
 
 // The same of any state. One that is not kept has no cell of its own, and the mark of a larger index fits no cell.
-pub fn assigns_with_memo(
-    pack: &[u8],
-    names: usize,
-    memo: &[u16],
-    hints: &mut [u16],
-    out: usize,
-    at: usize,
-) -> bool
-    requires { (length pack.now ≤ max_bytes) × RowsSound pack.now names memo.now × AssignsSound pack.now names memo.now hints.old }
-    ensures value { (ns : List Name) → length ns ≡ names → result ≡ own_t ns pack.now out at }
-    ensures assigns_sound { AssignsSound pack.now names memo.now hints.new }
+pub fn assigns_with_memo(drawing: &Drawing, hints: &mut [u16], out: usize, at: usize) -> bool
+    requires { AssignsSound drawing.now.pack.bytes.now drawing.now.pack.names drawing.now.memo.now hints.old }
+    ensures value { (ns : List Name) → length ns ≡ drawing.now.pack.names → result ≡ own_t ns drawing.now.pack.bytes.now out at }
+    ensures assigns_sound { AssignsSound drawing.now.pack.bytes.now drawing.now.pack.names drawing.now.memo.now hints.new }
 {
-    if 32767 <= out || memo_regions(memo, at) == 0 {
-        return assigns(pack, names, memo, out, at).is_some();
+    if 32767 <= out || memo_regions(drawing.memo, at) == 0 {
+        return assigns(drawing, out, at).is_some();
     }
-    assigns_by_mark(pack, names, memo, hints, out, at)
+    assigns_by_mark(drawing, hints, out, at)
 }
 
 // 0 where the state at the word p gives `out`, by an equation or by a region; else the word of a state that does not:
 // its first region's, or its own where it has none.
 #[cycle(require_cover_region_require_cover_state)]
 fn require_cover_state(
-    pack: &[u8],
-    names: usize,
-    memo: &[u16],
+    drawing: &Drawing,
     layout: &[usize],
     hints: &mut [u16],
     out: usize,
     levels: usize,
     p: usize,
 ) -> usize
-    requires { (length pack.now ≤ max_bytes) × RowsSound pack.now names memo.now × AssignsSound pack.now names memo.now hints.old }
-    ensures value { (ns : List Name) → length ns ≡ names → result ≡ miss_t ns pack.now layout.now out (uncovered_t ns pack.now layout.now out levels) p }
-    ensures assigns_sound { AssignsSound pack.now names memo.now hints.new }
+    requires { AssignsSound drawing.now.pack.bytes.now drawing.now.pack.names drawing.now.memo.now hints.old }
+    ensures value { (ns : List Name) → length ns ≡ drawing.now.pack.names → result ≡ miss_t ns drawing.now.pack.bytes.now layout.now out (uncovered_t ns drawing.now.pack.bytes.now layout.now out levels) p }
+    ensures assigns_sound { AssignsSound drawing.now.pack.bytes.now drawing.now.pack.names drawing.now.memo.now hints.new }
 {
-    if assigns_with_memo(pack, names, memo, hints, out, entry(layout, p)) {
+    if assigns_with_memo(drawing, hints, out, entry(layout, p)) {
         return 0;
     }
     let n = layout_word(layout, p, 5);
@@ -210,7 +184,7 @@ fn require_cover_state(
     let mut g = inner(layout, p);
     let mut miss = 0;
     for _ in 0..n {
-        let m = require_cover_region(pack, names, memo, layout, hints, out, levels, g);
+        let m = require_cover_region(drawing, layout, hints, out, levels, g);
         if m == 0 {
             return 0;
         }
@@ -223,25 +197,23 @@ fn require_cover_state(
 // 0 where each state of the region at the word q gives `out`; else the word of a state that does not.
 #[cycle(require_cover_region_require_cover_state)]
 pub fn require_cover_region(
-    pack: &[u8],
-    names: usize,
-    memo: &[u16],
+    drawing: &Drawing,
     layout: &[usize],
     hints: &mut [u16],
     out: usize,
     levels: usize,
     q: usize,
 ) -> usize
-    requires { (length pack.now ≤ max_bytes) × RowsSound pack.now names memo.now × AssignsSound pack.now names memo.now hints.old }
-    ensures value { (ns : List Name) → length ns ≡ names → result ≡ uncovered_t ns pack.now layout.now out levels q }
-    ensures assigns_sound { AssignsSound pack.now names memo.now hints.new }
+    requires { AssignsSound drawing.now.pack.bytes.now drawing.now.pack.names drawing.now.memo.now hints.old }
+    ensures value { (ns : List Name) → length ns ≡ drawing.now.pack.names → result ≡ uncovered_t ns drawing.now.pack.bytes.now layout.now out levels q }
+    ensures assigns_sound { AssignsSound drawing.now.pack.bytes.now drawing.now.pack.names drawing.now.memo.now hints.new }
 {
     if levels == 0 {
         return 0;
     }
     let mut p = first(layout, q);
     for _ in 0..layout_word(layout, q, 6) {
-        let m = require_cover_state(pack, names, memo, layout, hints, out, levels - 1, p);
+        let m = require_cover_state(drawing, layout, hints, out, levels - 1, p);
         if m != 0 {
             return m;
         }

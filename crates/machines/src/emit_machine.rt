@@ -1,16 +1,15 @@
 // What is written of machines that are laid out again: their equations, their enums. Tables between two of them may hold anything.
-ghost use Rattle.std.specs.Prelude.{List, ◌≡◌, ℕ, ◌≤◌, length};
+ghost use Rattle.std.specs.Prelude.{List, ◌≡◌, ℕ, length};
 ghost use Rattle.wire.specs.Writer.{state_of};
 ghost use Rattle.pack_rules.specs.Names.{Name};
 ghost use Rattle.pack_rules.specs.Write.{Item};
 ghost use Rattle.pack.specs.Intern.{render};
-ghost use Rattle.pack_rules.specs.Limits.{max_bytes};
-ghost use Rattle.machines.specs.MemoSound.{RowsSound};
 ghost use Rattle.machines.specs.AddedAt.{each_t};
 ghost use Rattle.machines.specs.EmitMachineAt.{AllWrite, Long, added_at, enums_at, equations_at};
 ghost use Rattle.machines.specs.WriteNodesAt.{added_equations_t};
 
 use crate::checked_read::number;
+use crate::drawing::Drawing;
 use crate::emit_region::{emit_regions, put_enums};
 use crate::layout::{layout_machine, pack_name};
 use crate::table::{entry, to_initial, to_outputs};
@@ -20,11 +19,9 @@ use wire::writer::Writer;
 // The equations of the machine drawn at `at`: of its regions, then of its outputs.
 fn put_equations(
     old: &[u8],
-    pack: &[u8],
-    names: usize,
+    drawing: &Drawing,
     offsets: &[u16],
     machines: &[u16],
-    memo: &[u16],
     layout: &mut [usize],
     rows: &mut [usize],
     qualified: &mut [u8],
@@ -33,29 +30,33 @@ fn put_equations(
     made: &mut [u8],
     writer: Writer,
 ) -> Writer
-    requires { (length pack.now ≤ max_bytes) × RowsSound pack.now names memo.now }
-    ensures { (ns : List Name) → length ns ≡ names → state_of out.new made.new result ≡ render old.now (equations_at ns pack.now offsets.now machines.now at layout.old rows.old qualified.old) (state_of out.old made.old writer) }
+    ensures { (ns : List Name) → length ns ≡ drawing.now.pack.names → state_of out.new made.new result ≡ render old.now (equations_at ns drawing.now.pack.bytes.now offsets.now machines.now at layout.old rows.old qualified.old) (state_of out.old made.old writer) }
 {
-    let m = number(pack, at);
-    let i = to_initial(pack, names, m.next);
-    let l = layout_machine(
-        pack, names, offsets, machines, memo, layout, rows, qualified, i,
-    );
-    let o = to_outputs(pack, names, m.next);
+    let m = number(drawing.pack.bytes, at);
+    let i = to_initial(&drawing.pack, m.next);
+    let l = layout_machine(drawing, offsets, machines, layout, rows, qualified, i);
+    let o = to_outputs(&drawing.pack, m.next);
     let v = emit_regions(
-        old, pack, names, offsets, layout, rows, qualified, l.regions, out, made, writer,
+        old,
+        &drawing.pack,
+        offsets,
+        layout,
+        rows,
+        qualified,
+        l.regions,
+        out,
+        made,
+        writer,
     );
-    put_outputs(old, pack, names, memo, layout, qualified, o, out, made, v)
+    put_outputs(old, drawing, layout, qualified, o, out, made, v)
 }
 
 // Its enums.
 fn put_machine_enums(
     old: &[u8],
-    pack: &[u8],
-    names: usize,
+    drawing: &Drawing,
     offsets: &[u16],
     machines: &[u16],
-    memo: &[u16],
     layout: &mut [usize],
     rows: &mut [usize],
     qualified: &mut [u8],
@@ -64,15 +65,12 @@ fn put_machine_enums(
     made: &mut [u8],
     writer: Writer,
 ) -> Writer
-    requires { (length pack.now ≤ max_bytes) × RowsSound pack.now names memo.now }
-    ensures { (ns : List Name) → length ns ≡ names → state_of out.new made.new result ≡ render old.now (enums_at ns pack.now offsets.now machines.now at layout.old rows.old qualified.old) (state_of out.old made.old writer) }
+    ensures { (ns : List Name) → length ns ≡ drawing.now.pack.names → state_of out.new made.new result ≡ render old.now (enums_at ns drawing.now.pack.bytes.now offsets.now machines.now at layout.old rows.old qualified.old) (state_of out.old made.old writer) }
 {
-    let m = number(pack, at);
-    let i = to_initial(pack, names, m.next);
-    let l = layout_machine(
-        pack, names, offsets, machines, memo, layout, rows, qualified, i,
-    );
-    let n = pack_name(pack, offsets, m.value);
+    let m = number(drawing.pack.bytes, at);
+    let i = to_initial(&drawing.pack, m.next);
+    let l = layout_machine(drawing, offsets, machines, layout, rows, qualified, i);
+    let n = pack_name(drawing.pack.bytes, offsets, m.value);
     put_enums(
         old, n, layout, rows, qualified, l.regions, out, made, writer,
     )
@@ -81,11 +79,9 @@ fn put_machine_enums(
 // The equations of the machine i, where it goes to the node k.
 fn put_added_equations(
     old: &[u8],
-    pack: &[u8],
-    names: usize,
+    drawing: &Drawing,
     offsets: &[u16],
     machines: &[u16],
-    memo: &[u16],
     layout: &mut [usize],
     rows: &mut [usize],
     qualified: &mut [u8],
@@ -97,15 +93,13 @@ fn put_added_equations(
     made: &mut [u8],
     writer: Writer,
 ) -> Writer
-    requires { (length pack.now ≤ max_bytes) × RowsSound pack.now names memo.now }
-    ensures { (ns : List Name) → length ns ≡ names → state_of out.new made.new result ≡ render old.now (added_at ns pack.now offsets.now machines.now defs.now receivers.now k i layout.old rows.old qualified.old) (state_of out.old made.old writer) }
+    ensures { (ns : List Name) → length ns ≡ drawing.now.pack.names → state_of out.new made.new result ≡ render old.now (added_at ns drawing.now.pack.bytes.now offsets.now machines.now defs.now receivers.now k i layout.old rows.old qualified.old) (state_of out.old made.old writer) }
 {
     let a = entry(receivers, i);
     let m = entry(defs, i);
     if a == k {
         return put_equations(
-            old, pack, names, offsets, machines, memo, layout, rows, qualified, m, out, made,
-            writer,
+            old, drawing, offsets, machines, layout, rows, qualified, m, out, made, writer,
         );
     }
     writer
@@ -114,11 +108,9 @@ fn put_added_equations(
 // The equations that the first n machines bring to the node k.
 pub fn put_all_equations(
     old: &[u8],
-    pack: &[u8],
-    names: usize,
+    drawing: &Drawing,
     offsets: &[u16],
     machines: &[u16],
-    memo: &[u16],
     layout: &mut [usize],
     rows: &mut [usize],
     qualified: &mut [u8],
@@ -130,8 +122,8 @@ pub fn put_all_equations(
     made: &mut [u8],
     writer: Writer,
 ) -> Writer
-    requires { (length pack.now ≤ max_bytes) × Long layout.old rows.old qualified.old × RowsSound pack.now names memo.now }
-    ensures { (ns : List Name) → length ns ≡ names → (eqs : ℕ → List Item) → AllWrite old.now (equations_at ns pack.now offsets.now machines.now) defs.now n eqs → state_of out.new made.new result ≡ render old.now (each_t (added_equations_t receivers.now eqs k) n 0) (state_of out.old made.old writer) }
+    requires { Long layout.old rows.old qualified.old }
+    ensures { (ns : List Name) → length ns ≡ drawing.now.pack.names → (eqs : ℕ → List Item) → AllWrite old.now (equations_at ns drawing.now.pack.bytes.now offsets.now machines.now) defs.now n eqs → state_of out.new made.new result ≡ render old.now (each_t (added_equations_t receivers.now eqs k) n 0) (state_of out.old made.old writer) }
 {
     let mut v = writer;
     for i in 0..n {
@@ -139,8 +131,8 @@ pub fn put_all_equations(
             return v;
         }
         v = put_added_equations(
-            old, pack, names, offsets, machines, memo, layout, rows, qualified, defs, receivers, k,
-            i, out, made, v,
+            old, drawing, offsets, machines, layout, rows, qualified, defs, receivers, k, i, out,
+            made, v,
         );
     }
     v
@@ -149,11 +141,9 @@ pub fn put_all_equations(
 // The enums of the first n machines.
 pub fn put_all_enums(
     old: &[u8],
-    pack: &[u8],
-    names: usize,
+    drawing: &Drawing,
     offsets: &[u16],
     machines: &[u16],
-    memo: &[u16],
     layout: &mut [usize],
     rows: &mut [usize],
     qualified: &mut [u8],
@@ -163,8 +153,8 @@ pub fn put_all_enums(
     made: &mut [u8],
     writer: Writer,
 ) -> Writer
-    requires { (length pack.now ≤ max_bytes) × Long layout.old rows.old qualified.old × RowsSound pack.now names memo.now }
-    ensures { (ns : List Name) → length ns ≡ names → (ens : ℕ → List Item) → AllWrite old.now (enums_at ns pack.now offsets.now machines.now) defs.now n ens → state_of out.new made.new result ≡ render old.now (each_t ens n 0) (state_of out.old made.old writer) }
+    requires { Long layout.old rows.old qualified.old }
+    ensures { (ns : List Name) → length ns ≡ drawing.now.pack.names → (ens : ℕ → List Item) → AllWrite old.now (enums_at ns drawing.now.pack.bytes.now offsets.now machines.now) defs.now n ens → state_of out.new made.new result ≡ render old.now (each_t ens n 0) (state_of out.old made.old writer) }
 {
     let mut v = writer;
     for i in 0..n {
@@ -173,7 +163,7 @@ pub fn put_all_enums(
         }
         let m = entry(defs, i);
         v = put_machine_enums(
-            old, pack, names, offsets, machines, memo, layout, rows, qualified, m, out, made, v,
+            old, drawing, offsets, machines, layout, rows, qualified, m, out, made, v,
         );
     }
     v

@@ -5,7 +5,7 @@
 //   equations   active: the region above is, and is in the state that holds this one; the top region has none
 //               state: the initial one at first, and on entering where there is no history; else what was chosen a cycle ago
 //               next state: by the transitions (`next_state_chain`); a region that is not active stays
-ghost use Rattle.std.specs.Prelude.{◌≡◌, List, [], ◌∷◌, ◌+◌, ◌<◌, ◌≤◌, length};
+ghost use Rattle.std.specs.Prelude.{◌≡◌, List, [], ◌∷◌, ◌+◌, ◌<◌, length};
 ghost use Rattle.wire.specs.Writer.{state_of};
 ghost use Rattle.pack_rules.specs.Syntax.{e_var};
 ghost use Rattle.pack_rules.specs.Write.{each, equation_items, expr_items, list, name_items, port_items};
@@ -17,8 +17,8 @@ ghost use Rattle.machines.specs.Equations.{active_equation, state_equation};
 ghost use Rattle.machines.specs.EmitAt.{active_t, enum_t, enums_t, letters_at, next_rhs_t, next_t, region_t, regions_t, state_t, variants_t};
 ghost use Rattle.machines.specs.Locals.{active_port, inner_locals, state_port};
 ghost use Rattle.pack_rules.specs.Names.{Name};
-ghost use Rattle.pack_rules.specs.Limits.{max_bytes};
 
+use crate::checked_read::CheckedPack;
 use crate::layout::{first, layout_word, letters};
 use crate::made_names::{Var, put_enum_name, put_qualified, put_var};
 use crate::next_state_chain::build_next_state_chain;
@@ -400,8 +400,7 @@ fn put_state(
 // What the next state of the region at the word q is: an inner region that is not active stays.
 fn put_next_rhs(
     old: &[u8],
-    pack: &[u8],
-    names: usize,
+    pack: &CheckedPack,
     offsets: &[u16],
     layout: &[usize],
     qualified: &[u8],
@@ -410,28 +409,22 @@ fn put_next_rhs(
     made: &mut [u8],
     writer: Writer,
 ) -> Writer
-    requires { length pack.now ≤ max_bytes }
-    ensures { (ns : List Name) → length ns ≡ names → state_of out.new made.new result ≡ render old.now (next_rhs_t pack.now offsets.now layout.now qualified.now ns q) (state_of out.old made.old writer) }
+    ensures { (ns : List Name) → length ns ≡ pack.now.names → state_of out.new made.new result ≡ render old.now (next_rhs_t pack.now.bytes.now offsets.now layout.now qualified.now ns q) (state_of out.old made.old writer) }
 {
     let id = layout_word(layout, q, 5);
     if id == 0 {
-        return build_next_state_chain(
-            old, pack, names, offsets, layout, qualified, q, out, made, writer,
-        );
+        return build_next_state_chain(old, pack, offsets, layout, qualified, q, out, made, writer);
     }
     let a = put_byte(out, writer, 4);
     let b = put_variable(old, Var::Active, id, out, made, a);
-    let c = build_next_state_chain(
-        old, pack, names, offsets, layout, qualified, q, out, made, b,
-    );
+    let c = build_next_state_chain(old, pack, offsets, layout, qualified, q, out, made, b);
     put_variable(old, Var::State, id, out, made, c)
 }
 
 // The next state of the region at the word q.
 pub fn put_next_equation(
     old: &[u8],
-    pack: &[u8],
-    names: usize,
+    pack: &CheckedPack,
     offsets: &[u16],
     layout: &[usize],
     qualified: &[u8],
@@ -440,21 +433,17 @@ pub fn put_next_equation(
     made: &mut [u8],
     writer: Writer,
 ) -> Writer
-    requires { length pack.now ≤ max_bytes }
-    ensures { (ns : List Name) → length ns ≡ names → state_of out.new made.new result ≡ render old.now (next_t pack.now offsets.now layout.now qualified.now ns q) (state_of out.old made.old writer) }
+    ensures { (ns : List Name) → length ns ≡ pack.now.names → state_of out.new made.new result ≡ render old.now (next_t pack.now.bytes.now offsets.now layout.now qualified.now ns q) (state_of out.old made.old writer) }
 {
     let id = layout_word(layout, q, 5);
     let a = put_left(old, Var::Next, id, out, made, writer);
-    put_next_rhs(
-        old, pack, names, offsets, layout, qualified, q, out, made, a,
-    )
+    put_next_rhs(old, pack, offsets, layout, qualified, q, out, made, a)
 }
 
 // All equations of the region at the word q.
 pub fn emit_region(
     old: &[u8],
-    pack: &[u8],
-    names: usize,
+    pack: &CheckedPack,
     offsets: &[u16],
     layout: &[usize],
     qualified: &[u8],
@@ -463,21 +452,17 @@ pub fn emit_region(
     made: &mut [u8],
     writer: Writer,
 ) -> Writer
-    requires { length pack.now ≤ max_bytes }
-    ensures { (ns : List Name) → length ns ≡ names → state_of out.new made.new result ≡ render old.now (region_t pack.now offsets.now layout.now qualified.now ns q) (state_of out.old made.old writer) }
+    ensures { (ns : List Name) → length ns ≡ pack.now.names → state_of out.new made.new result ≡ render old.now (region_t pack.now.bytes.now offsets.now layout.now qualified.now ns q) (state_of out.old made.old writer) }
 {
     let a = put_active(old, layout, qualified, q, out, made, writer);
-    let b = put_state(old, pack, offsets, layout, qualified, q, out, made, a);
-    put_next_equation(
-        old, pack, names, offsets, layout, qualified, q, out, made, b,
-    )
+    let b = put_state(old, pack.bytes, offsets, layout, qualified, q, out, made, a);
+    put_next_equation(old, pack, offsets, layout, qualified, q, out, made, b)
 }
 
 // The equations of the regions 0 to n - 1.
 pub fn emit_regions(
     old: &[u8],
-    pack: &[u8],
-    names: usize,
+    pack: &CheckedPack,
     offsets: &[u16],
     layout: &[usize],
     rows: &[usize],
@@ -487,8 +472,7 @@ pub fn emit_regions(
     made: &mut [u8],
     writer: Writer,
 ) -> Writer
-    requires { length pack.now ≤ max_bytes }
-    ensures { (ns : List Name) → length ns ≡ names → state_of out.new made.new result ≡ render old.now (regions_t pack.now offsets.now layout.now qualified.now ns rows.now 0 n) (state_of out.old made.old writer) }
+    ensures { (ns : List Name) → length ns ≡ pack.now.names → state_of out.new made.new result ≡ render old.now (regions_t pack.now.bytes.now offsets.now layout.now qualified.now ns rows.now 0 n) (state_of out.old made.old writer) }
 {
     let mut v = writer;
     for i in 0..n {
@@ -496,9 +480,7 @@ pub fn emit_regions(
             return v;
         }
         let q = entry(rows, i);
-        v = emit_region(
-            old, pack, names, offsets, layout, qualified, q, out, made, v,
-        );
+        v = emit_region(old, pack, offsets, layout, qualified, q, out, made, v);
     }
     v
 }

@@ -11,14 +11,12 @@ ghost use Rattle.machines.specs.LayoutAt.{board, close_state, entered_of, fits_a
 ghost use Rattle.std.proofs.lemmas.List.Edits.{sets};
 ghost use Rattle.machines.specs.Tables.{len_of};
 ghost use Rattle.pack_rules.specs.Names.{Name};
-ghost use Rattle.pack_rules.specs.Limits.{max_bytes};
 ghost use Rattle.machines.specs.EmptyRegions.{AtOnce};
-ghost use Rattle.machines.specs.MemoSound.{RowsSound};
 ghost use Rattle.machines.specs.Layout.{holed, slice_of};
 ghost use Rattle.machines.specs.EmitAt.{letters_at, pack_name};
 
 use crate::checked_read::{number, read_or_zero};
-use crate::memo::inside_of;
+use crate::drawing::Drawing;
 use crate::resolve::{open_regions, run_length};
 use crate::table::{name_len, put};
 use pack::cells::{byte_at, cell, set_byte};
@@ -259,23 +257,28 @@ fn count_region(k: usize, w: usize, v: usize) -> usize
 
 // The words and the name of the state at c.next.
 fn open_state(
-    pack: &[u8],
-    names: usize,
+    drawing: &Drawing,
     offsets: &[u16],
-    memo: &[u16],
     layout: &mut [usize],
     qualified: &mut [u8],
     a: usize,
     m: usize,
     c: LayoutPos,
 ) -> Entered
-    requires { (length pack.now ≤ max_bytes) × RowsSound pack.now names memo.now }
-    ensures { (ns : List Name) → length ns ≡ names → ((reg : List ℕ) → (result ≡ entered_of ns pack.now offsets.now a m (board layout.old reg qualified.old c)) × (board layout.new reg qualified.new (laid result.next result.words c.regions result.letters c.hole) ≡ open_state ns pack.now offsets.now a m (board layout.old reg qualified.old c))) }
+    ensures { (ns : List Name) → length ns ≡ drawing.now.pack.names → ((reg : List ℕ) → (result ≡ entered_of ns drawing.now.pack.bytes.now offsets.now a m (board layout.old reg qualified.old c)) × (board layout.new reg qualified.new (laid result.next result.words c.regions result.letters c.hole) ≡ open_state ns drawing.now.pack.bytes.now offsets.now a m (board layout.old reg qualified.old c))) }
 {
-    let i = number(pack, c.next);
-    let w = qualify(pack, offsets, i.value, a, m, qualified, c.letters);
+    let i = number(drawing.pack.bytes, c.next);
+    let w = qualify(
+        drawing.pack.bytes,
+        offsets,
+        i.value,
+        a,
+        m,
+        qualified,
+        c.letters,
+    );
     let l = saturating_add(c.letters, 1);
-    let d = inside_of(pack, names, memo, c.next);
+    let d = drawing.inside_of(c.next);
     put_state_row(layout, c.words, c.next, d.moves, l, w);
     let n = d.regions;
     Entered {
@@ -345,11 +348,9 @@ fn skip_empty_regions(memo: &[u16], levels: usize, hole: bool, n: usize, at: usi
 // The state at c.next in the region `up`, its regions and its refinement. Its name's prefix is m letters from a on.
 #[cycle(layout_region_layout_state)]
 fn layout_state(
-    pack: &[u8],
-    names: usize,
+    drawing: &Drawing,
     offsets: &[u16],
     machines: &[u16],
-    memo: &[u16],
     layout: &mut [usize],
     rows: &mut [usize],
     qualified: &mut [u8],
@@ -359,10 +360,9 @@ fn layout_state(
     m: usize,
     c: LayoutPos,
 ) -> LayoutPos
-    requires { (length pack.now ≤ max_bytes) × RowsSound pack.now names memo.now }
-    ensures { (ns : List Name) → length ns ≡ names → board layout.new rows.new qualified.new result ≡ layout_state ns pack.now offsets.now machines.now (layout_region ns pack.now offsets.now machines.now levels) up a m (board layout.old rows.old qualified.old c) }
+    ensures { (ns : List Name) → length ns ≡ drawing.now.pack.names → board layout.new rows.new qualified.new result ≡ layout_state ns drawing.now.pack.bytes.now offsets.now machines.now (layout_region ns drawing.now.pack.bytes.now offsets.now machines.now levels) up a m (board layout.old rows.old qualified.old c) }
 {
-    let b = open_state(pack, names, offsets, memo, layout, qualified, a, m, c);
+    let b = open_state(drawing, offsets, layout, qualified, a, m, c);
     let mut n = b.regions;
     let mut k = 0;
     let mut e = LayoutPos {
@@ -373,24 +373,23 @@ fn layout_state(
         hole: c.hole,
     };
     while 0 < n {
-        let j = skip_empty_regions(memo, levels, e.hole, n, e.next);
-        let h = open_regions(pack, j, e.next);
+        let j = skip_empty_regions(drawing.memo, levels, e.hole, n, e.next);
+        let h = open_regions(drawing.pack.bytes, j, e.next);
         let d = layout_region(
-            pack, names, offsets, machines, memo, layout, rows, qualified, levels, c.words, up, a,
-            m, h, e,
+            drawing, offsets, machines, layout, rows, qualified, levels, c.words, up, a, m, h, e,
         );
         k = count_region(k, e.words, d.words);
         n -= j;
         e = d;
     }
-    let f = number(pack, e.next);
+    let f = number(drawing.pack.bytes, e.next);
     if f.value == Pack::ABSENT {
         return close_state(layout, c.words, k, f.next, e);
     }
-    let h = machine_head(pack, 0, cell(machines, f.value));
+    let h = machine_head(drawing.pack.bytes, 0, cell(machines, f.value));
     let d = layout_region(
-        pack, names, offsets, machines, memo, layout, rows, qualified, levels, c.words, up,
-        b.letter, b.length, h, e,
+        drawing, offsets, machines, layout, rows, qualified, levels, c.words, up, b.letter,
+        b.length, h, e,
     );
     close_state(
         layout,
@@ -405,11 +404,9 @@ fn layout_state(
 // they can be many thousands.
 #[cycle(layout_region_layout_state)]
 fn layout_region(
-    pack: &[u8],
-    names: usize,
+    drawing: &Drawing,
     offsets: &[u16],
     machines: &[u16],
-    memo: &[u16],
     layout: &mut [usize],
     rows: &mut [usize],
     qualified: &mut [u8],
@@ -421,8 +418,7 @@ fn layout_region(
     h: RegionHead,
     c: LayoutPos,
 ) -> LayoutPos
-    requires { (length pack.now ≤ max_bytes) × RowsSound pack.now names memo.now }
-    ensures { (ns : List Name) → length ns ≡ names → board layout.new rows.new qualified.new result ≡ layout_region ns pack.now offsets.now machines.now levels st up a m h (board layout.old rows.old qualified.old c) }
+    ensures { (ns : List Name) → length ns ≡ drawing.now.pack.names → board layout.new rows.new qualified.new result ≡ layout_region ns drawing.now.pack.bytes.now offsets.now machines.now levels st up a m h (board layout.old rows.old qualified.old c) }
 {
     if levels == 0 {
         return at_offset(c, 0);
@@ -433,11 +429,9 @@ fn layout_region(
     let mut e = open_region(layout, rows, st, up, a, m, h, c);
     for _ in 0..h.states {
         e = layout_state(
-            pack,
-            names,
+            drawing,
             offsets,
             machines,
-            memo,
             layout,
             rows,
             qualified,
@@ -454,18 +448,15 @@ fn layout_region(
 
 // The machine whose initial state stands at `at`, from the tables' first entries on.
 pub fn layout_machine(
-    pack: &[u8],
-    names: usize,
+    drawing: &Drawing,
     offsets: &[u16],
     machines: &[u16],
-    memo: &[u16],
     layout: &mut [usize],
     rows: &mut [usize],
     qualified: &mut [u8],
     at: usize,
 ) -> LayoutPos
-    requires { (length pack.now ≤ max_bytes) × RowsSound pack.now names memo.now }
-    ensures { (ns : List Name) → length ns ≡ names → board layout.new rows.new qualified.new result ≡ layout_machine ns pack.now offsets.now machines.now at layout.old rows.old qualified.old }
+    ensures { (ns : List Name) → length ns ≡ drawing.now.pack.names → board layout.new rows.new qualified.new result ≡ layout_machine ns drawing.now.pack.bytes.now offsets.now machines.now at layout.old rows.old qualified.old }
 {
     let c = LayoutPos {
         next: 0,
@@ -474,13 +465,11 @@ pub fn layout_machine(
         letters: 0,
         hole: false,
     };
-    let h = machine_head(pack, 1, at);
+    let h = machine_head(drawing.pack.bytes, 1, at);
     layout_region(
-        pack,
-        names,
+        drawing,
         offsets,
         machines,
-        memo,
         layout,
         rows,
         qualified,

@@ -3,6 +3,7 @@
 
 pub mod checked_read; // total readers on a checked pack
 pub mod table; // names and machines by name index
+pub mod drawing; // a pack with what is kept of what was read of it
 pub mod memo; // what is read once of equations, guards, regions and states
 pub mod resolve; // resolving, which counts states and makes no tree
 pub mod layout; // a resolved machine in three tables

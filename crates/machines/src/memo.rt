@@ -12,17 +12,15 @@ ghost use Rattle.machines.specs.Memo.{beside_in, kept_in, longest_in, moves_in, 
 ghost use Rattle.wire.specs.Answer.{Answer, below, counted, many};
 ghost use Rattle.wire.specs.Code.{onward};
 ghost use Rattle.pack_rules.specs.Names.{Name};
-ghost use Rattle.pack_rules.specs.Read.{OneRegion, equation_in, expr_in, name_in, region_at, state_at, state_with, transition_in};
-ghost use Rattle.pack_rules.specs.Limits.{max_bytes, max_level};
+ghost use Rattle.pack_rules.specs.Read.{OneRegion, equation_in, name_in, region_at, state_with, transition_in};
+ghost use Rattle.pack_rules.specs.Limits.{max_level};
 ghost use Rattle.machines.specs.ResolvedIn.{end_of, over_in};
-ghost use Rattle.machines.specs.LayoutAt.{moves_at, regions_at};
-ghost use Rattle.machines.specs.MemoSound.{MemoSound, RowsSound};
+ghost use Rattle.machines.specs.MemoSound.{MemoSound};
 ghost use Rattle.machines.specs.UnknownTargets.{IsDrawn, drawn_state, target_d, unknown_target_d};
 ghost use Rattle.machines.specs.StateHeads.{head_of};
 
-use crate::checked_read::{
-    after_equation, after_equations, after_expr, after_state, after_transitions, machine, number,
-};
+use crate::checked_read::{CheckedPack, after_equation, machine, number};
+use crate::drawing::Drawing;
 use crate::resolve::{empty_run_from, read_state_head};
 use crate::table::to_initial;
 use pack::cells::{cell, put_cell};
@@ -142,97 +140,6 @@ pub fn memo_put_state(memo: &mut [u16], p: usize, l: usize, m: usize, o: usize, 
     put_cell(memo, b + 4, r);
 }
 
-// --- Looked up where it is kept, and read where it is not: where an equation and a guard end, where a state's transitions and its
-// regions are, and where it ends, alone or with those after it.
-
-// Of a state: where its transitions begin; how many regions it has, and where they are.
-#[derive(Clone, Copy)]
-pub struct Inside {
-    pub moves: usize,
-    pub regions: Number,
-}
-
-// Past the equation at `at`.
-pub fn end_of(pack: &[u8], names: usize, memo: &[u16], at: usize) -> usize
-    requires { (length pack.now ≤ max_bytes) × RowsSound pack.now names memo.now }
-    ensures { (ns : List Name) → length ns ≡ names → result ≡ end_of (equation_in ns pack.now at) }
-{
-    let e = memo_at(memo, at, EQUATION);
-    if 0 < e {
-        return e;
-    }
-    after_equation(pack, names, at)
-}
-
-// Past the guard at `at`.
-pub fn guard_end(pack: &[u8], names: usize, memo: &[u16], at: usize) -> usize
-    requires { (length pack.now ≤ max_bytes) × RowsSound pack.now names memo.now }
-    ensures { (ns : List Name) → length ns ≡ names → result ≡ end_of (expr_in ns pack.now at) }
-{
-    let e = memo_at(memo, at, GUARD);
-    if 0 < e {
-        return e;
-    }
-    after_expr(pack, names, at)
-}
-
-// Where the transitions of the state at `at` begin.
-pub fn moves_of(pack: &[u8], names: usize, memo: &[u16], at: usize) -> usize
-    requires { (length pack.now ≤ max_bytes) × RowsSound pack.now names memo.now }
-    ensures { (ns : List Name) → length ns ≡ names → result ≡ moves_at ns pack.now at }
-{
-    let r = memo_regions(memo, at);
-    if 0 < r {
-        return memo_moves(memo, at);
-    }
-    let i = number(pack, at);
-    after_equations(pack, names, i.next)
-}
-
-// What is inside the state at `at`, by one look.
-pub fn inside_of(pack: &[u8], names: usize, memo: &[u16], at: usize) -> Inside
-    requires { (length pack.now ≤ max_bytes) × RowsSound pack.now names memo.now }
-    ensures { (ns : List Name) → length ns ≡ names → (result.moves ≡ moves_at ns pack.now at) × (result.regions ≡ regions_at ns pack.now at) }
-{
-    let r = memo_regions(memo, at);
-    if 0 < r {
-        let moves = memo_moves(memo, at);
-        let regions = number(pack, r);
-        return Inside { moves, regions };
-    }
-    let moves = moves_of(pack, names, memo, at);
-    let regions = number(pack, after_transitions(pack, names, moves));
-    Inside { moves, regions }
-}
-
-// Past the state at `at`.
-pub fn past_of(pack: &[u8], names: usize, memo: &[u16], at: usize) -> usize
-    requires { (length pack.now ≤ max_bytes) × RowsSound pack.now names memo.now }
-    ensures { (ns : List Name) → length ns ≡ names → result ≡ over_in ns pack.now at }
-{
-    let r = memo_regions(memo, at);
-    if 0 < r {
-        return memo_past(memo, at);
-    }
-    after_state(pack, names, at)
-}
-
-// Past the states whose count stands at `at`.
-pub fn past_states(pack: &[u8], names: usize, memo: &[u16], at: usize) -> usize
-    requires { (length pack.now ≤ max_bytes) × RowsSound pack.now names memo.now }
-    ensures { (ns : List Name) → length ns ≡ names → result ≡ end_of (counted (state_at ns pack.now) pack.now at) }
-{
-    let c = number(pack, at);
-    let mut p = c.next;
-    for _ in 0..c.value {
-        p = past_of(pack, names, memo, p);
-        if p == 0 {
-            return 0;
-        }
-    }
-    p
-}
-
 // --- The first transition of a drawn region's states that leads to none of them: said of what is drawn, so that it is looked for once,
 // however often it is shown.
 
@@ -251,66 +158,41 @@ pub struct UnknownTarget {
 }
 
 // Whether one of `count` states drawn from `from` on has the pack's name x.
-fn is_drawn_state(
-    pack: &[u8],
-    names: usize,
-    memo: &[u16],
-    x: usize,
-    count: usize,
-    from: usize,
-) -> bool
-    requires { (length pack.now ≤ max_bytes) × RowsSound pack.now names memo.now }
-    ensures { (ns : List Name) → length ns ≡ names → result ≡ drawn_state ns pack.now x count from }
+fn is_drawn_state(drawing: &Drawing, x: usize, count: usize, from: usize) -> bool
+    ensures { (ns : List Name) → length ns ≡ drawing.now.pack.names → result ≡ drawn_state ns drawing.now.pack.bytes.now x count from }
 {
     let mut p = from;
     for _ in 0..count {
-        let i = number(pack, p);
+        let i = number(drawing.pack.bytes, p);
         if i.value == x {
             return true;
         }
-        p = past_of(pack, names, memo, p);
+        p = drawing.past_of(p);
     }
     false
 }
 
 // Whether one of the n states drawn from f on has the pack's name x, where it may be known of the name `last`: transitions to one
 // state mostly follow one another.
-fn is_known_target(
-    pack: &[u8],
-    names: usize,
-    memo: &[u16],
-    n: usize,
-    f: usize,
-    last: Option<usize>,
-    x: usize,
-) -> bool
-    requires { (length pack.now ≤ max_bytes) × RowsSound pack.now names memo.now × IfSome last (IsDrawn pack.now names n f) }
-    ensures { (ns : List Name) → length ns ≡ names → result ≡ drawn_state ns pack.now x n f }
+fn is_known_target(drawing: &Drawing, n: usize, f: usize, last: Option<usize>, x: usize) -> bool
+    requires { IfSome last (IsDrawn drawing.now.pack.bytes.now drawing.now.pack.names n f) }
+    ensures { (ns : List Name) → length ns ≡ drawing.now.pack.names → result ≡ drawn_state ns drawing.now.pack.bytes.now x n f }
 {
     if last == Some(x) {
         return true;
     }
-    is_drawn_state(pack, names, memo, x, n, f)
+    is_drawn_state(drawing, x, n, f)
 }
 
 // What `count` transitions from `from` on do, of a state of the n states drawn from f on.
-fn first_unknown_target(
-    pack: &[u8],
-    names: usize,
-    memo: &[u16],
-    n: usize,
-    f: usize,
-    count: usize,
-    from: usize,
-) -> Targets
-    requires { (length pack.now ≤ max_bytes) × RowsSound pack.now names memo.now }
-    ensures { (ns : List Name) → length ns ≡ names → result ≡ target_d ns pack.now n f count from }
+fn first_unknown_target(drawing: &Drawing, n: usize, f: usize, count: usize, from: usize) -> Targets
+    ensures { (ns : List Name) → length ns ≡ drawing.now.pack.names → result ≡ target_d ns drawing.now.pack.bytes.now n f count from }
 {
     let mut o = from;
     let mut last = None;
     for _ in 0..count {
-        let x = number(pack, guard_end(pack, names, memo, o));
-        if !is_known_target(pack, names, memo, n, f, last, x.value) {
+        let x = number(drawing.pack.bytes, drawing.guard_end(o));
+        if !is_known_target(drawing, n, f, last, x.value) {
             return Targets::Stray(x.value);
         }
         o = x.next;
@@ -320,18 +202,17 @@ fn first_unknown_target(
 }
 
 // The first of the n states drawn from f on that has an unknown target.
-pub fn unknown_targets(pack: &[u8], names: usize, memo: &[u16], n: usize, f: usize) -> UnknownTarget
-    requires { (length pack.now ≤ max_bytes) × RowsSound pack.now names memo.now }
-    ensures { (ns : List Name) → length ns ≡ names → result ≡ unknown_target_d ns pack.now n f }
+pub fn unknown_targets(drawing: &Drawing, n: usize, f: usize) -> UnknownTarget
+    ensures { (ns : List Name) → length ns ≡ drawing.now.pack.names → result ≡ unknown_target_d ns drawing.now.pack.bytes.now n f }
 {
     let mut p = f;
     for fine in 0..n {
-        let c = number(pack, moves_of(pack, names, memo, p));
-        let a = first_unknown_target(pack, names, memo, n, f, c.value, c.next);
+        let c = number(drawing.pack.bytes, drawing.moves_of(p));
+        let a = first_unknown_target(drawing, n, f, c.value, c.next);
         if let Targets::Stray(name) = a {
             return UnknownTarget { fine, name };
         }
-        p = past_of(pack, names, memo, p);
+        p = drawing.past_of(p);
     }
     UnknownTarget { fine: n, name: 0 }
 }
@@ -349,25 +230,23 @@ struct Head {
 }
 
 // Keeps where the equation at `at` ends, and answers it.
-fn memo_end(pack: &[u8], names: usize, memo: &mut [u16], at: usize) -> usize
-    requires { length pack.now ≤ max_bytes }
-    ensures value { (ns : List Name) → length ns ≡ names → result ≡ end_of (equation_in ns pack.now at) }
-    ensures by_index { (offsets : List ℕ) → MemoSound pack.now names offsets memo.old → MemoSound pack.now names offsets memo.new }
+fn memo_end(pack: &CheckedPack, memo: &mut [u16], at: usize) -> usize
+    ensures value { (ns : List Name) → length ns ≡ pack.now.names → result ≡ end_of (equation_in ns pack.now.bytes.now at) }
+    ensures by_index { (offsets : List ℕ) → MemoSound pack.now.bytes.now pack.now.names offsets memo.old → MemoSound pack.now.bytes.now pack.now.names offsets memo.new }
 {
-    let e = after_equation(pack, names, at);
+    let e = after_equation(pack.bytes, pack.names, at);
     memo_put(memo, at, EQUATION, 0, e);
     e
 }
 
 // The ends of `count` equations from `from` on; the offset after them, 0 where one does not read.
-fn memo_ends(pack: &[u8], names: usize, memo: &mut [u16], count: usize, from: usize) -> usize
-    requires { length pack.now ≤ max_bytes }
-    ensures value { (ns : List Name) → length ns ≡ names → result ≡ end_of (many (equation_in ns pack.now) count from) }
-    ensures by_index { (offsets : List ℕ) → MemoSound pack.now names offsets memo.old → MemoSound pack.now names offsets memo.new }
+fn memo_ends(pack: &CheckedPack, memo: &mut [u16], count: usize, from: usize) -> usize
+    ensures value { (ns : List Name) → length ns ≡ pack.now.names → result ≡ end_of (many (equation_in ns pack.now.bytes.now) count from) }
+    ensures by_index { (offsets : List ℕ) → MemoSound pack.now.bytes.now pack.now.names offsets memo.old → MemoSound pack.now.bytes.now pack.now.names offsets memo.new }
 {
     let mut p = from;
     for _ in 0..count {
-        p = memo_end(pack, names, memo, p);
+        p = memo_end(pack, memo, p);
         if p == 0 {
             return 0;
         }
@@ -376,28 +255,26 @@ fn memo_ends(pack: &[u8], names: usize, memo: &mut [u16], count: usize, from: us
 }
 
 // Keeps where the guard at `at` ends; the offset after its transition.
-fn memo_guard(pack: &[u8], names: usize, memo: &mut [u16], at: usize) -> usize
-    requires { length pack.now ≤ max_bytes }
-    ensures value { (ns : List Name) → length ns ≡ names → result ≡ end_of (transition_in ns pack.now at) }
-    ensures by_index { (offsets : List ℕ) → MemoSound pack.now names offsets memo.old → MemoSound pack.now names offsets memo.new }
+fn memo_guard(pack: &CheckedPack, memo: &mut [u16], at: usize) -> usize
+    ensures value { (ns : List Name) → length ns ≡ pack.now.names → result ≡ end_of (transition_in ns pack.now.bytes.now at) }
+    ensures by_index { (offsets : List ℕ) → MemoSound pack.now.bytes.now pack.now.names offsets memo.old → MemoSound pack.now.bytes.now pack.now.names offsets memo.new }
 {
-    let guard = skip_expr(pack, names, at);
+    let guard = skip_expr(pack.bytes, pack.names, at);
     memo_put(memo, at, GUARD, 0, reached(guard));
     match guard {
-        Ok(p) => reached(skip_index(pack, names, p)),
+        Ok(p) => reached(skip_index(pack.bytes, pack.names, p)),
         Err(_) => 0,
     }
 }
 
 // The guards of `count` transitions from `from` on; the offset after them, 0 where one does not read.
-fn memo_guards(pack: &[u8], names: usize, memo: &mut [u16], count: usize, from: usize) -> usize
-    requires { length pack.now ≤ max_bytes }
-    ensures value { (ns : List Name) → length ns ≡ names → result ≡ end_of (many (transition_in ns pack.now) count from) }
-    ensures by_index { (offsets : List ℕ) → MemoSound pack.now names offsets memo.old → MemoSound pack.now names offsets memo.new }
+fn memo_guards(pack: &CheckedPack, memo: &mut [u16], count: usize, from: usize) -> usize
+    ensures value { (ns : List Name) → length ns ≡ pack.now.names → result ≡ end_of (many (transition_in ns pack.now.bytes.now) count from) }
+    ensures by_index { (offsets : List ℕ) → MemoSound pack.now.bytes.now pack.now.names offsets memo.old → MemoSound pack.now.bytes.now pack.now.names offsets memo.new }
 {
     let mut p = from;
     for _ in 0..count {
-        p = memo_guard(pack, names, memo, p);
+        p = memo_guard(pack, memo, p);
         if p == 0 {
             return 0;
         }
@@ -424,17 +301,22 @@ fn memo_state(memo: &mut [u16], at: usize, h: Head, o: usize)
 }
 
 // Keeps the equations and the guards of the state at `at`; what is read of it before its regions.
-fn memo_head(pack: &[u8], names: usize, offsets: &[u16], memo: &mut [u16], at: usize) -> Head
-    requires { (length pack.now ≤ max_bytes) × MemoSound pack.now names offsets.now memo.old }
-    ensures value { (ns : List Name) → length ns ≡ names → result ≡ head_of ns pack.now offsets.now at }
-    ensures memo_sound { MemoSound pack.now names offsets.now memo.new }
+fn memo_head(pack: &CheckedPack, offsets: &[u16], memo: &mut [u16], at: usize) -> Head
+    requires { MemoSound pack.now.bytes.now pack.now.names offsets.now memo.old }
+    ensures value { (ns : List Name) → length ns ≡ pack.now.names → result ≡ head_of ns pack.now.bytes.now offsets.now at }
+    ensures memo_sound { MemoSound pack.now.bytes.now pack.now.names offsets.now memo.new }
 {
-    let i = number(pack, at);
-    let c = number(pack, i.next);
-    let moves = memo_ends(pack, names, memo, c.value, c.next);
-    let g = number(pack, moves);
-    let regions = memo_guards(pack, names, memo, g.value, g.next);
-    let head = read_state_head(pack, names, offsets, memo, at, moves);
+    let i = number(pack.bytes, at);
+    let c = number(pack.bytes, i.next);
+    let moves = memo_ends(pack, memo, c.value, c.next);
+    let g = number(pack.bytes, moves);
+    let regions = memo_guards(pack, memo, g.value, g.next);
+    let checked = *pack;
+    let drawing = Drawing {
+        pack: checked,
+        memo,
+    };
+    let head = read_state_head(&drawing, offsets, at, moves);
     Head {
         head,
         moves,
@@ -475,21 +357,20 @@ fn states_in(pack: &[u8], names: usize, at: usize) -> Number
 // Keeps how many of n regions from `at` on have no states, where these are several; how many follow the one at `at`. Where `known`
 // are known to follow, they are kept already.
 fn memo_empty_regions(
-    pack: &[u8],
-    names: usize,
+    pack: &CheckedPack,
     offsets: &[u16],
     memo: &mut [u16],
     n: usize,
     known: usize,
     at: usize,
 ) -> usize
-    requires { (length pack.now ≤ max_bytes) × MemoSound pack.now names offsets.now memo.old }
-    ensures { MemoSound pack.now names offsets.now memo.new }
+    requires { MemoSound pack.now.bytes.now pack.now.names offsets.now memo.old }
+    ensures { MemoSound pack.now.bytes.now pack.now.names offsets.now memo.new }
 {
     if 0 < known {
         return known - 1;
     }
-    let e = empty_run_from(pack, offsets, n, at);
+    let e = empty_run_from(pack.bytes, offsets, n, at);
     let k = e.count;
     let l = e.longest;
     if k < 2 {
@@ -505,21 +386,26 @@ fn memo_empty_regions(
 // Keeps which of the states from `from` on, whose count stands before them, is the first with an unknown target. The row is that of the bytes
 // before the states, where no equation and no guard begins; without states it is left to regions that have none. A region with more
 // states than a machine may have is never checked.
-fn memo_unknown_targets(pack: &[u8], names: usize, offsets: &[u16], memo: &mut [u16], from: usize)
-    requires { (length pack.now ≤ max_bytes) × MemoSound pack.now names offsets.now memo.old }
-    ensures { MemoSound pack.now names offsets.now memo.new }
+fn memo_unknown_targets(pack: &CheckedPack, offsets: &[u16], memo: &mut [u16], from: usize)
+    requires { MemoSound pack.now.bytes.now pack.now.names offsets.now memo.old }
+    ensures { MemoSound pack.now.bytes.now pack.now.names offsets.now memo.new }
 {
     if from < 5 {
         return;
     }
-    let c = number(pack, from - 2);
+    let c = number(pack.bytes, from - 2);
     if c.value == 0 {
         return;
     }
     if Pack::STATES < c.value {
         return;
     }
-    let r = unknown_targets(pack, names, memo, c.value, from);
+    let checked = *pack;
+    let drawing = Drawing {
+        pack: checked,
+        memo,
+    };
+    let r = unknown_targets(&drawing, c.value, from);
     if WORD_MAX <= r.fine.max(r.name) {
         return;
     }
@@ -529,30 +415,29 @@ fn memo_unknown_targets(pack: &[u8], names: usize, offsets: &[u16], memo: &mut [
 // The state at `at` and the states in its regions; the offset after it, 0 where it does not read.
 #[cycle(fill_state_fill_states)]
 fn fill_state(
-    pack: &[u8],
-    names: usize,
+    pack: &CheckedPack,
     offsets: &[u16],
     memo: &mut [u16],
     levels: usize,
     at: usize,
 ) -> usize
-    requires { (length pack.now ≤ max_bytes) × MemoSound pack.now names offsets.now memo.old × (levels < max_level) }
-    ensures value { (ns : List Name) → length ns ≡ names → 0 < result → result ≡ end_of (state_with (region_at levels ns pack.now) ns pack.now at) }
-    ensures memo_sound { MemoSound pack.now names offsets.now memo.new }
+    requires { MemoSound pack.now.bytes.now pack.now.names offsets.now memo.old × (levels < max_level) }
+    ensures value { (ns : List Name) → length ns ≡ pack.now.names → 0 < result → result ≡ end_of (state_with (region_at levels ns pack.now.bytes.now) ns pack.now.bytes.now at) }
+    ensures memo_sound { MemoSound pack.now.bytes.now pack.now.names offsets.now memo.new }
 {
-    let h = memo_head(pack, names, offsets, memo, at);
-    let r = number(pack, h.regions);
+    let h = memo_head(pack, offsets, memo, at);
+    let r = number(pack.bytes, h.regions);
     let mut p = r.next;
     let mut known = 0;
     for i in 0..r.value {
-        let c = states_in(pack, names, p);
-        known = memo_empty_regions(pack, names, offsets, memo, r.value - i, known, p);
-        p = fill_states(pack, names, offsets, memo, levels, c.value, c.next);
+        let c = states_in(pack.bytes, pack.names, p);
+        known = memo_empty_regions(pack, offsets, memo, r.value - i, known, p);
+        p = fill_states(pack, offsets, memo, levels, c.value, c.next);
         if p == 0 {
             return 0;
         }
     }
-    let o = state_end(pack, names, at, h, p);
+    let o = state_end(pack.bytes, pack.names, at, h, p);
     memo_state(memo, at, h, o);
     o
 }
@@ -560,42 +445,41 @@ fn fill_state(
 // `count` states from `from` on; the offset after them, 0 where one does not read.
 #[cycle(fill_state_fill_states)]
 fn fill_states(
-    pack: &[u8],
-    names: usize,
+    pack: &CheckedPack,
     offsets: &[u16],
     memo: &mut [u16],
     levels: usize,
     count: usize,
     from: usize,
 ) -> usize
-    requires { (length pack.now ≤ max_bytes) × MemoSound pack.now names offsets.now memo.old × (levels ≤ max_level) }
-    ensures fact { (ns : List Name) → length ns ≡ names → 0 < result → (levels ≡ 0 → ⊥) × (result ≡ end_of (many (state_with (region_at (levels - 1) ns pack.now) ns pack.now) count from)) }
-    ensures memo_sound { MemoSound pack.now names offsets.now memo.new }
+    requires { MemoSound pack.now.bytes.now pack.now.names offsets.now memo.old × (levels ≤ max_level) }
+    ensures fact { (ns : List Name) → length ns ≡ pack.now.names → 0 < result → (levels ≡ 0 → ⊥) × (result ≡ end_of (many (state_with (region_at (levels - 1) ns pack.now.bytes.now) ns pack.now.bytes.now) count from)) }
+    ensures memo_sound { MemoSound pack.now.bytes.now pack.now.names offsets.now memo.new }
 {
     if levels == 0 {
         return 0;
     }
     let mut p = from;
     for _ in 0..count {
-        p = fill_state(pack, names, offsets, memo, levels - 1, p);
+        p = fill_state(pack, offsets, memo, levels - 1, p);
         if p == 0 {
             return 0;
         }
     }
-    memo_unknown_targets(pack, names, offsets, memo, from);
+    memo_unknown_targets(pack, offsets, memo, from);
     p
 }
 
 // Those of all machines, whose count stands at `at`.
-pub fn fill_memo(pack: &[u8], names: usize, offsets: &[u16], at: usize, memo: &mut [u16])
-    requires { (length pack.now ≤ max_bytes) × MemoSound pack.now names offsets.now memo.old }
-    ensures { MemoSound pack.now names offsets.now memo.new }
+pub fn fill_memo(pack: &CheckedPack, offsets: &[u16], at: usize, memo: &mut [u16])
+    requires { MemoSound pack.now.bytes.now pack.now.names offsets.now memo.old }
+    ensures { MemoSound pack.now.bytes.now pack.now.names offsets.now memo.new }
 {
-    let c = number(pack, at);
+    let c = number(pack.bytes, at);
     let mut p = c.next;
     for _ in 0..c.value {
-        let m = number(pack, p);
-        let h = machine(pack, to_initial(pack, names, m.next));
-        p = fill_states(pack, names, offsets, memo, Pack::LEVELS, h.value, h.next);
+        let m = number(pack.bytes, p);
+        let h = machine(pack.bytes, to_initial(pack, m.next));
+        p = fill_states(pack, offsets, memo, Pack::LEVELS, h.value, h.next);
     }
 }

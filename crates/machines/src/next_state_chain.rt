@@ -1,12 +1,11 @@
 // The next state of a region, from its states' transitions. Guards are copied from the pack.
-ghost use Rattle.std.specs.Prelude.{List, ◌≡◌, ◌≤◌, ◌+◌, length, get_or};
+ghost use Rattle.std.specs.Prelude.{List, ◌≡◌, ◌+◌, length, get_or};
 ghost use Rattle.wire.specs.Writer.{state_of};
 ghost use Rattle.pack_rules.specs.Names.{Name};
 ghost use Rattle.pack.specs.Intern.{render};
-ghost use Rattle.pack_rules.specs.Limits.{max_bytes};
 ghost use Rattle.machines.specs.EmitAt.{move_t, moves_t, transitions_t, test_t, chain_t};
 
-use crate::checked_read::{after_expr, number};
+use crate::checked_read::{CheckedPack, after_expr, number};
 use crate::emit_region::{put_is, put_variable};
 use crate::layout::{between, first, layout_word, letters};
 use crate::made_names::{Var, put_in_region};
@@ -39,8 +38,7 @@ fn put_move(
 // `count` transitions from the offset `from` on; where none is taken the state stays.
 fn put_moves(
     old: &[u8],
-    pack: &[u8],
-    names: usize,
+    pack: &CheckedPack,
     offsets: &[u16],
     layout: &[usize],
     qualified: &[u8],
@@ -51,8 +49,7 @@ fn put_moves(
     made: &mut [u8],
     writer: Writer,
 ) -> Writer
-    requires { length pack.now ≤ max_bytes }
-    ensures { (ns : List Name) → length ns ≡ names → state_of out.new made.new result ≡ render old.now (moves_t pack.now offsets.now layout.now qualified.now ns q count from) (state_of out.old made.old writer) }
+    ensures { (ns : List Name) → length ns ≡ pack.now.names → state_of out.new made.new result ≡ render old.now (moves_t pack.now.bytes.now offsets.now layout.now qualified.now ns q count from) (state_of out.old made.old writer) }
 {
     let id = layout_word(layout, q, 5);
     let mut v = writer;
@@ -61,10 +58,10 @@ fn put_moves(
         if v.full {
             return v;
         }
-        let e = after_expr(pack, names, p);
-        let x = number(pack, e);
+        let e = after_expr(pack.bytes, pack.names, p);
+        let x = number(pack.bytes, e);
         v = put_move(
-            old, pack, offsets, layout, qualified, q, p, e, x.value, out, made, v,
+            old, pack.bytes, offsets, layout, qualified, q, p, e, x.value, out, made, v,
         );
         p = x.next;
     }
@@ -74,8 +71,7 @@ fn put_moves(
 // The transitions of the state at the word p, in the region at the word q.
 pub fn put_transitions(
     old: &[u8],
-    pack: &[u8],
-    names: usize,
+    pack: &CheckedPack,
     offsets: &[u16],
     layout: &[usize],
     qualified: &[u8],
@@ -85,13 +81,12 @@ pub fn put_transitions(
     made: &mut [u8],
     writer: Writer,
 ) -> Writer
-    requires { length pack.now ≤ max_bytes }
-    ensures { (ns : List Name) → length ns ≡ names → state_of out.new made.new result ≡ render old.now (transitions_t pack.now offsets.now layout.now qualified.now ns q p) (state_of out.old made.old writer) }
+    ensures { (ns : List Name) → length ns ≡ pack.now.names → state_of out.new made.new result ≡ render old.now (transitions_t pack.now.bytes.now offsets.now layout.now qualified.now ns q p) (state_of out.old made.old writer) }
 {
     let at = layout_word(layout, p, 1);
-    let c = number(pack, at);
+    let c = number(pack.bytes, at);
     put_moves(
-        old, pack, names, offsets, layout, qualified, q, c.value, c.next, out, made, writer,
+        old, pack, offsets, layout, qualified, q, c.value, c.next, out, made, writer,
     )
 }
 
@@ -117,8 +112,7 @@ pub fn put_test(
 // The next state by the states of the region at the word q; the last has no test.
 pub fn build_next_state_chain(
     old: &[u8],
-    pack: &[u8],
-    names: usize,
+    pack: &CheckedPack,
     offsets: &[u16],
     layout: &[usize],
     qualified: &[u8],
@@ -127,8 +121,7 @@ pub fn build_next_state_chain(
     made: &mut [u8],
     writer: Writer,
 ) -> Writer
-    requires { length pack.now ≤ max_bytes }
-    ensures { (ns : List Name) → length ns ≡ names → state_of out.new made.new result ≡ render old.now (chain_t pack.now offsets.now layout.now qualified.now ns q (get_or layout.now (q + 6) 0) (q + 9)) (state_of out.old made.old writer) }
+    ensures { (ns : List Name) → length ns ≡ pack.now.names → state_of out.new made.new result ≡ render old.now (chain_t pack.now.bytes.now offsets.now layout.now qualified.now ns q (get_or layout.now (q + 6) 0) (q + 9)) (state_of out.old made.old writer) }
 {
     let mut v = writer;
     let n = layout_word(layout, q, 6);
@@ -138,16 +131,12 @@ pub fn build_next_state_chain(
             return v;
         }
         let a = put_test(old, layout, qualified, q, p, out, made, v);
-        v = put_transitions(
-            old, pack, names, offsets, layout, qualified, q, p, out, made, a,
-        );
+        v = put_transitions(old, pack, offsets, layout, qualified, q, p, out, made, a);
         p = layout_word(layout, p, 4);
     }
     if n == 0 {
         let id = layout_word(layout, q, 5);
         return put_variable(old, Var::State, id, out, made, v);
     }
-    put_transitions(
-        old, pack, names, offsets, layout, qualified, q, p, out, made, v,
-    )
+    put_transitions(old, pack, offsets, layout, qualified, q, p, out, made, v)
 }

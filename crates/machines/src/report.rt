@@ -9,11 +9,11 @@ ghost use Rattle.pack_rules.specs.Limits.{max_bytes};
 ghost use Rattle.machines.specs.Layout.{prefix_of};
 ghost use Rattle.machines.specs.ReportEntries.{called_of, entry_bytes, name_bytes, names_bytes};
 ghost use Rattle.pack_rules.specs.Names.{Name};
-ghost use Rattle.machines.specs.MemoSound.{MemoSound};
 ghost use Rattle.machines.specs.EmitMachineAt.{Long};
 ghost use Rattle.machines.specs.ReportAt.{EntersAll, RoomAt, RoomForAll, bytes_t, letters_t, of_refused, refusal_t, refused_entry_t};
 
 use crate::checked_read::number;
+use crate::drawing::NameTables;
 use crate::layout::{pack_name, part};
 use crate::table::entry;
 use crate::verdicts::{NameRef, VerdictRow, judge, named, no_name, refused};
@@ -166,11 +166,7 @@ pub fn put_count(n: usize, report: &mut [u8])
 
 // Why the machine i is refused: judged again, or its owner is not there.
 fn refusal_of(
-    pack: &[u8],
-    names: usize,
-    offsets: &[u16],
-    machines: &[u16],
-    memo: &[u16],
+    tables: &NameTables,
     layout: &mut [usize],
     rows: &mut [usize],
     qualified: &mut [u8],
@@ -178,29 +174,22 @@ fn refusal_of(
     regcounts: &[usize],
     i: usize,
 ) -> VerdictRow
-    requires { (length pack.now ≤ max_bytes) × MemoSound pack.now names offsets.now memo.now }
-    ensures value { (ns : List Name) → length ns ≡ names → result ≡ refusal_t ns pack.now offsets.now machines.now defs.now regcounts.now i layout.old rows.old qualified.old }
-    ensures qualified_after { (ns : List Name) → length ns ≡ names → qualified.new ≡ letters_t ns pack.now offsets.now machines.now defs.now regcounts.now i layout.old rows.old qualified.old }
+    ensures value { (ns : List Name) → length ns ≡ tables.now.drawing.pack.names → result ≡ refusal_t ns tables.now.drawing.pack.bytes.now tables.now.offsets.now tables.now.machines.now defs.now regcounts.now i layout.old rows.old qualified.old }
+    ensures qualified_after { (ns : List Name) → length ns ≡ tables.now.drawing.pack.names → qualified.new ≡ letters_t ns tables.now.drawing.pack.bytes.now tables.now.offsets.now tables.now.machines.now defs.now regcounts.now i layout.old rows.old qualified.old }
 {
     let at = entry(defs, i);
     let g = entry(regcounts, i);
     if g == 0 {
-        return judge(
-            pack, names, offsets, machines, memo, layout, rows, qualified, at,
-        );
+        return judge(tables, layout, rows, qualified, at);
     }
-    let m = number(pack, at);
-    let o = number(pack, m.next);
+    let m = number(tables.drawing.pack.bytes, at);
+    let o = number(tables.drawing.pack.bytes, m.next);
     refused(VerdictRow::UNKNOWN_OWNER, named(o.value), no_name())
 }
 
 // How many bytes its entry takes: none where it is not refused.
 fn refusal_len(
-    pack: &[u8],
-    names: usize,
-    offsets: &[u16],
-    machines: &[u16],
-    memo: &[u16],
+    tables: &NameTables,
     layout: &mut [usize],
     rows: &mut [usize],
     qualified: &mut [u8],
@@ -209,28 +198,28 @@ fn refusal_len(
     regcounts: &[usize],
     i: usize,
 ) -> usize
-    requires { (length pack.now ≤ max_bytes) × Long layout.old rows.old qualified.old × MemoSound pack.now names offsets.now memo.now }
-    ensures { (result ≤ 34359738368) × ((ns : List Name) → length ns ≡ names → result ≡ length (refused_entry_t ns pack.now offsets.now machines.now defs.now regcounts.now receivers.now i layout.old rows.old qualified.old)) }
+    requires { Long layout.old rows.old qualified.old }
+    ensures { (result ≤ 34359738368) × ((ns : List Name) → length ns ≡ tables.now.drawing.pack.names → result ≡ length (refused_entry_t ns tables.now.drawing.pack.bytes.now tables.now.offsets.now tables.now.machines.now defs.now regcounts.now receivers.now i layout.old rows.old qualified.old)) }
 {
     let a = entry(receivers, i);
     if a != Pack::ABSENT {
         return 0;
     }
     let at = entry(defs, i);
-    let m = number(pack, at);
-    let j = refusal_of(
-        pack, names, offsets, machines, memo, layout, rows, qualified, defs, regcounts, i,
-    );
-    entry_len(pack, offsets, qualified, m.value, j)
+    let m = number(tables.drawing.pack.bytes, at);
+    let j = refusal_of(tables, layout, rows, qualified, defs, regcounts, i);
+    entry_len(
+        tables.drawing.pack.bytes,
+        tables.offsets,
+        qualified,
+        m.value,
+        j,
+    )
 }
 
 // How many bytes the report of the first n machines takes.
 pub fn report_len(
-    pack: &[u8],
-    names: usize,
-    offsets: &[u16],
-    machines: &[u16],
-    memo: &[u16],
+    tables: &NameTables,
     layout: &mut [usize],
     rows: &mut [usize],
     qualified: &mut [u8],
@@ -239,14 +228,13 @@ pub fn report_len(
     regcounts: &[usize],
     n: usize,
 ) -> usize
-    requires { (length pack.now ≤ max_bytes) × Long layout.old rows.old qualified.old × (n ≤ word_range) × MemoSound pack.now names offsets.now memo.now }
-    ensures { (ns : List Name) → length ns ≡ names → (es : ℕ → List ℕ) → EntersAll ns pack.now offsets.now machines.now defs.now regcounts.now receivers.now n es → result ≡ 2 + length (bytes_t (of_refused receivers.now es) n 0) }
+    requires { Long layout.old rows.old qualified.old × (n ≤ word_range) }
+    ensures { (ns : List Name) → length ns ≡ tables.now.drawing.pack.names → (es : ℕ → List ℕ) → EntersAll ns tables.now.drawing.pack.bytes.now tables.now.offsets.now tables.now.machines.now defs.now regcounts.now receivers.now n es → result ≡ 2 + length (bytes_t (of_refused receivers.now es) n 0) }
 {
     let mut c = 2;
     for i in 0..n {
         c += refusal_len(
-            pack, names, offsets, machines, memo, layout, rows, qualified, defs, receivers,
-            regcounts, i,
+            tables, layout, rows, qualified, defs, receivers, regcounts, i,
         );
     }
     c
@@ -254,11 +242,7 @@ pub fn report_len(
 
 // The entry of the machine i, where it is refused.
 fn put_refusal(
-    pack: &[u8],
-    names: usize,
-    offsets: &[u16],
-    machines: &[u16],
-    memo: &[u16],
+    tables: &NameTables,
     layout: &mut [usize],
     rows: &mut [usize],
     qualified: &mut [u8],
@@ -269,28 +253,30 @@ fn put_refusal(
     report: &mut [u8],
     at: usize,
 ) -> usize
-    requires { (length pack.now ≤ max_bytes) × RoomAt pack.now offsets.now machines.now defs.now regcounts.now receivers.now layout.old rows.old qualified.old names i at (length report.old) × MemoSound pack.now names offsets.now memo.now }
-    ensures { (ns : List Name) → length ns ≡ names → (result ≡ at + length (refused_entry_t ns pack.now offsets.now machines.now defs.now regcounts.now receivers.now i layout.old rows.old qualified.old)) × (report.new ≡ overwritten at (refused_entry_t ns pack.now offsets.now machines.now defs.now regcounts.now receivers.now i layout.old rows.old qualified.old) report.old) }
+    requires { RoomAt tables.now.drawing.pack.bytes.now tables.now.offsets.now tables.now.machines.now defs.now regcounts.now receivers.now layout.old rows.old qualified.old tables.now.drawing.pack.names i at (length report.old) }
+    ensures { (ns : List Name) → length ns ≡ tables.now.drawing.pack.names → (result ≡ at + length (refused_entry_t ns tables.now.drawing.pack.bytes.now tables.now.offsets.now tables.now.machines.now defs.now regcounts.now receivers.now i layout.old rows.old qualified.old)) × (report.new ≡ overwritten at (refused_entry_t ns tables.now.drawing.pack.bytes.now tables.now.offsets.now tables.now.machines.now defs.now regcounts.now receivers.now i layout.old rows.old qualified.old) report.old) }
 {
     let a = entry(receivers, i);
     if a != Pack::ABSENT {
         return at;
     }
     let p = entry(defs, i);
-    let m = number(pack, p);
-    let j = refusal_of(
-        pack, names, offsets, machines, memo, layout, rows, qualified, defs, regcounts, i,
-    );
-    put_entry(pack, offsets, qualified, m.value, j, report, at)
+    let m = number(tables.drawing.pack.bytes, p);
+    let j = refusal_of(tables, layout, rows, qualified, defs, regcounts, i);
+    put_entry(
+        tables.drawing.pack.bytes,
+        tables.offsets,
+        qualified,
+        m.value,
+        j,
+        report,
+        at,
+    )
 }
 
 // The report of the first n machines, of which so many are refused.
 pub fn put_report(
-    pack: &[u8],
-    names: usize,
-    offsets: &[u16],
-    machines: &[u16],
-    memo: &[u16],
+    tables: &NameTables,
     layout: &mut [usize],
     rows: &mut [usize],
     qualified: &mut [u8],
@@ -301,15 +287,14 @@ pub fn put_report(
     refused: usize,
     report: &mut [u8],
 )
-    requires { (length pack.now ≤ max_bytes) × Long layout.old rows.old qualified.old × RoomForAll pack.now offsets.now machines.now defs.now regcounts.now receivers.now names n (length report.old) × MemoSound pack.now names offsets.now memo.now }
-    ensures { (ns : List Name) → length ns ≡ names → (es : ℕ → List ℕ) → EntersAll ns pack.now offsets.now machines.now defs.now regcounts.now receivers.now n es → report.new ≡ overwritten 0 (two refused ++ bytes_t (of_refused receivers.now es) n 0) report.old }
+    requires { Long layout.old rows.old qualified.old × RoomForAll tables.now.drawing.pack.bytes.now tables.now.offsets.now tables.now.machines.now defs.now regcounts.now receivers.now tables.now.drawing.pack.names n (length report.old) }
+    ensures { (ns : List Name) → length ns ≡ tables.now.drawing.pack.names → (es : ℕ → List ℕ) → EntersAll ns tables.now.drawing.pack.bytes.now tables.now.offsets.now tables.now.machines.now defs.now regcounts.now receivers.now n es → report.new ≡ overwritten 0 (two refused ++ bytes_t (of_refused receivers.now es) n 0) report.old }
 {
     put_count(refused, report);
     let mut e = 2;
     for i in 0..n {
         e = put_refusal(
-            pack, names, offsets, machines, memo, layout, rows, qualified, defs, receivers,
-            regcounts, i, report, e,
+            tables, layout, rows, qualified, defs, receivers, regcounts, i, report, e,
         );
     }
 }

@@ -4,19 +4,18 @@
 //   read_state_head, state_head    a state's longest name and where its regions are, read, or looked up in `memo`
 //   EmptyRegions, SkippedRegions   regions without states that follow one another, passed in one step
 //   resolve_machine                the walk: where it ended, or why it stopped (`Resolved`)
-ghost use Rattle.std.specs.Prelude.{◌≡◌, ◌||◌, eqb, List, ◌<◌, ◌≤◌, length};
+ghost use Rattle.std.specs.Prelude.{◌≡◌, ◌||◌, eqb, List, ◌<◌, length};
 ghost use Rattle.machines.specs.RefineStack.{on_of, pushed_of, start_of};
 ghost use Rattle.pack_rules.specs.Names.{Name};
-ghost use Rattle.pack_rules.specs.Limits.{max_bytes};
 ghost use Rattle.machines.specs.ResolveAt.{enter_w, head_t, len_at, machine_w, qualify_of, state_w, target_t, walk as walk_in};
 ghost use Rattle.machines.specs.LayoutAt.{moves_at};
-ghost use Rattle.machines.specs.MemoSound.{MemoSound, RowsSound};
 ghost use Rattle.wire.specs.Bytes.{word_range};
 ghost use Rattle.machines.specs.EmptyRegions.{AtOnce, EmptyRun, empty_at, opened_of, taken_of};
 
 use crate::checked_read::{machine, number, region};
+use crate::drawing::{Drawing, NameTables};
 use crate::layout::{RegionHead, region_head};
-use crate::memo::{EMPTY, guard_end, memo_at, memo_beside, memo_longest, memo_regions, moves_of};
+use crate::memo::{EMPTY, memo_at, memo_beside, memo_longest, memo_regions};
 use crate::table::name_len;
 use pack::cells::cell;
 use pack::record::Pack;
@@ -102,35 +101,26 @@ pub fn len_at(pack: &[u8], offsets: &[u16], at: usize) -> usize
 }
 
 // A transition: its target's length.
-fn target_len(pack: &[u8], names: usize, offsets: &[u16], memo: &[u16], at: usize) -> Number
-    requires { (length pack.now ≤ max_bytes) × RowsSound pack.now names memo.now }
-    ensures { (ns : List Name) → length ns ≡ names → result ≡ target_t ns pack.now offsets.now at }
+fn target_len(drawing: &Drawing, offsets: &[u16], at: usize) -> Number
+    ensures { (ns : List Name) → length ns ≡ drawing.now.pack.names → result ≡ target_t ns drawing.now.pack.bytes.now offsets.now at }
 {
-    let i = number(pack, guard_end(pack, names, memo, at));
+    let i = number(drawing.pack.bytes, drawing.guard_end(at));
     Number {
-        value: name_len(pack, offsets, i.value),
+        value: name_len(drawing.pack.bytes, offsets, i.value),
         next: i.next,
     }
 }
 
 // The head of the state at `at`, whose transitions begin at m: the longest name, and where its regions' count stands.
-pub fn read_state_head(
-    pack: &[u8],
-    names: usize,
-    offsets: &[u16],
-    memo: &[u16],
-    at: usize,
-    m: usize,
-) -> Number
-    requires { (length pack.now ≤ max_bytes) × RowsSound pack.now names memo.now }
-    ensures { (ns : List Name) → length ns ≡ names → m ≡ moves_at ns pack.now at → result ≡ head_t ns pack.now offsets.now at }
+pub fn read_state_head(drawing: &Drawing, offsets: &[u16], at: usize, m: usize) -> Number
+    ensures { (ns : List Name) → length ns ≡ drawing.now.pack.names → m ≡ moves_at ns drawing.now.pack.bytes.now at → result ≡ head_t ns drawing.now.pack.bytes.now offsets.now at }
 {
-    let i = number(pack, at);
-    let t = number(pack, m);
+    let i = number(drawing.pack.bytes, at);
+    let t = number(drawing.pack.bytes, m);
     let mut p = t.next;
-    let mut a = name_len(pack, offsets, i.value);
+    let mut a = name_len(drawing.pack.bytes, offsets, i.value);
     for _ in 0..t.value {
-        let x = target_len(pack, names, offsets, memo, p);
+        let x = target_len(drawing, offsets, p);
         a = a.max(x.value);
         p = x.next;
     }
@@ -138,19 +128,18 @@ pub fn read_state_head(
 }
 
 // The same, looked up where it is kept.
-pub fn state_head(pack: &[u8], names: usize, offsets: &[u16], memo: &[u16], at: usize) -> Number
-    requires { (length pack.now ≤ max_bytes) × MemoSound pack.now names offsets.now memo.now }
-    ensures { (ns : List Name) → length ns ≡ names → result ≡ head_t ns pack.now offsets.now at }
+pub fn state_head(tables: &NameTables, at: usize) -> Number
+    ensures { (ns : List Name) → length ns ≡ tables.now.drawing.pack.names → result ≡ head_t ns tables.now.drawing.pack.bytes.now tables.now.offsets.now at }
 {
-    let r = memo_regions(memo, at);
+    let r = memo_regions(tables.drawing.memo, at);
     if 0 < r {
         return Number {
-            value: memo_longest(memo, at),
+            value: memo_longest(tables.drawing.memo, at),
             next: r,
         };
     }
-    let m = moves_of(pack, names, memo, at);
-    read_state_head(pack, names, offsets, memo, at, m)
+    let m = tables.drawing.moves_of(at);
+    read_state_head(&tables.drawing, tables.offsets, at, m)
 }
 
 // --- Regions without states that follow one another: how many is kept once, so that a visit passes over all of them at once.
@@ -304,34 +293,33 @@ fn qualified_len(i: usize, w: usize, a: usize, next: usize, states: usize) -> Re
 // One state: it is counted, then its regions, then its refinement.
 #[cycle(resolve_state_resolve_states)]
 fn resolve_state(
-    pack: &[u8],
-    names: usize,
-    offsets: &[u16],
-    machines: &[u16],
-    memo: &[u16],
+    tables: &NameTables,
     levels: usize,
     p: RefineStack,
     at: usize,
     count: usize,
 ) -> Resolved
-    requires { (length pack.now ≤ max_bytes) × MemoSound pack.now names offsets.now memo.now }
-    ensures { (ns : List Name) → length ns ≡ names → result ≡ state_w ns pack.now offsets.now machines.now (walk_in ns pack.now offsets.now machines.now levels) p at count }
+    ensures { (ns : List Name) → length ns ≡ tables.now.drawing.pack.names → result ≡ state_w ns tables.now.drawing.pack.bytes.now tables.now.offsets.now tables.now.machines.now (walk_in ns tables.now.drawing.pack.bytes.now tables.now.offsets.now tables.now.machines.now levels) p at count }
 {
     if Pack::STATES <= count {
         return Resolved::Large;
     }
-    let h = state_head(pack, names, offsets, memo, at);
-    let t = number(pack, h.next);
+    let h = state_head(tables, at);
+    let t = number(tables.drawing.pack.bytes, h.next);
     let mut n = t.value;
     let mut o = t.next;
     let mut c = count + 1;
     let mut a = h.value;
     while 0 < n {
-        let k = run_length(memo, n, o);
-        let g = take_regions(pack, offsets, memo, k, o);
-        let e = resolve_states(
-            pack, names, offsets, machines, memo, levels, p, g.states, g.next, c,
+        let k = run_length(tables.drawing.memo, n, o);
+        let g = take_regions(
+            tables.drawing.pack.bytes,
+            tables.offsets,
+            tables.drawing.memo,
+            k,
+            o,
         );
+        let e = resolve_states(tables, levels, p, g.states, g.next, c);
         let Resolved::Went(next, states, longest) = e else {
             return e;
         };
@@ -340,39 +328,47 @@ fn resolve_state(
         o = next;
         c = states;
     }
-    let f = number(pack, o);
+    let f = number(tables.drawing.pack.bytes, o);
     if f.value == Pack::ABSENT {
         return Resolved::Went(f.next, c, a);
     }
-    let i = number(pack, at);
-    let d = refinement(pack, offsets, machines, p, i.value, f.value);
+    let i = number(tables.drawing.pack.bytes, at);
+    let d = refinement(
+        tables.drawing.pack.bytes,
+        tables.offsets,
+        tables.machines,
+        p,
+        i.value,
+        f.value,
+    );
     let Resolved::Went(b, k, v) = d else {
         return d;
     };
     let q = push(p, f.value);
-    let y = resolve_states(pack, names, offsets, machines, memo, levels, q, k, b, c);
+    let y = resolve_states(tables, levels, q, k, b, c);
     let Resolved::Went(_, j, w) = y else {
         return y;
     };
-    qualified_len(name_len(pack, offsets, i.value), v.max(w), a, f.next, j)
+    qualified_len(
+        name_len(tables.drawing.pack.bytes, tables.offsets, i.value),
+        v.max(w),
+        a,
+        f.next,
+        j,
+    )
 }
 
 // So many states, with so many levels left: with none they may not open.
 #[cycle(resolve_state_resolve_states)]
 fn resolve_states(
-    pack: &[u8],
-    names: usize,
-    offsets: &[u16],
-    machines: &[u16],
-    memo: &[u16],
+    tables: &NameTables,
     levels: usize,
     p: RefineStack,
     count: usize,
     at: usize,
     done: usize,
 ) -> Resolved
-    requires { (length pack.now ≤ max_bytes) × MemoSound pack.now names offsets.now memo.now }
-    ensures { (ns : List Name) → length ns ≡ names → result ≡ walk_in ns pack.now offsets.now machines.now levels p count at done }
+    ensures { (ns : List Name) → length ns ≡ tables.now.drawing.pack.names → result ≡ walk_in ns tables.now.drawing.pack.bytes.now tables.now.offsets.now tables.now.machines.now levels p count at done }
 {
     if levels == 0 {
         return Resolved::Large;
@@ -381,7 +377,7 @@ fn resolve_states(
     let mut c = done;
     let mut a: usize = 0;
     for _ in 0..count {
-        let e = resolve_state(pack, names, offsets, machines, memo, levels - 1, p, o, c);
+        let e = resolve_state(tables, levels - 1, p, o, c);
         let Resolved::Went(next, states, longest) = e else {
             return e;
         };
@@ -393,29 +389,9 @@ fn resolve_states(
 }
 
 // Resolves the machine of the name m, whose initial state stands at `at`.
-pub fn resolve_machine(
-    pack: &[u8],
-    names: usize,
-    offsets: &[u16],
-    machines: &[u16],
-    memo: &[u16],
-    m: usize,
-    at: usize,
-) -> Resolved
-    requires { (length pack.now ≤ max_bytes) × MemoSound pack.now names offsets.now memo.now }
-    ensures { (ns : List Name) → length ns ≡ names → result ≡ machine_w ns pack.now offsets.now machines.now m at }
+pub fn resolve_machine(tables: &NameTables, m: usize, at: usize) -> Resolved
+    ensures { (ns : List Name) → length ns ≡ tables.now.drawing.pack.names → result ≡ machine_w ns tables.now.drawing.pack.bytes.now tables.now.offsets.now tables.now.machines.now m at }
 {
-    let k = machine(pack, at);
-    resolve_states(
-        pack,
-        names,
-        offsets,
-        machines,
-        memo,
-        Pack::LEVELS,
-        start_stack(m),
-        k.value,
-        k.next,
-        0,
-    )
+    let k = machine(tables.drawing.pack.bytes, at);
+    resolve_states(tables, Pack::LEVELS, start_stack(m), k.value, k.next, 0)
 }

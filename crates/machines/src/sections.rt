@@ -20,7 +20,8 @@ ghost use Rattle.machines.specs.WriteNodesAt.{enums_part_t, origins_part_t, sect
 use crate::added::{
     added_equations, adds_equations, equation_count, owned, owned_count, small, sum_of,
 };
-use crate::checked_read::number;
+use crate::checked_read::{CheckedPack, number};
+use crate::drawing::Drawing;
 use crate::emit_machine::put_all_enums;
 use crate::layout::between;
 use crate::table::entry;
@@ -53,8 +54,7 @@ fn put_numbers(o: usize, m: usize, f: usize, e: usize, out: &mut [u8], writer: W
 
 // The origin of the machine i, where it has an owner and `first` equations come before it.
 fn put_origin(
-    pack: &[u8],
-    names: usize,
+    pack: &CheckedPack,
     defs: &[usize],
     regcounts: &[usize],
     i: usize,
@@ -62,25 +62,24 @@ fn put_origin(
     out: &mut [u8],
     writer: Writer,
 ) -> Writer
-    requires { (length pack.now ≤ max_bytes) × (first < 1099511627776) }
-    ensures { (ns : List Name) → length ns ≡ names → (old l : List ℕ) → state_of out.new l result ≡ render old (given_origin_t ns pack.now defs.now regcounts.now first i) (state_of out.old l writer) }
+    requires { first < 1099511627776 }
+    ensures { (ns : List Name) → length ns ≡ pack.now.names → (old l : List ℕ) → state_of out.new l result ≡ render old (given_origin_t ns pack.now.bytes.now defs.now regcounts.now first i) (state_of out.old l writer) }
 {
     let at = entry(defs, i);
-    let m = number(pack, at);
-    let o = number(pack, m.next);
+    let m = number(pack.bytes, at);
+    let o = number(pack.bytes, m.next);
     if o.value == Pack::ABSENT {
         return writer;
     }
     let g = entry(regcounts, i);
-    let e = equation_count(pack, names, at, g);
+    let e = equation_count(pack, at, g);
     put_numbers(o.value, m.value, first, e, out, writer)
 }
 
 // How many equations come before the machine i in its owner. `count` old nodes stand from `from` on; they and the earlier
 // machines are asked only where the owner is another node than before.
 fn count_before(
-    pack: &[u8],
-    names: usize,
+    pack: &CheckedPack,
     defs: &[usize],
     receivers: &[usize],
     regcounts: &[usize],
@@ -89,10 +88,10 @@ fn count_before(
     i: usize,
     d: Counted,
 ) -> Counted
-    requires { (length pack.now ≤ max_bytes) × (i ≤ word_range) × (d.first ≤ word_range + 1048576 * i) }
-    ensures { (result.first ≤ word_range + 1048576 * i) × ((ns : List Name) → length ns ≡ names → result ≡ counted_t ns pack.now defs.now receivers.now regcounts.now count from d i) }
+    requires { (i ≤ word_range) × (d.first ≤ word_range + 1048576 * i) }
+    ensures { (result.first ≤ word_range + 1048576 * i) × ((ns : List Name) → length ns ≡ pack.now.names → result ≡ counted_t ns pack.now.bytes.now defs.now receivers.now regcounts.now count from d i) }
 {
-    let o = owned(pack, defs, i);
+    let o = owned(pack.bytes, defs, i);
     let k = entry(receivers, i);
     if o == 0 {
         return d;
@@ -100,8 +99,8 @@ fn count_before(
     if d.node == k {
         return d;
     }
-    let b = old_equations(pack, names, count, from, k);
-    let c = added_equations(pack, names, defs, receivers, regcounts, i, k);
+    let b = old_equations(pack, count, from, k);
+    let c = added_equations(pack, defs, receivers, regcounts, i, k);
     Counted {
         node: k,
         first: b + c,
@@ -110,18 +109,17 @@ fn count_before(
 
 // The same past the machine i.
 fn count_past(
-    pack: &[u8],
-    names: usize,
+    pack: &CheckedPack,
     defs: &[usize],
     receivers: &[usize],
     regcounts: &[usize],
     i: usize,
     d: Counted,
 ) -> Counted
-    requires { (length pack.now ≤ max_bytes) × (i ≤ word_range) × (d.first ≤ word_range + 1048576 * i) }
-    ensures { (result.first ≤ word_range + 1048576 * (i + 1)) × ((ns : List Name) → length ns ≡ names → result ≡ passed_t ns pack.now defs.now receivers.now regcounts.now d i) }
+    requires { (i ≤ word_range) × (d.first ≤ word_range + 1048576 * i) }
+    ensures { (result.first ≤ word_range + 1048576 * (i + 1)) × ((ns : List Name) → length ns ≡ pack.now.names → result ≡ passed_t ns pack.now.bytes.now defs.now receivers.now regcounts.now d i) }
 {
-    let b = adds_equations(pack, names, defs, receivers, regcounts, d.node, i);
+    let b = adds_equations(pack, defs, receivers, regcounts, d.node, i);
     Counted {
         node: d.node,
         first: d.first + b,
@@ -130,8 +128,7 @@ fn count_past(
 
 // The origins of the first n machines.
 pub fn put_origins(
-    pack: &[u8],
-    names: usize,
+    pack: &CheckedPack,
     defs: &[usize],
     receivers: &[usize],
     regcounts: &[usize],
@@ -141,19 +138,19 @@ pub fn put_origins(
     out: &mut [u8],
     writer: Writer,
 ) -> Writer
-    requires { (length pack.now ≤ max_bytes) × (n ≤ word_range) }
-    ensures { (ns : List Name) → length ns ≡ names → (old l : List ℕ) → state_of out.new l result ≡ render old (each_t (own_origin_t ns pack.now defs.now receivers.now regcounts.now count from) n 0) (state_of out.old l writer) }
+    requires { n ≤ word_range }
+    ensures { (ns : List Name) → length ns ≡ pack.now.names → (old l : List ℕ) → state_of out.new l result ≡ render old (each_t (own_origin_t ns pack.now.bytes.now defs.now receivers.now regcounts.now count from) n 0) (state_of out.old l writer) }
 {
-    let b = old_equations(pack, names, count, from, 0);
+    let b = old_equations(pack, count, from, 0);
     let mut d = Counted { node: 0, first: b };
     let mut v = writer;
     for i in 0..n {
         if v.full {
             return v;
         }
-        d = count_before(pack, names, defs, receivers, regcounts, count, from, i, d);
-        v = put_origin(pack, names, defs, regcounts, i, d.first, out, v);
-        d = count_past(pack, names, defs, receivers, regcounts, i, d);
+        d = count_before(pack, defs, receivers, regcounts, count, from, i, d);
+        v = put_origin(pack, defs, regcounts, i, d.first, out, v);
+        d = count_past(pack, defs, receivers, regcounts, i, d);
     }
     v
 }
@@ -161,11 +158,9 @@ pub fn put_origins(
 // All enums: those from `at` on up to `end`, after their count, and those of the first n machines.
 fn put_enums_part(
     old: &[u8],
-    pack: &[u8],
-    names: usize,
+    drawing: &Drawing,
     offsets: &[u16],
     machines: &[u16],
-    memo: &[u16],
     layout: &mut [usize],
     rows: &mut [usize],
     qualified: &mut [u8],
@@ -178,24 +173,23 @@ fn put_enums_part(
     made: &mut [u8],
     writer: Writer,
 ) -> Writer
-    requires { (length pack.now ≤ max_bytes) × (n ≤ word_range) × Long layout.old rows.old qualified.old × RowsSound pack.now names memo.now }
-    ensures { (ns : List Name) → length ns ≡ names → (receivers : List ℕ) (ens : ℕ → List Item) → AllWrite old.now (enums_at ns pack.now offsets.now machines.now) defs.now n ens → state_of out.new made.new result ≡ render old.now (enums_part_t ns pack.now defs.now receivers regcounts.now offsets.now n ens at end) (state_of out.old made.old writer) }
+    requires { (n ≤ word_range) × Long layout.old rows.old qualified.old }
+    ensures { (ns : List Name) → length ns ≡ drawing.now.pack.names → (receivers : List ℕ) (ens : ℕ → List Item) → AllWrite old.now (enums_at ns drawing.now.pack.bytes.now offsets.now machines.now) defs.now n ens → state_of out.new made.new result ≡ render old.now (enums_part_t ns drawing.now.pack.bytes.now defs.now receivers regcounts.now offsets.now n ens at end) (state_of out.old made.old writer) }
 {
-    let c = number(pack, at);
+    let c = number(drawing.pack.bytes, at);
     let o = small(c.value);
     let g = sum_of(regcounts, n);
-    let h = between(pack, c.next, end);
+    let h = between(drawing.pack.bytes, c.next, end);
     let a = put_u16(out, writer, o + g);
     let b = put_bytes(h, out, a);
     put_all_enums(
-        old, pack, names, offsets, machines, memo, layout, rows, qualified, defs, n, out, made, b,
+        old, drawing, offsets, machines, layout, rows, qualified, defs, n, out, made, b,
     )
 }
 
 // All origins: those from `at` on up to `end`, after their count, and those of the first n machines. The count of nodes is at `nodes`.
 fn put_origins_part(
-    pack: &[u8],
-    names: usize,
+    pack: &CheckedPack,
     defs: &[usize],
     receivers: &[usize],
     regcounts: &[usize],
@@ -206,19 +200,17 @@ fn put_origins_part(
     out: &mut [u8],
     writer: Writer,
 ) -> Writer
-    requires { (length pack.now ≤ max_bytes) × (n ≤ word_range) }
-    ensures { (ns : List Name) → length ns ≡ names → (offsets old l : List ℕ) → state_of out.new l result ≡ render old (origins_part_t ns pack.now defs.now receivers.now regcounts.now offsets n at end nodes) (state_of out.old l writer) }
+    requires { n ≤ word_range }
+    ensures { (ns : List Name) → length ns ≡ pack.now.names → (offsets old l : List ℕ) → state_of out.new l result ≡ render old (origins_part_t ns pack.now.bytes.now defs.now receivers.now regcounts.now offsets n at end nodes) (state_of out.old l writer) }
 {
-    let c = number(pack, at);
+    let c = number(pack.bytes, at);
     let o = small(c.value);
-    let d = number(pack, nodes);
-    let g = owned_count(pack, defs, n);
-    let h = between(pack, c.next, end);
+    let d = number(pack.bytes, nodes);
+    let g = owned_count(pack.bytes, defs, n);
+    let h = between(pack.bytes, c.next, end);
     let a = put_u16(out, writer, o + g);
     let b = put_bytes(h, out, a);
-    put_origins(
-        pack, names, defs, receivers, regcounts, n, d.value, d.next, out, b,
-    )
+    put_origins(pack, defs, receivers, regcounts, n, d.value, d.next, out, b)
 }
 
 // All that follows the names: no machines are left, activations stay.
@@ -242,14 +234,20 @@ pub fn put_sections(
     requires { (length pack.now ≤ max_bytes) × (n ≤ word_range) × Long layout.old rows.old qualified.old × RowsSound pack.now sections.names memo.now }
     ensures { (ns : List Name) → length ns ≡ sections.names → (eqs ens : ℕ → List Item) → AllWrite old.now (equations_at ns pack.now offsets.now machines.now) defs.now n eqs → AllWrite old.now (enums_at ns pack.now offsets.now machines.now) defs.now n ens → state_of out.new made.new result ≡ render old.now (sections_t ns pack.now defs.now receivers.now regcounts.now offsets.now n eqs ens sections) (started out.old made.old) }
 {
+    let checked = CheckedPack {
+        bytes: pack,
+        names: sections.names,
+    };
+    let drawing = Drawing {
+        pack: checked,
+        memo,
+    };
     let w = start();
     let a = put_enums_part(
         old,
-        pack,
-        sections.names,
+        &drawing,
         offsets,
         machines,
-        memo,
         layout,
         rows,
         qualified,
@@ -264,11 +262,9 @@ pub fn put_sections(
     );
     let b = put_nodes(
         old,
-        pack,
-        sections.names,
+        &drawing,
         offsets,
         machines,
-        memo,
         layout,
         rows,
         qualified,
@@ -285,8 +281,7 @@ pub fn put_sections(
     let h = between(pack, sections.activations, sections.origins);
     let d = put_bytes(h, out, c);
     put_origins_part(
-        pack,
-        sections.names,
+        &checked,
         defs,
         receivers,
         regcounts,

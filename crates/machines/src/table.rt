@@ -1,14 +1,12 @@
 // Tables by name index, made once: where a name stands, and where the machine of that name is.
-ghost use Rattle.std.specs.Prelude.{List, ◌≡◌, ◌≤◌, length, get_or, set, Ok};
+ghost use Rattle.std.specs.Prelude.{List, ◌≡◌, length, get_or, set, Ok};
 ghost use Rattle.wire.specs.Code.{onward};
 ghost use Rattle.pack_rules.specs.Read.{optional_in, ports_in};
 ghost use Rattle.pack_rules.specs.Names.{Name};
-ghost use Rattle.pack_rules.specs.Limits.{max_bytes};
-ghost use Rattle.machines.specs.MemoSound.{RowsSound};
 ghost use Rattle.machines.specs.Tables.{initial_in, outputs_in, states_end, machines_placed, names_placed, next_name, len_of};
 
-use crate::checked_read::number;
-use crate::memo::past_states;
+use crate::checked_read::{CheckedPack, number};
+use crate::drawing::Drawing;
 use pack::cells::{byte_at, cell, put_cell};
 use pack::check::reached;
 use pack::parts::{skip_optional, skip_ports};
@@ -62,61 +60,55 @@ pub fn name_len(pack: &[u8], offsets: &[u16], i: usize) -> usize
 
 // A machine's owner and its inputs.
 #[tactic(auto, unfolding(wire::specs::Code::onward, wire::specs::Code::next, wire::specs::Code::skips))]
-fn skip_inputs(pack: &[u8], names: usize, at: usize) -> Skipped
-    requires { length pack.now ≤ max_bytes }
-    ensures { (ns : List Name) → length ns ≡ names → result ≡ onward (ports_in ns pack.now) (onward (optional_in ns pack.now) (Ok at)) }
+fn skip_inputs(pack: &CheckedPack, at: usize) -> Skipped
+    ensures { (ns : List Name) → length ns ≡ pack.now.names → result ≡ onward (ports_in ns pack.now.bytes.now) (onward (optional_in ns pack.now.bytes.now) (Ok at)) }
 {
-    let owner = skip_optional(pack, names, at)?;
-    skip_ports(pack, names, owner)
+    let owner = skip_optional(pack.bytes, pack.names, at)?;
+    skip_ports(pack.bytes, pack.names, owner)
 }
 
 // A machine's owner and all its ports.
 #[tactic(auto, unfolding(wire::specs::Code::onward, wire::specs::Code::next, wire::specs::Code::skips))]
-fn skip_interface(pack: &[u8], names: usize, at: usize) -> Skipped
-    requires { length pack.now ≤ max_bytes }
-    ensures { (ns : List Name) → length ns ≡ names → result ≡ onward (ports_in ns pack.now) (onward (ports_in ns pack.now) (onward (ports_in ns pack.now) (onward (optional_in ns pack.now) (Ok at)))) }
+fn skip_interface(pack: &CheckedPack, at: usize) -> Skipped
+    ensures { (ns : List Name) → length ns ≡ pack.now.names → result ≡ onward (ports_in ns pack.now.bytes.now) (onward (ports_in ns pack.now.bytes.now) (onward (ports_in ns pack.now.bytes.now) (onward (optional_in ns pack.now.bytes.now) (Ok at)))) }
 {
-    let inputs = skip_inputs(pack, names, at)?;
-    let outputs = skip_ports(pack, names, inputs)?;
-    skip_ports(pack, names, outputs)
+    let inputs = skip_inputs(pack, at)?;
+    let outputs = skip_ports(pack.bytes, pack.names, inputs)?;
+    skip_ports(pack.bytes, pack.names, outputs)
 }
 
 // From a machine's owner, past its inputs: where its outputs are.
-pub fn to_outputs(pack: &[u8], names: usize, at: usize) -> usize
-    requires { length pack.now ≤ max_bytes }
-    ensures { (ns : List Name) → length ns ≡ names → result ≡ outputs_in ns pack.now at }
+pub fn to_outputs(pack: &CheckedPack, at: usize) -> usize
+    ensures { (ns : List Name) → length ns ≡ pack.now.names → result ≡ outputs_in ns pack.now.bytes.now at }
 {
-    reached(skip_inputs(pack, names, at))
+    reached(skip_inputs(pack, at))
 }
 
 // From a machine's owner, past its ports: where its initial state is.
-pub fn to_initial(pack: &[u8], names: usize, at: usize) -> usize
-    requires { length pack.now ≤ max_bytes }
-    ensures { (ns : List Name) → length ns ≡ names → result ≡ initial_in ns pack.now at }
+pub fn to_initial(pack: &CheckedPack, at: usize) -> usize
+    ensures { (ns : List Name) → length ns ≡ pack.now.names → result ≡ initial_in ns pack.now.bytes.now at }
 {
-    reached(skip_interface(pack, names, at))
+    reached(skip_interface(pack, at))
 }
 
 // From a machine's initial state, past its states.
-pub fn after_states(pack: &[u8], names: usize, memo: &[u16], at: usize) -> usize
-    requires { (length pack.now ≤ max_bytes) × RowsSound pack.now names memo.now }
-    ensures { (ns : List Name) → length ns ≡ names → result ≡ states_end ns pack.now at }
+pub fn after_states(drawing: &Drawing, at: usize) -> usize
+    ensures { (ns : List Name) → length ns ≡ drawing.now.pack.names → result ≡ states_end ns drawing.now.pack.bytes.now at }
 {
-    let i = number(pack, at);
-    past_states(pack, names, memo, i.next)
+    let i = number(drawing.pack.bytes, at);
+    drawing.past_states(i.next)
 }
 
 // Where the initial state of the last machine of each name is. In a table of zeros, 0 stays where there is none.
-pub fn place_machines(pack: &[u8], names: usize, memo: &[u16], at: usize, machines: &mut [u16])
-    requires { (length pack.now ≤ max_bytes) × RowsSound pack.now names memo.now }
-    ensures { (ns : List Name) → length ns ≡ names → machines.new ≡ machines_placed ns pack.now at machines.old }
+pub fn place_machines(drawing: &Drawing, at: usize, machines: &mut [u16])
+    ensures { (ns : List Name) → length ns ≡ drawing.now.pack.names → machines.new ≡ machines_placed ns drawing.now.pack.bytes.now at machines.old }
 {
-    let c = number(pack, at);
+    let c = number(drawing.pack.bytes, at);
     let mut p = c.next;
     for _ in 0..c.value {
-        let i = number(pack, p);
-        let w = to_initial(pack, names, i.next);
+        let i = number(drawing.pack.bytes, p);
+        let w = to_initial(&drawing.pack, i.next);
         put_cell(machines, i.value, w);
-        p = after_states(pack, names, memo, w);
+        p = after_states(drawing, w);
     }
 }

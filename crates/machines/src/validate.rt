@@ -2,15 +2,14 @@
 // region call each other, with the levels left as the falling number. Names within a region share their prefix, so that they are
 // compared as indexes. `memo` has of a drawn region which state is the first with an unknown target: where the rows of the layout are
 // those of that region, which is tested, its transitions are not looked at again (`TargetMemo`).
-ghost use Rattle.std.specs.Prelude.{List, ◌≡◌, ◌+◌, ◌≤◌, get_or, length, IfSome};
+ghost use Rattle.std.specs.Prelude.{List, ◌≡◌, ◌+◌, get_or, length, IfSome};
 ghost use Rattle.pack_rules.specs.Names.{Name};
-ghost use Rattle.pack_rules.specs.Limits.{max_bytes};
-ghost use Rattle.machines.specs.MemoSound.{RowsSound};
 ghost use Rattle.machines.specs.ValidateAt.{AllRecalled, Has, OneRecalled, checked_region, checked_state, has_t, is_state_t, onward as onward_of, recall_t as foretold_of, row_drawn, rows_drawn, targets_t, unknown};
 
 use crate::checked_read::number;
+use crate::drawing::Drawing;
 use crate::layout::{first, inner, layout_word};
-use crate::memo::{UNKNOWN_TARGET, guard_end, memo_at, memo_beside, moves_of, past_of};
+use crate::memo::{UNKNOWN_TARGET, memo_at, memo_beside};
 use crate::table::entry;
 
 // --- What is known of the targets of a region's states before they are looked at: `memo` has of a drawn region which state is the
@@ -26,34 +25,24 @@ pub struct TargetMemo {
 }
 
 // Whether the row at the word p is that of the state drawn at `at`.
-fn row_drawn(pack: &[u8], names: usize, memo: &[u16], layout: &[usize], p: usize, at: usize) -> bool
-    requires { (length pack.now ≤ max_bytes) × RowsSound pack.now names memo.now }
-    ensures { (ns : List Name) → length ns ≡ names → result ≡ row_drawn ns pack.now layout.now p at }
+fn row_drawn(drawing: &Drawing, layout: &[usize], p: usize, at: usize) -> bool
+    ensures { (ns : List Name) → length ns ≡ drawing.now.pack.names → result ≡ row_drawn ns drawing.now.pack.bytes.now layout.now p at }
 {
-    entry(layout, p) == at && layout_word(layout, p, 1) == moves_of(pack, names, memo, at)
+    entry(layout, p) == at && layout_word(layout, p, 1) == drawing.moves_of(at)
 }
 
 // Whether `count` rows from the word `from` on are those of the states drawn one after the other from f on.
-fn rows_drawn(
-    pack: &[u8],
-    names: usize,
-    memo: &[u16],
-    layout: &[usize],
-    count: usize,
-    from: usize,
-    f: usize,
-) -> bool
-    requires { (length pack.now ≤ max_bytes) × RowsSound pack.now names memo.now }
-    ensures { (ns : List Name) → length ns ≡ names → result ≡ rows_drawn ns pack.now layout.now count from f }
+fn rows_drawn(drawing: &Drawing, layout: &[usize], count: usize, from: usize, f: usize) -> bool
+    ensures { (ns : List Name) → length ns ≡ drawing.now.pack.names → result ≡ rows_drawn ns drawing.now.pack.bytes.now layout.now count from f }
 {
     let mut p = from;
     let mut at = f;
     for _ in 0..count {
-        if !row_drawn(pack, names, memo, layout, p, at) {
+        if !row_drawn(drawing, layout, p, at) {
             return false;
         }
         p = layout_word(layout, p, 4);
-        at = past_of(pack, names, memo, at);
+        at = drawing.past_of(at);
     }
     true
 }
@@ -70,15 +59,8 @@ fn empty_memo() -> TargetMemo
 }
 
 // What is kept of the states of the region at the word q, where they are those of a drawn region.
-pub fn recall_targets(
-    pack: &[u8],
-    names: usize,
-    memo: &[u16],
-    layout: &[usize],
-    q: usize,
-) -> TargetMemo
-    requires { (length pack.now ≤ max_bytes) × RowsSound pack.now names memo.now }
-    ensures { AllRecalled pack.now names layout.now result q (get_or layout.now (q + 6) 0) (q + 9) }
+pub fn recall_targets(drawing: &Drawing, layout: &[usize], q: usize) -> TargetMemo
+    ensures { AllRecalled drawing.now.pack.bytes.now drawing.now.pack.names layout.now result q (get_or layout.now (q + 6) 0) (q + 9) }
 {
     let n = layout_word(layout, q, 6);
     let p = first(layout, q);
@@ -86,15 +68,15 @@ pub fn recall_targets(
     if f < 5 {
         return empty_memo();
     }
-    let x = memo_at(memo, f - 5, UNKNOWN_TARGET);
+    let x = memo_at(drawing.memo, f - 5, UNKNOWN_TARGET);
     if x == 0 {
         return empty_memo();
     }
-    let c = number(pack, f - 2);
+    let c = number(drawing.pack.bytes, f - 2);
     if c.value == n {
         return TargetMemo {
-            known: rows_drawn(pack, names, memo, layout, n, p, f),
-            fine: memo_beside(memo, f - 5),
+            known: rows_drawn(drawing, layout, n, p, f),
+            fine: memo_beside(drawing.memo, f - 5),
             name: x - 1,
         };
     }
@@ -164,23 +146,15 @@ fn has_target(pack: &[u8], layout: &[usize], q: usize, last: Option<usize>, x: u
 }
 
 // The targets of the state at the word p, in the region at the word q.
-fn check_targets(
-    pack: &[u8],
-    names: usize,
-    memo: &[u16],
-    layout: &[usize],
-    q: usize,
-    p: usize,
-) -> Checked
-    requires { (length pack.now ≤ max_bytes) × RowsSound pack.now names memo.now }
-    ensures { (ns : List Name) → length ns ≡ names → result ≡ targets_t ns pack.now layout.now q p }
+fn check_targets(drawing: &Drawing, layout: &[usize], q: usize, p: usize) -> Checked
+    ensures { (ns : List Name) → length ns ≡ drawing.now.pack.names → result ≡ targets_t ns drawing.now.pack.bytes.now layout.now q p }
 {
-    let c = number(pack, layout_word(layout, p, 1));
+    let c = number(drawing.pack.bytes, layout_word(layout, p, 1));
     let mut o = c.next;
     let mut last = None;
     for _ in 0..c.value {
-        let x = number(pack, guard_end(pack, names, memo, o));
-        if !has_target(pack, layout, q, last, x.value) {
+        let x = number(drawing.pack.bytes, drawing.guard_end(o));
+        if !has_target(drawing.pack.bytes, layout, q, last, x.value) {
             return Checked::Target {
                 state: p,
                 region: q,
@@ -209,45 +183,41 @@ fn recall(v: TargetMemo, q: usize, p: usize) -> Checked
 
 // The targets of the state at the word p, in the region at the word q, looked at where nothing is known.
 fn check_transitions(
-    pack: &[u8],
-    names: usize,
-    memo: &[u16],
+    drawing: &Drawing,
     layout: &[usize],
     v: TargetMemo,
     q: usize,
     p: usize,
 ) -> Checked
-    requires { (length pack.now ≤ max_bytes) × RowsSound pack.now names memo.now × OneRecalled pack.now names layout.now v q p }
-    ensures { (ns : List Name) → length ns ≡ names → result ≡ targets_t ns pack.now layout.now q p }
+    requires { OneRecalled drawing.now.pack.bytes.now drawing.now.pack.names layout.now v q p }
+    ensures { (ns : List Name) → length ns ≡ drawing.now.pack.names → result ≡ targets_t ns drawing.now.pack.bytes.now layout.now q p }
 {
     if v.known {
         return recall(v, q, p);
     }
-    check_targets(pack, names, memo, layout, q, p)
+    check_targets(drawing, layout, q, p)
 }
 
 // A state: its targets, then its regions.
 #[cycle(validate_region_validate_state)]
 fn validate_state(
-    pack: &[u8],
-    names: usize,
-    memo: &[u16],
+    drawing: &Drawing,
     layout: &[usize],
     levels: usize,
     v: TargetMemo,
     q: usize,
     p: usize,
 ) -> Checked
-    requires { (length pack.now ≤ max_bytes) × RowsSound pack.now names memo.now × OneRecalled pack.now names layout.now v q p }
-    ensures { (ns : List Name) → length ns ≡ names → result ≡ checked_state ns pack.now layout.now (checked_region ns pack.now layout.now levels) q p }
+    requires { OneRecalled drawing.now.pack.bytes.now drawing.now.pack.names layout.now v q p }
+    ensures { (ns : List Name) → length ns ≡ drawing.now.pack.names → result ≡ checked_state ns drawing.now.pack.bytes.now layout.now (checked_region ns drawing.now.pack.bytes.now layout.now levels) q p }
 {
-    let c = check_transitions(pack, names, memo, layout, v, q, p);
+    let c = check_transitions(drawing, layout, v, q, p);
     let Checked::Fine = c else {
         return c;
     };
     let mut g = inner(layout, p);
     for _ in 0..layout_word(layout, p, 5) {
-        let r = validate_region(pack, names, memo, layout, levels, g);
+        let r = validate_region(drawing, layout, levels, g);
         let Checked::Fine = r else {
             return r;
         };
@@ -258,27 +228,19 @@ fn validate_state(
 
 // A region: its initial state, then its states.
 #[cycle(validate_region_validate_state)]
-pub fn validate_region(
-    pack: &[u8],
-    names: usize,
-    memo: &[u16],
-    layout: &[usize],
-    levels: usize,
-    q: usize,
-) -> Checked
-    requires { (length pack.now ≤ max_bytes) × RowsSound pack.now names memo.now }
-    ensures { (ns : List Name) → length ns ≡ names → result ≡ checked_region ns pack.now layout.now levels q }
+pub fn validate_region(drawing: &Drawing, layout: &[usize], levels: usize, q: usize) -> Checked
+    ensures { (ns : List Name) → length ns ≡ drawing.now.pack.names → result ≡ checked_region ns drawing.now.pack.bytes.now layout.now levels q }
 {
     if levels == 0 {
         return Checked::Fine;
     }
-    if !has_state(pack, layout, q, entry(layout, q)) {
+    if !has_state(drawing.pack.bytes, layout, q, entry(layout, q)) {
         return Checked::Initial(q);
     }
-    let mut v = recall_targets(pack, names, memo, layout, q);
+    let mut v = recall_targets(drawing, layout, q);
     let mut p = first(layout, q);
     for _ in 0..layout_word(layout, q, 6) {
-        let r = validate_state(pack, names, memo, layout, levels - 1, v, q, p);
+        let r = validate_state(drawing, layout, levels - 1, v, q, p);
         let Checked::Fine = r else {
             return r;
         };

@@ -5,11 +5,10 @@
 //   outputs            OutputUnassigned (`cover`)
 // Of all machines two tables are kept: `defs`, where each is drawn, and `regcounts`, how many regions it has, 0 where it is refused. A
 // refusal (`VerdictRow`) is not kept: the report judges the machine again.
-ghost use Rattle.std.specs.Prelude.{List, ◌≡◌, ◌<◌, ◌≤◌, ℕ, length};
+ghost use Rattle.std.specs.Prelude.{List, ◌≡◌, ◌<◌, ℕ, length};
 ghost use Rattle.pack_rules.specs.Names.{Name};
-ghost use Rattle.pack_rules.specs.Limits.{max_bytes, max_level};
+ghost use Rattle.pack_rules.specs.Limits.{max_level};
 ghost use Rattle.machines.specs.CoverAt.{uncovered_t};
-ghost use Rattle.machines.specs.MemoSound.{MemoSound, RowsSound};
 ghost use Rattle.machines.specs.AssignsMemo.{AssignmentSound, AssignsSound};
 ghost use Rattle.machines.specs.VerdictAt.{again_called, board_at, called_at, checked_j, judge_at, laid_j, named as named_of, no_name, outputs_j, refused_by, state_called};
 ghost use Rattle.machines.specs.EmitMachineAt.{Long};
@@ -17,6 +16,7 @@ ghost use Rattle.machines.specs.OwnersAt.{HasRegions, fill_t, machine_end, nth};
 
 use crate::checked_read::{after_port, number};
 use crate::cover::{ASSIGNS_MEMO, require_cover_region};
+use crate::drawing::{Drawing, NameTables};
 use crate::duplicates::duplicate_name;
 use crate::layout::{layout_machine, layout_word};
 use crate::resolve::{Resolved, resolve_machine};
@@ -146,23 +146,21 @@ fn again_called(qualified: &[u8], d: usize) -> NameRef
 // 0 where each state gives the output x, else the word of a state that does not. Where an output was asked for and is given, it need
 // not be asked for again: a machine may have it thousands of times.
 fn uncovered_output(
-    pack: &[u8],
-    names: usize,
-    memo: &[u16],
+    drawing: &Drawing,
     layout: &[usize],
     hints: &mut [u16],
     given: &mut [u8],
     x: usize,
 ) -> usize
-    requires { (length pack.now ≤ max_bytes) × RowsSound pack.now names memo.now × AssignsSound pack.now names memo.now hints.old × AssignmentSound pack.now names layout.now given.old }
-    ensures value { (ns : List Name) → length ns ≡ names → result ≡ uncovered_t ns pack.now layout.now x max_level 0 }
-    ensures assigns_sound { AssignsSound pack.now names memo.now hints.new }
-    ensures assignment_sound { AssignmentSound pack.now names layout.now given.new }
+    requires { AssignsSound drawing.now.pack.bytes.now drawing.now.pack.names drawing.now.memo.now hints.old × AssignmentSound drawing.now.pack.bytes.now drawing.now.pack.names layout.now given.old }
+    ensures value { (ns : List Name) → length ns ≡ drawing.now.pack.names → result ≡ uncovered_t ns drawing.now.pack.bytes.now layout.now x max_level 0 }
+    ensures assigns_sound { AssignsSound drawing.now.pack.bytes.now drawing.now.pack.names drawing.now.memo.now hints.new }
+    ensures assignment_sound { AssignmentSound drawing.now.pack.bytes.now drawing.now.pack.names layout.now given.new }
 {
     if 0 < byte_at(given, x) {
         return 0;
     }
-    let m = require_cover_region(pack, names, memo, layout, hints, x, Pack::LEVELS, 0);
+    let m = require_cover_region(drawing, layout, hints, x, Pack::LEVELS, 0);
     if m != 0 {
         return m;
     }
@@ -174,23 +172,20 @@ fn uncovered_output(
 // states give is remembered, and which outputs are given, a cell for each name. A pack has no more, by counting different names of 63
 // letters; that is not proved, and an output past the cells would be looked for again.
 fn judge_outputs(
-    pack: &[u8],
-    names: usize,
-    memo: &[u16],
+    drawing: &Drawing,
     layout: &[usize],
     count: usize,
     from: usize,
     regions: usize,
 ) -> VerdictRow
-    requires { (length pack.now ≤ max_bytes) × RowsSound pack.now names memo.now }
-    ensures { (ns : List Name) → length ns ≡ names → result ≡ outputs_j ns pack.now layout.now regions count from }
+    ensures { (ns : List Name) → length ns ≡ drawing.now.pack.names → result ≡ outputs_j ns drawing.now.pack.bytes.now layout.now regions count from }
 {
     let mut told = [0u16; ASSIGNS_MEMO];
     let mut given = [0u8; 17408];
     let mut p = from;
     for _ in 0..count {
-        let x = number(pack, p);
-        let m = uncovered_output(pack, names, memo, layout, &mut told, &mut given, x.value);
+        let x = number(drawing.pack.bytes, p);
+        let m = uncovered_output(drawing, layout, &mut told, &mut given, x.value);
         if m != 0 {
             return refused(
                 VerdictRow::OUTPUT_UNASSIGNED,
@@ -198,7 +193,7 @@ fn judge_outputs(
                 state_called(layout, m),
             );
         }
-        p = after_port(pack, names, p);
+        p = after_port(drawing.pack.bytes, drawing.pack.names, p);
     }
     VerdictRow {
         kind: VerdictRow::ACCEPTED,
@@ -210,21 +205,18 @@ fn judge_outputs(
 
 // What checking came to, and then the outputs, whose count stands at `outputs`.
 fn judge_checked(
-    pack: &[u8],
-    names: usize,
-    memo: &[u16],
+    drawing: &Drawing,
     layout: &[usize],
     c: Checked,
     outputs: usize,
     regions: usize,
 ) -> VerdictRow
-    requires { (length pack.now ≤ max_bytes) × RowsSound pack.now names memo.now }
-    ensures { (ns : List Name) → length ns ≡ names → result ≡ checked_j ns pack.now layout.now c outputs regions }
+    ensures { (ns : List Name) → length ns ≡ drawing.now.pack.names → result ≡ checked_j ns drawing.now.pack.bytes.now layout.now c outputs regions }
 {
     match c {
         Checked::Fine => {
-            let k = number(pack, outputs);
-            judge_outputs(pack, names, memo, layout, k.value, k.next, regions)
+            let k = number(drawing.pack.bytes, outputs);
+            judge_outputs(drawing, layout, k.value, k.next, regions)
         }
         Checked::Initial(q) => refused(
             VerdictRow::UNKNOWN_INITIAL_STATE,
@@ -245,17 +237,14 @@ fn judge_checked(
 
 // A machine that is laid out in `letters` letters and so many regions.
 fn judge_laid(
-    pack: &[u8],
-    names: usize,
-    memo: &[u16],
+    drawing: &Drawing,
     layout: &[usize],
     qualified: &[u8],
     letters: usize,
     regions: usize,
     outputs: usize,
 ) -> VerdictRow
-    requires { (length pack.now ≤ max_bytes) × RowsSound pack.now names memo.now }
-    ensures { (ns : List Name) → length ns ≡ names → result ≡ laid_j ns pack.now layout.now qualified.now letters regions outputs }
+    ensures { (ns : List Name) → length ns ≡ drawing.now.pack.names → result ≡ laid_j ns drawing.now.pack.bytes.now layout.now qualified.now letters regions outputs }
 {
     if entry(layout, 6) == 0 {
         return refused(VerdictRow::NO_STATES, no_name(), no_name());
@@ -268,29 +257,24 @@ fn judge_laid(
             no_name(),
         );
     }
-    let c = validate_region(pack, names, memo, layout, Pack::LEVELS, 0);
-    judge_checked(pack, names, memo, layout, c, outputs, regions)
+    let c = validate_region(drawing, layout, Pack::LEVELS, 0);
+    judge_checked(drawing, layout, c, outputs, regions)
 }
 
 // The machine at the offset `at`. Where it resolves, it is then laid out in the tables.
 pub fn judge(
-    pack: &[u8],
-    names: usize,
-    offsets: &[u16],
-    machines: &[u16],
-    memo: &[u16],
+    tables: &NameTables,
     layout: &mut [usize],
     rows: &mut [usize],
     qualified: &mut [u8],
     at: usize,
 ) -> VerdictRow
-    requires { (length pack.now ≤ max_bytes) × MemoSound pack.now names offsets.now memo.now }
-    ensures value { (ns : List Name) → length ns ≡ names → result ≡ judge_at ns pack.now offsets.now machines.now at layout.old rows.old qualified.old }
-    ensures qualified_after { (ns : List Name) → length ns ≡ names → qualified.new ≡ (board_at ns pack.now offsets.now machines.now at layout.old rows.old qualified.old).qualified }
+    ensures value { (ns : List Name) → length ns ≡ tables.now.drawing.pack.names → result ≡ judge_at ns tables.now.drawing.pack.bytes.now tables.now.offsets.now tables.now.machines.now at layout.old rows.old qualified.old }
+    ensures qualified_after { (ns : List Name) → length ns ≡ tables.now.drawing.pack.names → qualified.new ≡ (board_at ns tables.now.drawing.pack.bytes.now tables.now.offsets.now tables.now.machines.now at layout.old rows.old qualified.old).qualified }
 {
-    let m = number(pack, at);
-    let i = to_initial(pack, names, m.next);
-    let w = resolve_machine(pack, names, offsets, machines, memo, m.value, i);
+    let m = number(tables.drawing.pack.bytes, at);
+    let i = to_initial(&tables.drawing.pack, m.next);
+    let w = resolve_machine(tables, m.value, i);
     match w {
         Resolved::Cycle(n) => refused(VerdictRow::REFINE_CYCLE, named(n), no_name()),
         Resolved::Unknown { state, name } => refused(
@@ -301,33 +285,32 @@ pub fn judge(
         Resolved::Large => refused(VerdictRow::TOO_LARGE, no_name(), no_name()),
         Resolved::Went(_, _, _) => {
             let l = layout_machine(
-                pack, names, offsets, machines, memo, layout, rows, qualified, i,
+                &tables.drawing,
+                tables.offsets,
+                tables.machines,
+                layout,
+                rows,
+                qualified,
+                i,
             );
-            let o = to_outputs(pack, names, m.next);
-            judge_laid(
-                pack, names, memo, layout, qualified, l.letters, l.regions, o,
-            )
+            let o = to_outputs(&tables.drawing.pack, m.next);
+            judge_laid(&tables.drawing, layout, qualified, l.letters, l.regions, o)
         }
     }
 }
 
 // Past the machine at `at`.
-fn after_machine(pack: &[u8], names: usize, memo: &[u16], at: usize) -> usize
-    requires { (length pack.now ≤ max_bytes) × RowsSound pack.now names memo.now }
-    ensures { (ns : List Name) → length ns ≡ names → result ≡ machine_end ns pack.now at }
+fn after_machine(drawing: &Drawing, at: usize) -> usize
+    ensures { (ns : List Name) → length ns ≡ drawing.now.pack.names → result ≡ machine_end ns drawing.now.pack.bytes.now at }
 {
-    let m = number(pack, at);
-    let i = to_initial(pack, names, m.next);
-    after_states(pack, names, memo, i)
+    let m = number(drawing.pack.bytes, at);
+    let i = to_initial(&drawing.pack, m.next);
+    after_states(drawing, i)
 }
 
 // Where each of `count` machines from `from` on is drawn, and how many regions it has: 0 where it is refused.
 pub fn judge_all(
-    pack: &[u8],
-    names: usize,
-    offsets: &[u16],
-    machines: &[u16],
-    memo: &[u16],
+    tables: &NameTables,
     layout: &mut [usize],
     rows: &mut [usize],
     qualified: &mut [u8],
@@ -336,17 +319,15 @@ pub fn judge_all(
     defs: &mut [usize],
     regcounts: &mut [usize],
 )
-    requires { (length pack.now ≤ max_bytes) × Long layout.old rows.old qualified.old × MemoSound pack.now names offsets.now memo.now }
-    ensures defs_after { (ns : List Name) → length ns ≡ names → defs.new ≡ fill_t (nth (machine_end ns pack.now) from) count 0 defs.old }
-    ensures regcounts_after { (ns : List Name) → length ns ≡ names → (gs : ℕ → ℕ) → ((i : ℕ) → i < count → HasRegions ns pack.now offsets.now machines.now (nth (machine_end ns pack.now) from i) (gs i)) → regcounts.new ≡ fill_t gs count 0 regcounts.old }
+    requires { Long layout.old rows.old qualified.old }
+    ensures defs_after { (ns : List Name) → length ns ≡ tables.now.drawing.pack.names → defs.new ≡ fill_t (nth (machine_end ns tables.now.drawing.pack.bytes.now) from) count 0 defs.old }
+    ensures regcounts_after { (ns : List Name) → length ns ≡ tables.now.drawing.pack.names → (gs : ℕ → ℕ) → ((i : ℕ) → i < count → HasRegions ns tables.now.drawing.pack.bytes.now tables.now.offsets.now tables.now.machines.now (nth (machine_end ns tables.now.drawing.pack.bytes.now) from i) (gs i)) → regcounts.new ≡ fill_t gs count 0 regcounts.old }
 {
     let mut p = from;
     for i in 0..count {
-        let j = judge(
-            pack, names, offsets, machines, memo, layout, rows, qualified, p,
-        );
+        let j = judge(tables, layout, rows, qualified, p);
         put(defs, i, p);
         put(regcounts, i, j.regions);
-        p = after_machine(pack, names, memo, p);
+        p = after_machine(&tables.drawing, p);
     }
 }

@@ -14,7 +14,6 @@ ghost use Rattle.pack.specs.Intern.{render};
 ghost use Rattle.machines.specs.NodeHeads.{new_head_t, node_locals_t, old_head_t};
 ghost use Rattle.pack_rules.specs.Read.{ports_in};
 ghost use Rattle.pack_rules.specs.Write.{Item};
-ghost use Rattle.machines.specs.MemoSound.{RowsSound};
 ghost use Rattle.machines.specs.EmitMachineAt.{AllWrite, Long, equations_at};
 ghost use Rattle.machines.specs.WriteNodesAt.{new_node_t, node_equations_t, nodes_t, old_node_t, old_nodes_t};
 
@@ -22,7 +21,8 @@ use crate::added::{
     added_equations, added_locals, after_ports, asked, next_receiver, next_to, owned, owned_count,
     put_all_locals, small, span, table_from, to_locals,
 };
-use crate::checked_read::{after_equations, number, read_or_zero};
+use crate::checked_read::{CheckedPack, after_equations, number, read_or_zero};
+use crate::drawing::Drawing;
 use crate::emit_machine::put_all_equations;
 use crate::layout::between;
 use crate::table::entry;
@@ -64,18 +64,17 @@ pub fn to_node_equations(pack: &[u8], names: usize, at: usize) -> usize
 }
 
 // How many equations the node k of `count` nodes from `from` on has.
-pub fn old_equations(pack: &[u8], names: usize, count: usize, from: usize, k: usize) -> usize
-    requires { length pack.now ≤ max_bytes }
-    ensures { (result < word_range) × ((ns : List Name) → length ns ≡ names → result ≡ old_t ns pack.now count from k) }
+pub fn old_equations(pack: &CheckedPack, count: usize, from: usize, k: usize) -> usize
+    ensures { (result < word_range) × ((ns : List Name) → length ns ≡ pack.now.names → result ≡ old_t ns pack.now.bytes.now count from k) }
 {
     let mut p = from;
     for i in 0..count {
-        let e = to_node_equations(pack, names, p);
+        let e = to_node_equations(pack.bytes, pack.names, p);
         if i == k {
-            let c = number(pack, e);
+            let c = number(pack.bytes, e);
             return small(c.value);
         }
-        p = after_equations(pack, names, e);
+        p = after_equations(pack.bytes, pack.names, e);
     }
     0
 }
@@ -85,8 +84,7 @@ pub fn old_equations(pack: &[u8], names: usize, count: usize, from: usize, k: us
 // The locals of the node k: `own` ones that stand from `from` up to `to`, and those that n machines bring.
 fn put_node_locals(
     old: &[u8],
-    pack: &[u8],
-    names: usize,
+    pack: &CheckedPack,
     offsets: &[u16],
     defs: &[usize],
     receivers: &[usize],
@@ -100,24 +98,23 @@ fn put_node_locals(
     made: &mut [u8],
     writer: Writer,
 ) -> Writer
-    requires { (length pack.now ≤ max_bytes) × (n ≤ word_range) }
-    ensures { (ns : List Name) → length ns ≡ names → state_of out.new made.new result ≡ render old.now (node_locals_t ns pack.now defs.now receivers.now regcounts.now offsets.now n k own from to) (state_of out.old made.old writer) }
+    requires { n ≤ word_range }
+    ensures { (ns : List Name) → length ns ≡ pack.now.names → state_of out.new made.new result ≡ render old.now (node_locals_t ns pack.now.bytes.now defs.now receivers.now regcounts.now offsets.now n k own from to) (state_of out.old made.old writer) }
 {
     let o = small(own);
-    let m = added_locals(pack, names, defs, receivers, regcounts, n, k);
+    let m = added_locals(pack, defs, receivers, regcounts, n, k);
     let a = put_u16(out, writer, o + m);
-    let h = between(pack, from, to);
+    let h = between(pack.bytes, from, to);
     let b = put_bytes(h, out, a);
     put_all_locals(
-        old, pack, names, offsets, defs, receivers, regcounts, n, k, out, made, b,
+        old, pack, offsets, defs, receivers, regcounts, n, k, out, made, b,
     )
 }
 
 // The node k that stands at `at`.
 pub fn put_old_head(
     old: &[u8],
-    pack: &[u8],
-    names: usize,
+    pack: &CheckedPack,
     offsets: &[u16],
     defs: &[usize],
     receivers: &[usize],
@@ -129,25 +126,23 @@ pub fn put_old_head(
     made: &mut [u8],
     writer: Writer,
 ) -> Writer
-    requires { (length pack.now ≤ max_bytes) × (n ≤ word_range) }
-    ensures { (ns : List Name) → length ns ≡ names → state_of out.new made.new result ≡ render old.now (old_head_t ns pack.now defs.now receivers.now regcounts.now offsets.now n k at) (state_of out.old made.old writer) }
+    requires { n ≤ word_range }
+    ensures { (ns : List Name) → length ns ≡ pack.now.names → state_of out.new made.new result ≡ render old.now (old_head_t ns pack.now.bytes.now defs.now receivers.now regcounts.now offsets.now n k at) (state_of out.old made.old writer) }
 {
-    let l = to_node_locals(pack, names, at);
-    let e = after_ports(pack, names, l);
-    let c = number(pack, l);
-    let h = between(pack, at, l);
+    let l = to_node_locals(pack.bytes, pack.names, at);
+    let e = after_ports(pack.bytes, pack.names, l);
+    let c = number(pack.bytes, l);
+    let h = between(pack.bytes, at, l);
     let a = put_bytes(h, out, writer);
     put_node_locals(
-        old, pack, names, offsets, defs, receivers, regcounts, n, k, c.value, c.next, e, out, made,
-        a,
+        old, pack, offsets, defs, receivers, regcounts, n, k, c.value, c.next, e, out, made, a,
     )
 }
 
 // The node k that the machine drawn at `at` begins.
 pub fn put_new_head(
     old: &[u8],
-    pack: &[u8],
-    names: usize,
+    pack: &CheckedPack,
     offsets: &[u16],
     defs: &[usize],
     receivers: &[usize],
@@ -159,29 +154,27 @@ pub fn put_new_head(
     made: &mut [u8],
     writer: Writer,
 ) -> Writer
-    requires { (length pack.now ≤ max_bytes) × (n ≤ word_range) }
-    ensures { (ns : List Name) → length ns ≡ names → state_of out.new made.new result ≡ render old.now (new_head_t ns pack.now defs.now receivers.now regcounts.now offsets.now n k at) (state_of out.old made.old writer) }
+    requires { n ≤ word_range }
+    ensures { (ns : List Name) → length ns ≡ pack.now.names → state_of out.new made.new result ≡ render old.now (new_head_t ns pack.now.bytes.now defs.now receivers.now regcounts.now offsets.now n k at) (state_of out.old made.old writer) }
 {
-    let m = number(pack, at);
-    let o = number(pack, m.next);
-    let l = to_locals(pack, names, at);
-    let h = between(pack, o.next, l);
+    let m = number(pack.bytes, at);
+    let o = number(pack.bytes, m.next);
+    let l = to_locals(pack, at);
+    let h = between(pack.bytes, o.next, l);
     let a = put_u16(out, writer, m.value);
     let b = put_byte(out, a, 1);
     let c = put_bytes(h, out, b);
     put_node_locals(
-        old, pack, names, offsets, defs, receivers, regcounts, n, k, 0, 0, 0, out, made, c,
+        old, pack, offsets, defs, receivers, regcounts, n, k, 0, 0, 0, out, made, c,
     )
 }
 
 // The equations of the node k: `own` ones that stand from `from` up to `end`, and those that n machines bring.
 fn put_node_equations(
     old: &[u8],
-    pack: &[u8],
-    names: usize,
+    drawing: &Drawing,
     offsets: &[u16],
     machines: &[u16],
-    memo: &[u16],
     layout: &mut [usize],
     rows: &mut [usize],
     qualified: &mut [u8],
@@ -197,28 +190,26 @@ fn put_node_equations(
     made: &mut [u8],
     writer: Writer,
 ) -> Writer
-    requires { (length pack.now ≤ max_bytes) × (n ≤ word_range) × Long layout.old rows.old qualified.old × RowsSound pack.now names memo.now }
-    ensures { (ns : List Name) → length ns ≡ names → (eqs : ℕ → List Item) → AllWrite old.now (equations_at ns pack.now offsets.now machines.now) defs.now n eqs → state_of out.new made.new result ≡ render old.now (node_equations_t ns pack.now defs.now receivers.now regcounts.now offsets.now n eqs k own from end) (state_of out.old made.old writer) }
+    requires { (n ≤ word_range) × Long layout.old rows.old qualified.old }
+    ensures { (ns : List Name) → length ns ≡ drawing.now.pack.names → (eqs : ℕ → List Item) → AllWrite old.now (equations_at ns drawing.now.pack.bytes.now offsets.now machines.now) defs.now n eqs → state_of out.new made.new result ≡ render old.now (node_equations_t ns drawing.now.pack.bytes.now defs.now receivers.now regcounts.now offsets.now n eqs k own from end) (state_of out.old made.old writer) }
 {
     let o = small(own);
-    let m = added_equations(pack, names, defs, receivers, regcounts, n, k);
-    let h = between(pack, from, end);
+    let m = added_equations(&drawing.pack, defs, receivers, regcounts, n, k);
+    let h = between(drawing.pack.bytes, from, end);
     let a = put_u16(out, writer, o + m);
     let b = put_bytes(h, out, a);
     put_all_equations(
-        old, pack, names, offsets, machines, memo, layout, rows, qualified, defs, receivers, n, k,
-        out, made, b,
+        old, drawing, offsets, machines, layout, rows, qualified, defs, receivers, n, k, out, made,
+        b,
     )
 }
 
 // The node k that stands at `at`.
 fn put_old_node(
     old: &[u8],
-    pack: &[u8],
-    names: usize,
+    drawing: &Drawing,
     offsets: &[u16],
     machines: &[u16],
-    memo: &[u16],
     layout: &mut [usize],
     rows: &mut [usize],
     qualified: &mut [u8],
@@ -232,29 +223,38 @@ fn put_old_node(
     made: &mut [u8],
     writer: Writer,
 ) -> Writer
-    requires { (length pack.now ≤ max_bytes) × (n ≤ word_range) × Long layout.old rows.old qualified.old × RowsSound pack.now names memo.now }
-    ensures { (ns : List Name) → length ns ≡ names → (eqs : ℕ → List Item) → AllWrite old.now (equations_at ns pack.now offsets.now machines.now) defs.now n eqs → state_of out.new made.new result ≡ render old.now (old_node_t ns pack.now defs.now receivers.now regcounts.now offsets.now n eqs k at) (state_of out.old made.old writer) }
+    requires { (n ≤ word_range) × Long layout.old rows.old qualified.old }
+    ensures { (ns : List Name) → length ns ≡ drawing.now.pack.names → (eqs : ℕ → List Item) → AllWrite old.now (equations_at ns drawing.now.pack.bytes.now offsets.now machines.now) defs.now n eqs → state_of out.new made.new result ≡ render old.now (old_node_t ns drawing.now.pack.bytes.now defs.now receivers.now regcounts.now offsets.now n eqs k at) (state_of out.old made.old writer) }
 {
-    let e = to_node_equations(pack, names, at);
-    let z = after_equations(pack, names, e);
-    let c = number(pack, e);
+    let e = to_node_equations(drawing.pack.bytes, drawing.pack.names, at);
+    let z = after_equations(drawing.pack.bytes, drawing.pack.names, e);
+    let c = number(drawing.pack.bytes, e);
     let a = put_old_head(
-        old, pack, names, offsets, defs, receivers, regcounts, n, k, at, out, made, writer,
+        old,
+        &drawing.pack,
+        offsets,
+        defs,
+        receivers,
+        regcounts,
+        n,
+        k,
+        at,
+        out,
+        made,
+        writer,
     );
     put_node_equations(
-        old, pack, names, offsets, machines, memo, layout, rows, qualified, defs, receivers,
-        regcounts, n, k, c.value, c.next, z, out, made, a,
+        old, drawing, offsets, machines, layout, rows, qualified, defs, receivers, regcounts, n, k,
+        c.value, c.next, z, out, made, a,
     )
 }
 
 // `count` nodes that stand from `from` on. Up to the next one to which a machine goes no machine is asked.
 fn put_old_nodes(
     old: &[u8],
-    pack: &[u8],
-    names: usize,
+    drawing: &Drawing,
     offsets: &[u16],
     machines: &[u16],
-    memo: &[u16],
     layout: &mut [usize],
     rows: &mut [usize],
     qualified: &mut [u8],
@@ -268,8 +268,8 @@ fn put_old_nodes(
     made: &mut [u8],
     writer: Writer,
 ) -> Writer
-    requires { (length pack.now ≤ max_bytes) × (n ≤ word_range) × Long layout.old rows.old qualified.old × RowsSound pack.now names memo.now }
-    ensures { (ns : List Name) → length ns ≡ names → (eqs : ℕ → List Item) → AllWrite old.now (equations_at ns pack.now offsets.now machines.now) defs.now n eqs → state_of out.new made.new result ≡ render old.now (old_nodes_t ns pack.now defs.now receivers.now regcounts.now offsets.now n eqs count 0 from) (state_of out.old made.old writer) }
+    requires { (n ≤ word_range) × Long layout.old rows.old qualified.old }
+    ensures { (ns : List Name) → length ns ≡ drawing.now.pack.names → (eqs : ℕ → List Item) → AllWrite old.now (equations_at ns drawing.now.pack.bytes.now offsets.now machines.now) defs.now n eqs → state_of out.new made.new result ≡ render old.now (old_nodes_t ns drawing.now.pack.bytes.now defs.now receivers.now regcounts.now offsets.now n eqs count 0 from) (state_of out.old made.old writer) }
 {
     let mut v = writer;
     let mut p = from;
@@ -281,11 +281,11 @@ fn put_old_nodes(
         b = next_receiver(receivers, n, k, b);
         let m = asked(k, b, n);
         v = put_old_node(
-            old, pack, names, offsets, machines, memo, layout, rows, qualified, defs, receivers,
-            regcounts, m, k, p, out, made, v,
+            old, drawing, offsets, machines, layout, rows, qualified, defs, receivers, regcounts,
+            m, k, p, out, made, v,
         );
-        let e = to_node_equations(pack, names, p);
-        p = after_equations(pack, names, e);
+        let e = to_node_equations(drawing.pack.bytes, drawing.pack.names, p);
+        p = after_equations(drawing.pack.bytes, drawing.pack.names, e);
     }
     v
 }
@@ -293,11 +293,9 @@ fn put_old_nodes(
 // The node k that the machine drawn at `at` begins. Only machines from the first to the last one that go to it are asked.
 fn put_begun(
     old: &[u8],
-    pack: &[u8],
-    names: usize,
+    drawing: &Drawing,
     offsets: &[u16],
     machines: &[u16],
-    memo: &[u16],
     layout: &mut [usize],
     rows: &mut [usize],
     qualified: &mut [u8],
@@ -311,8 +309,8 @@ fn put_begun(
     made: &mut [u8],
     writer: Writer,
 ) -> Writer
-    requires { (length pack.now ≤ max_bytes) × (n ≤ word_range) × Long layout.old rows.old qualified.old × RowsSound pack.now names memo.now }
-    ensures { (ns : List Name) → length ns ≡ names → (eqs : ℕ → List Item) → AllWrite old.now (equations_at ns pack.now offsets.now machines.now) defs.now n eqs → state_of out.new made.new result ≡ render old.now (new_head_t ns pack.now defs.now receivers.now regcounts.now offsets.now n k at ++ node_equations_t ns pack.now defs.now receivers.now regcounts.now offsets.now n eqs k 0 0 0) (state_of out.old made.old writer) }
+    requires { (n ≤ word_range) × Long layout.old rows.old qualified.old }
+    ensures { (ns : List Name) → length ns ≡ drawing.now.pack.names → (eqs : ℕ → List Item) → AllWrite old.now (equations_at ns drawing.now.pack.bytes.now offsets.now machines.now) defs.now n eqs → state_of out.new made.new result ≡ render old.now (new_head_t ns drawing.now.pack.bytes.now defs.now receivers.now regcounts.now offsets.now n k at ++ node_equations_t ns drawing.now.pack.bytes.now defs.now receivers.now regcounts.now offsets.now n eqs k 0 0 0) (state_of out.old made.old writer) }
 {
     let f = next_to(receivers, n, k, 0);
     let m = span(receivers, n, k, f);
@@ -320,22 +318,31 @@ fn put_begun(
     let gs = table_from(receivers, f);
     let rs = table_from(regcounts, f);
     let a = put_new_head(
-        old, pack, names, offsets, ms, gs, rs, m, k, at, out, made, writer,
+        old,
+        &drawing.pack,
+        offsets,
+        ms,
+        gs,
+        rs,
+        m,
+        k,
+        at,
+        out,
+        made,
+        writer,
     );
     put_node_equations(
-        old, pack, names, offsets, machines, memo, layout, rows, qualified, ms, gs, rs, m, k, 0, 0,
-        0, out, made, a,
+        old, drawing, offsets, machines, layout, rows, qualified, ms, gs, rs, m, k, 0, 0, 0, out,
+        made, a,
     )
 }
 
 // The node that the machine i begins, where it has no owner.
 fn put_new_node(
     old: &[u8],
-    pack: &[u8],
-    names: usize,
+    drawing: &Drawing,
     offsets: &[u16],
     machines: &[u16],
-    memo: &[u16],
     layout: &mut [usize],
     rows: &mut [usize],
     qualified: &mut [u8],
@@ -348,16 +355,16 @@ fn put_new_node(
     made: &mut [u8],
     writer: Writer,
 ) -> Writer
-    requires { (length pack.now ≤ max_bytes) × (n ≤ word_range) × Long layout.old rows.old qualified.old × RowsSound pack.now names memo.now }
-    ensures { (ns : List Name) → length ns ≡ names → (eqs : ℕ → List Item) → AllWrite old.now (equations_at ns pack.now offsets.now machines.now) defs.now n eqs → state_of out.new made.new result ≡ render old.now (new_node_t ns pack.now defs.now receivers.now regcounts.now offsets.now n eqs i) (state_of out.old made.old writer) }
+    requires { (n ≤ word_range) × Long layout.old rows.old qualified.old }
+    ensures { (ns : List Name) → length ns ≡ drawing.now.pack.names → (eqs : ℕ → List Item) → AllWrite old.now (equations_at ns drawing.now.pack.bytes.now offsets.now machines.now) defs.now n eqs → state_of out.new made.new result ≡ render old.now (new_node_t ns drawing.now.pack.bytes.now defs.now receivers.now regcounts.now offsets.now n eqs i) (state_of out.old made.old writer) }
 {
-    let o = owned(pack, defs, i);
+    let o = owned(drawing.pack.bytes, defs, i);
     let k = entry(receivers, i);
     let at = entry(defs, i);
     if o == 0 {
         return put_begun(
-            old, pack, names, offsets, machines, memo, layout, rows, qualified, defs, receivers,
-            regcounts, n, k, at, out, made, writer,
+            old, drawing, offsets, machines, layout, rows, qualified, defs, receivers, regcounts,
+            n, k, at, out, made, writer,
         );
     }
     writer
@@ -366,11 +373,9 @@ fn put_new_node(
 // The nodes that the first n machines begin.
 fn put_new_nodes(
     old: &[u8],
-    pack: &[u8],
-    names: usize,
+    drawing: &Drawing,
     offsets: &[u16],
     machines: &[u16],
-    memo: &[u16],
     layout: &mut [usize],
     rows: &mut [usize],
     qualified: &mut [u8],
@@ -382,8 +387,8 @@ fn put_new_nodes(
     made: &mut [u8],
     writer: Writer,
 ) -> Writer
-    requires { (length pack.now ≤ max_bytes) × (n ≤ word_range) × Long layout.old rows.old qualified.old × RowsSound pack.now names memo.now }
-    ensures { (ns : List Name) → length ns ≡ names → (eqs : ℕ → List Item) → AllWrite old.now (equations_at ns pack.now offsets.now machines.now) defs.now n eqs → state_of out.new made.new result ≡ render old.now (each_t (new_node_t ns pack.now defs.now receivers.now regcounts.now offsets.now n eqs) n 0) (state_of out.old made.old writer) }
+    requires { (n ≤ word_range) × Long layout.old rows.old qualified.old }
+    ensures { (ns : List Name) → length ns ≡ drawing.now.pack.names → (eqs : ℕ → List Item) → AllWrite old.now (equations_at ns drawing.now.pack.bytes.now offsets.now machines.now) defs.now n eqs → state_of out.new made.new result ≡ render old.now (each_t (new_node_t ns drawing.now.pack.bytes.now defs.now receivers.now regcounts.now offsets.now n eqs) n 0) (state_of out.old made.old writer) }
 {
     let mut v = writer;
     for i in 0..n {
@@ -391,8 +396,8 @@ fn put_new_nodes(
             return v;
         }
         v = put_new_node(
-            old, pack, names, offsets, machines, memo, layout, rows, qualified, defs, receivers,
-            regcounts, n, i, out, made, v,
+            old, drawing, offsets, machines, layout, rows, qualified, defs, receivers, regcounts,
+            n, i, out, made, v,
         );
     }
     v
@@ -410,11 +415,9 @@ fn begun(pack: &[u8], defs: &[usize], n: usize) -> usize
 // All nodes; the count of those that stand is at `at`.
 pub fn put_nodes(
     old: &[u8],
-    pack: &[u8],
-    names: usize,
+    drawing: &Drawing,
     offsets: &[u16],
     machines: &[u16],
-    memo: &[u16],
     layout: &mut [usize],
     rows: &mut [usize],
     qualified: &mut [u8],
@@ -427,19 +430,19 @@ pub fn put_nodes(
     made: &mut [u8],
     writer: Writer,
 ) -> Writer
-    requires { (length pack.now ≤ max_bytes) × (n ≤ word_range) × Long layout.old rows.old qualified.old × RowsSound pack.now names memo.now }
-    ensures { (ns : List Name) → length ns ≡ names → (eqs : ℕ → List Item) → AllWrite old.now (equations_at ns pack.now offsets.now machines.now) defs.now n eqs → state_of out.new made.new result ≡ render old.now (nodes_t ns pack.now defs.now receivers.now regcounts.now offsets.now n eqs at) (state_of out.old made.old writer) }
+    requires { (n ≤ word_range) × Long layout.old rows.old qualified.old }
+    ensures { (ns : List Name) → length ns ≡ drawing.now.pack.names → (eqs : ℕ → List Item) → AllWrite old.now (equations_at ns drawing.now.pack.bytes.now offsets.now machines.now) defs.now n eqs → state_of out.new made.new result ≡ render old.now (nodes_t ns drawing.now.pack.bytes.now defs.now receivers.now regcounts.now offsets.now n eqs at) (state_of out.old made.old writer) }
 {
-    let c = number(pack, at);
+    let c = number(drawing.pack.bytes, at);
     let o = small(c.value);
-    let g = begun(pack, defs, n);
+    let g = begun(drawing.pack.bytes, defs, n);
     let a = put_u16(out, writer, o + g);
     let b = put_old_nodes(
-        old, pack, names, offsets, machines, memo, layout, rows, qualified, defs, receivers,
-        regcounts, n, c.value, c.next, out, made, a,
+        old, drawing, offsets, machines, layout, rows, qualified, defs, receivers, regcounts, n,
+        c.value, c.next, out, made, a,
     );
     put_new_nodes(
-        old, pack, names, offsets, machines, memo, layout, rows, qualified, defs, receivers,
-        regcounts, n, out, made, b,
+        old, drawing, offsets, machines, layout, rows, qualified, defs, receivers, regcounts, n,
+        out, made, b,
     )
 }

@@ -7,4 +7,4 @@ use Rattle.machines.specs.AddedAt.{adds_equations_t, total_t}
 use Rattle.machines.proofs.added.added_equations.Given as goal
 
 abbrev pub invariant-loop-i : goal.invariant-loop-i
-invariant-loop-i l = (l.c ≤ 1048576 * l.i) × ((ns : List Name) → length ns ≡ l.names → l.c + total_t (adds_equations_t ns l.pack l.defs l.receivers l.regcounts l.k) (l.n - l.i) l.i ≡ total_t (adds_equations_t ns l.pack l.defs l.receivers l.regcounts l.k) l.n 0)
+invariant-loop-i l = (l.c ≤ 1048576 * l.i) × ((ns : List Name) → length ns ≡ l.pack.names → l.c + total_t (adds_equations_t ns l.pack.bytes.now l.defs l.receivers l.regcounts l.k) (l.n - l.i) l.i ≡ total_t (adds_equations_t ns l.pack.bytes.now l.defs l.receivers l.regcounts l.k) l.n 0)

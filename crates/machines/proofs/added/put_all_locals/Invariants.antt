@@ -9,4 +9,4 @@ use Rattle.machines.specs.AddedAt.{added_locals_t, each_t}
 use Rattle.machines.proofs.added.put_all_locals.Given as goal
 
 abbrev pub invariant-loop-i : goal.invariant-loop-i
-invariant-loop-i l = (ns : List Name) → length ns ≡ l.names → render l.old (each_t (added_locals_t ns l.pack l.defs l.receivers l.regcounts l.offsets l.k) (l.n - l.i) l.i) (state_of l.out l.made l.v) ≡ render l.old (each_t (added_locals_t ns l.pack l.defs l.receivers l.regcounts l.offsets l.k) l.n 0) (state_of l.initial.out l.initial.made l.initial.v)
+invariant-loop-i l = (ns : List Name) → length ns ≡ l.pack.names → render l.old (each_t (added_locals_t ns l.pack.bytes.now l.defs l.receivers l.regcounts l.offsets l.k) (l.n - l.i) l.i) (state_of l.out l.made l.v) ≡ render l.old (each_t (added_locals_t ns l.pack.bytes.now l.defs l.receivers l.regcounts l.offsets l.k) l.n 0) (state_of l.initial.out l.initial.made l.initial.v)

@@ -1,35 +1,10 @@
 use mathlib.Core.List.{[]}
-use native.Mathlib.Omega.{arith}
 use Rattle.machines.proofs.CallLaws.{filled, refused_all}
 use Rattle.machines.proofs.MemoSoundLaws.{blank-right}
 use Rattle.machines.proofs.call.fill_tables.Goals as goal
 
 pub fill_memo-requires : goal.fill_memo-requires
-fill_memo-requires c = (c.requires.0, blank-right _ _ _ _ c.requires.2)
-
-pub place_machines-requires : goal.place_machines-requires
-place_machines-requires c = (c.requires.0, c.fill_memo.ensures.ends)
-
-pub place_nodes-requires : goal.place_nodes-requires
-place_nodes-requires c = c.requires.0
-
-pub judge_all-requires : goal.judge_all-requires
-judge_all-requires c = (c.requires.0, c.requires.1, c.fill_memo.ensures)
-
-pub assign_nodes-requires : goal.assign_nodes-requires
-assign_nodes-requires c = (omega (arith, c.small-n.ensures.0), omega (arith, c.small-old.ensures.0))
-
-pub refused_count-requires : goal.refused_count-requires
-refused_count-requires c = omega (arith, c.small-n.ensures.0)
-
-pub shape_of-offsets : goal.shape_of-offsets
-shape_of-offsets c = c.place_names.auto.offsets
-
-pub shape_of-machines : goal.shape_of-machines
-shape_of-machines c = c.place_machines.auto.machines
-
-pub shape_of-memo : goal.shape_of-memo
-shape_of-memo c = c.fill_memo.auto.memo
+fill_memo-requires c = blank-right _ _ _ _ c.requires.2
 
 pub returns : goal.returns
 returns c = record { filled = λ ns e. filled ns _ _ _ _ _ _ c.number-c.ensures c.number-m.ensures c.small-old.ensures.1 c.small-n.ensures.1 _ _ _ _ _ _ _ _ _ _ _ _ _ _ c.place_names.ensures (c.place_machines.ensures ns e) (c.place_nodes.ensures ns e) (c.judge_all.ensures.defs_after ns e) (c.judge_all.ensures.regcounts_after ns e) c.assign_nodes.ensures; value = refused_all [] _ _ _ _ _ _ c.number-c.ensures c.number-m.ensures c.small-old.ensures.1 c.small-n.ensures.1 _ _ c.refused_count.ensures; memo_sound = c.fill_memo.ensures }

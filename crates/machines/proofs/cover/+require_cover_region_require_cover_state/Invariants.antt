@@ -14,7 +14,7 @@ abbrev pub decreases-require_cover_state : goal.decreases-require_cover_state
 decreases-require_cover_state l = l.levels + l.levels + 1
 
 abbrev pub invariant-require_cover_region-loop : goal.invariant-require_cover_region-loop
-invariant-require_cover_region-loop l = ((ns : List Name) → length ns ≡ l.names → first_miss l.layout (miss_t ns l.pack l.layout l.out (uncovered_t ns l.pack l.layout l.out (l.levels - 1))) (l.end - l.counter) l.p ≡ first_miss l.layout (miss_t ns l.pack l.layout l.out (uncovered_t ns l.pack l.layout l.out (l.levels - 1))) l.end l.initial.p) × AssignsSound l.pack l.names l.memo l.hints
+invariant-require_cover_region-loop l = ((ns : List Name) → length ns ≡ l.drawing.pack.names → first_miss l.layout (miss_t ns l.drawing.pack.bytes.now l.layout l.out (uncovered_t ns l.drawing.pack.bytes.now l.layout l.out (l.levels - 1))) (l.end - l.counter) l.p ≡ first_miss l.layout (miss_t ns l.drawing.pack.bytes.now l.layout l.out (uncovered_t ns l.drawing.pack.bytes.now l.layout l.out (l.levels - 1))) l.end l.initial.p) × AssignsSound l.drawing.pack.bytes.now l.drawing.pack.names l.drawing.memo.now l.hints
 
 abbrev pub invariant-require_cover_state-loop : goal.invariant-require_cover_state-loop
-invariant-require_cover_state-loop l = ((ns : List Name) → length ns ≡ l.names → all_miss l.layout (uncovered_t ns l.pack l.layout l.out l.levels) (l.n - l.counter) l.g l.miss ≡ all_miss l.layout (uncovered_t ns l.pack l.layout l.out l.levels) l.n l.initial.g 0) × AssignsSound l.pack l.names l.memo l.hints
+invariant-require_cover_state-loop l = ((ns : List Name) → length ns ≡ l.drawing.pack.names → all_miss l.layout (uncovered_t ns l.drawing.pack.bytes.now l.layout l.out l.levels) (l.n - l.counter) l.g l.miss ≡ all_miss l.layout (uncovered_t ns l.drawing.pack.bytes.now l.layout l.out l.levels) l.n l.initial.g 0) × AssignsSound l.drawing.pack.bytes.now l.drawing.pack.names l.drawing.memo.now l.hints

@@ -7,11 +7,8 @@ use Rattle.machines.proofs.emit_machine.put_all_enums.Goals as goal
 pub returns-then-v : goal.returns-then-v
 returns-then-v c = λ ns e ens h. stays-full _ _ _ _ _ _ c.if-v.true (c.loop-i.invariant ns e ens h)
 
-pub put_machine_enums-v-requires : goal.put_machine_enums-v-requires
-put_machine_enums-v-requires c = (c.requires.0, c.requires.2)
-
 pub loop-i-preserved : goal.loop-i-preserved
-loop-i-preserved c = λ ns e ens h. enums-more ns _ _ _ _ c.args.defs.now _ _ _ _ _ (long_kept _ _ _ _ _ _ c.loop-i.auto.layout c.loop-i.auto.rows c.loop-i.auto.qualified c.requires.1) c.loop-i-test.true ens _ _ _ _ _ _ h (one_more c.loop-i-test.true) c.entry-m.ensures (c.put_machine_enums-v.ensures ns e) (c.loop-i.invariant ns e ens h)
+loop-i-preserved c = λ ns e ens h. enums-more ns _ _ _ _ c.args.defs.now _ _ _ _ _ (long_kept _ _ _ _ _ _ c.loop-i.auto.layout c.loop-i.auto.rows c.loop-i.auto.qualified c.requires) c.loop-i-test.true ens _ _ _ _ _ _ h (one_more c.loop-i-test.true) c.entry-m.ensures (c.put_machine_enums-v.ensures ns e) (c.loop-i.invariant ns e ens h)
 
 pub returns : goal.returns
 returns c = λ ns e ens h. each_over _ _ _ _ _ _ c.loop-i-test.false (c.loop-i.invariant ns e ens h)

@@ -11,4 +11,4 @@ use Rattle.machines.specs.EmitMachineAt.{AllWrite, enums_at}
 use Rattle.machines.proofs.emit_machine.put_all_enums.Given as goal
 
 abbrev pub invariant-loop-i : goal.invariant-loop-i
-invariant-loop-i l = (ns : List Name) → length ns ≡ l.names → (ens : ℕ → List Item) → AllWrite l.old (enums_at ns l.pack l.offsets l.machines) l.defs l.n ens → render l.old (each_t ens (l.n - l.i) l.i) (state_of l.out l.made l.v) ≡ render l.old (each_t ens l.n 0) (state_of l.initial.out l.initial.made l.initial.v)
+invariant-loop-i l = (ns : List Name) → length ns ≡ l.drawing.pack.names → (ens : ℕ → List Item) → AllWrite l.old (enums_at ns l.drawing.pack.bytes.now l.offsets l.machines) l.defs l.n ens → render l.old (each_t ens (l.n - l.i) l.i) (state_of l.out l.made l.v) ≡ render l.old (each_t ens l.n 0) (state_of l.initial.out l.initial.made l.initial.v)

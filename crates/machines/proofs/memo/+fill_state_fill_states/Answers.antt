@@ -6,38 +6,14 @@ use Rattle.machines.proofs.ManyEnds.{counted-done, many-done, many-went}
 use Rattle.machines.proofs.StateEnds.{state-over}
 use Rattle.machines.proofs.memo.+fill_state_fill_states.Goals as goal
 
-pub fill_state-memo_head-h-requires : goal.fill_state-memo_head-h-requires
-fill_state-memo_head-h-requires t c = (c.requires.0, c.requires.1)
-
-pub fill_state-memo_empty_regions-known-requires : goal.fill_state-memo_empty_regions-known-requires
-fill_state-memo_empty_regions-known-requires t c = (c.requires.0, c.loop-i.invariant.1)
-
-pub fill_state-fill_states-p-requires : goal.fill_state-fill_states-p-requires
-fill_state-fill_states-p-requires t c = (omega (arith, c.decreases), (c.requires.0, c.memo_empty_regions-known.ensures, omega (arith, c.requires.2)))
-
-pub fill_state-returns-then-p-eq0 : goal.fill_state-returns-then-p-eq0
-fill_state-returns-then-p-eq0 t c = record { value = λ ns e l. absurd (omega (arith, l)); memo_sound = c.fill_states-p.ensures.memo_sound }
-
 pub fill_state-loop-i-preserved : goal.fill_state-loop-i-preserved
 fill_state-loop-i-preserved t c = (λ ns e. let k = c.fill_states-p.ensures.fact ns e (omega (arith, c.if-p-eq0.false)) in rw one_less (many-went (region_at _ ns _) _ _ _ _ (k.1 ∙ c.states_in-c.ensures ns e _ k.0) c.if-p-eq0.false (some_left c.loop-i-test.true) (c.loop-i.invariant.0 ns e)), c.fill_states-p.ensures.memo_sound)
 
 pub fill_state-returns : goal.fill_state-returns
-fill_state-returns t c = record { value = λ ns e l. c.state_end-o.ensures ns e _ (region_at _ ns _) (c.memo_head-h.ensures.value ns e) (counted-done (region_at _ ns _) _ _ _ _ _ c.number-r.ensures (none_left c.loop-i-test.false) (c.loop-i.invariant.0 ns e)) l; memo_sound = c.memo_state.ensures _ _ _ c.loop-i.invariant.1 (λ l ns e. (c.memo_head-h.ensures.value ns e, state-over ns _ _ _ _ c.requires.2 (c.state_end-o.ensures ns e _ (region_at _ ns _) (c.memo_head-h.ensures.value ns e) (counted-done (region_at _ ns _) _ _ _ _ _ c.number-r.ensures (none_left c.loop-i-test.false) (c.loop-i.invariant.0 ns e)) l) l)) }
-
-pub fill_states-returns-then-levels-eq0 : goal.fill_states-returns-then-levels-eq0
-fill_states-returns-then-levels-eq0 t c = record { fact = λ ns e l. absurd (omega (arith, l)); memo_sound = c.requires.1 }
-
-pub fill_states-fill_state-p-requires : goal.fill_states-fill_state-p-requires
-fill_states-fill_state-p-requires t c = (omega (arith, c.if-levels-eq0.false, c.decreases), (c.requires.0, c.loop.invariant.1, omega (arith, c.if-levels-eq0.false, c.requires.2)))
-
-pub fill_states-returns-then-p-eq0 : goal.fill_states-returns-then-p-eq0
-fill_states-returns-then-p-eq0 t c = record { fact = λ ns e l. absurd (omega (arith, l)); memo_sound = c.fill_state-p.ensures.memo_sound }
+fill_state-returns t c = record { value = λ ns e l. c.state_end-o.ensures ns e _ (region_at _ ns _) (c.memo_head-h.ensures.value ns e) (counted-done (region_at _ ns _) _ _ _ _ _ c.number-r.ensures (none_left c.loop-i-test.false) (c.loop-i.invariant.0 ns e)) l; memo_sound = c.memo_state.ensures _ _ _ c.loop-i.invariant.1 (λ l ns e. (c.memo_head-h.ensures.value ns e, state-over ns _ _ _ _ c.requires.1 (c.state_end-o.ensures ns e _ (region_at _ ns _) (c.memo_head-h.ensures.value ns e) (counted-done (region_at _ ns _) _ _ _ _ _ c.number-r.ensures (none_left c.loop-i-test.false) (c.loop-i.invariant.0 ns e)) l) l)) }
 
 pub fill_states-loop-preserved : goal.fill_states-loop-preserved
 fill_states-loop-preserved t c = (λ ns e. rw one_less (many-went (state_with (region_at _ ns _) ns _) _ _ _ _ (c.fill_state-p.ensures.value ns e (omega (arith, c.if-p-eq0.false))) c.if-p-eq0.false (some_left c.loop-test.true) (c.loop.invariant.0 ns e)), c.fill_state-p.ensures.memo_sound)
-
-pub fill_states-memo_unknown_targets-requires : goal.fill_states-memo_unknown_targets-requires
-fill_states-memo_unknown_targets-requires t c = (c.requires.0, c.loop.invariant.1)
 
 pub fill_states-returns : goal.fill_states-returns
 fill_states-returns t c = record { fact = λ ns e l. (c.if-levels-eq0.false, many-done (state_with (region_at _ ns _) ns _) _ _ _ (none_left c.loop-test.false) (c.loop.invariant.0 ns e)); memo_sound = c.memo_unknown_targets.ensures }

@@ -16,7 +16,7 @@ abbrev pub decreases-fill_states : goal.decreases-fill_states
 decreases-fill_states l = l.levels + l.levels
 
 abbrev pub invariant-fill_state-loop-i : goal.invariant-fill_state-loop-i
-invariant-fill_state-loop-i l = ((ns : List Name) → length ns ≡ l.names → end_of (many (region_at l.levels ns l.pack) (l.r.value - l.i) l.p) ≡ end_of (many (region_at l.levels ns l.pack) l.r.value l.r.next)) × MemoSound l.pack l.names l.offsets l.memo
+invariant-fill_state-loop-i l = ((ns : List Name) → length ns ≡ l.pack.names → end_of (many (region_at l.levels ns l.pack.bytes.now) (l.r.value - l.i) l.p) ≡ end_of (many (region_at l.levels ns l.pack.bytes.now) l.r.value l.r.next)) × MemoSound l.pack.bytes.now l.pack.names l.offsets l.memo
 
 abbrev pub invariant-fill_states-loop : goal.invariant-fill_states-loop
-invariant-fill_states-loop l = ((ns : List Name) → length ns ≡ l.names → end_of (many (state_with (region_at (l.levels - 1) ns l.pack) ns l.pack) (l.count - l.counter) l.p) ≡ end_of (many (state_with (region_at (l.levels - 1) ns l.pack) ns l.pack) l.count l.from)) × MemoSound l.pack l.names l.offsets l.memo
+invariant-fill_states-loop l = ((ns : List Name) → length ns ≡ l.pack.names → end_of (many (state_with (region_at (l.levels - 1) ns l.pack.bytes.now) ns l.pack.bytes.now) (l.count - l.counter) l.p) ≡ end_of (many (state_with (region_at (l.levels - 1) ns l.pack.bytes.now) ns l.pack.bytes.now) l.count l.from)) × MemoSound l.pack.bytes.now l.pack.names l.offsets l.memo

@@ -3,12 +3,6 @@ use mathlib.Core.Path.{sym, ◌∙◌}
 use Rattle.machines.proofs.UnknownTargetLaws.{aimed-done, aimed-stop, aimed-went, among-now}
 use Rattle.machines.proofs.memo.first_unknown_target.Goals as goal
 
-pub guard_end-requires : goal.guard_end-requires
-guard_end-requires c = c.requires
-
-pub is_known_target-requires : goal.is_known_target-requires
-is_known_target-requires c = (c.requires.0, c.requires.1, c.loop.invariant.1)
-
 pub loop-preserved : goal.loop-preserved
 loop-preserved c = (λ ns e. rw one_less (aimed-went ns _ _ _ _ _ _ _ _ (some_left c.loop-test.true) (c.guard_end.ensures ns e) c.number-x.ensures (sym c.if-not-is_known_target.false ∙ c.is_known_target.ensures ns e) (c.loop.invariant.0 ns e)), (among-now _ _ _ _ _ _ c.is_known_target.ensures c.if-not-is_known_target.false))
 

@@ -8,4 +8,4 @@ use Rattle.std.specs.Prelude.{IfSome}
 use Rattle.machines.proofs.memo.first_unknown_target.Given as goal
 
 abbrev pub invariant-loop : goal.invariant-loop
-invariant-loop l = ((ns : List Name) → length ns ≡ l.names → target_d ns l.pack l.n l.f (l.count - l.counter) l.o ≡ target_d ns l.pack l.n l.f l.count l.from) × IfSome l.last (IsDrawn l.pack l.names l.n l.f)
+invariant-loop l = ((ns : List Name) → length ns ≡ l.drawing.pack.names → target_d ns l.drawing.pack.bytes.now l.n l.f (l.count - l.counter) l.o ≡ target_d ns l.drawing.pack.bytes.now l.n l.f l.count l.from) × IfSome l.last (IsDrawn l.drawing.pack.bytes.now l.drawing.pack.names l.n l.f)

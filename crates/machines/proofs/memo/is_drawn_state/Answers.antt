@@ -5,9 +5,6 @@ use Rattle.machines.proofs.memo.is_drawn_state.Goals as goal
 pub returns-then-i-x : goal.returns-then-i-x
 returns-then-i-x c = λ ns e. drawn-found ns _ _ _ _ _ _ (some_left c.loop-test.true) c.number-i.ensures c.if-i-x.true (c.loop.invariant ns e)
 
-pub past_of-p-requires : goal.past_of-p-requires
-past_of-p-requires c = c.requires
-
 pub loop-preserved : goal.loop-preserved
 loop-preserved c = λ ns e. rw one_less (drawn-went ns _ _ _ _ _ _ _ (some_left c.loop-test.true) c.number-i.ensures c.if-i-x.false (c.past_of-p.ensures ns e) (c.loop.invariant ns e))
 

@@ -7,4 +7,4 @@ use Rattle.machines.specs.UnknownTargets.{drawn_state}
 use Rattle.machines.proofs.memo.is_drawn_state.Given as goal
 
 abbrev pub invariant-loop : goal.invariant-loop
-invariant-loop l = (ns : List Name) → length ns ≡ l.names → drawn_state ns l.pack l.x (l.count - l.counter) l.p ≡ drawn_state ns l.pack l.x l.count l.from
+invariant-loop l = (ns : List Name) → length ns ≡ l.drawing.pack.names → drawn_state ns l.drawing.pack.bytes.now l.x (l.count - l.counter) l.p ≡ drawn_state ns l.drawing.pack.bytes.now l.x l.count l.from

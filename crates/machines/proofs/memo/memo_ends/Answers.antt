@@ -4,9 +4,6 @@ use Rattle.machines.proofs.ManyEnds.{many-done, many-stopped, many-went}
 use Rattle.machines.proofs.PartEnds.{equation-past}
 use Rattle.machines.proofs.memo.memo_ends.Goals as goal
 
-pub memo_end-p-requires : goal.memo_end-p-requires
-memo_end-p-requires c = c.requires
-
 pub returns-then-p-eq0 : goal.returns-then-p-eq0
 returns-then-p-eq0 c = record { value = λ ns e. many-stopped (equation_in ns _) (equation-past ns _) _ _ _ _ (c.memo_end-p.ensures.value ns e) c.if-p-eq0.true (some_left c.loop-test.true) (c.loop.invariant.0 ns e); by_index = λ offsets h. c.memo_end-p.ensures.by_index offsets (c.loop.invariant.1 offsets h) }
 

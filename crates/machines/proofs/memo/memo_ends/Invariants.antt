@@ -11,4 +11,4 @@ use Rattle.machines.specs.MemoSound.{MemoSound}
 use Rattle.machines.proofs.memo.memo_ends.Given as goal
 
 abbrev pub invariant-loop : goal.invariant-loop
-invariant-loop l = ((ns : List Name) → length ns ≡ l.names → end_of (many (equation_in ns l.pack) (l.count - l.counter) l.p) ≡ end_of (many (equation_in ns l.pack) l.count l.from)) × ((offsets : List ℕ) → MemoSound l.pack l.names offsets l.initial.memo → MemoSound l.pack l.names offsets l.memo)
+invariant-loop l = ((ns : List Name) → length ns ≡ l.pack.names → end_of (many (equation_in ns l.pack.bytes.now) (l.count - l.counter) l.p) ≡ end_of (many (equation_in ns l.pack.bytes.now) l.count l.from)) × ((offsets : List ℕ) → MemoSound l.pack.bytes.now l.pack.names offsets l.initial.memo → MemoSound l.pack.bytes.now l.pack.names offsets l.memo)

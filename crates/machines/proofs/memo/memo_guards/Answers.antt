@@ -4,9 +4,6 @@ use Rattle.machines.proofs.ManyEnds.{many-done, many-stopped, many-went}
 use Rattle.machines.proofs.PartEnds.{transition-past}
 use Rattle.machines.proofs.memo.memo_guards.Goals as goal
 
-pub memo_guard-p-requires : goal.memo_guard-p-requires
-memo_guard-p-requires c = c.requires
-
 pub returns-then-p-eq0 : goal.returns-then-p-eq0
 returns-then-p-eq0 c = record { value = λ ns e. many-stopped (transition_in ns _) (transition-past ns _) _ _ _ _ (c.memo_guard-p.ensures.value ns e) c.if-p-eq0.true (some_left c.loop-test.true) (c.loop.invariant.0 ns e); by_index = λ offsets h. c.memo_guard-p.ensures.by_index offsets (c.loop.invariant.1 offsets h) }
 

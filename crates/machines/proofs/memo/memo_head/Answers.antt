@@ -1,19 +1,9 @@
-use mathlib.Core.Path.{◌∙◌}
 use Rattle.machines.proofs.PartEnds.{equations-end, transitions-end}
 use Rattle.machines.proofs.StateEnds.{head-of}
 use Rattle.machines.proofs.memo.memo_head.Goals as goal
 
-pub memo_ends-moves-requires : goal.memo_ends-moves-requires
-memo_ends-moves-requires c = c.requires.0
-
-pub memo_guards-regions-requires : goal.memo_guards-regions-requires
-memo_guards-regions-requires c = c.requires.0
-
-pub read_state_head-head-requires : goal.read_state_head-head-requires
-read_state_head-head-requires c = (c.requires.0, (c.memo_guards-regions.ensures.by_index _ (c.memo_ends-moves.ensures.by_index _ c.requires.1)).ends)
-
-pub shape_of-memo : goal.shape_of-memo
-shape_of-memo c = c.memo_guards-regions.auto.memo ∙ c.memo_ends-moves.auto.memo
+pub invariant_of-drawing : goal.invariant_of-drawing
+invariant_of-drawing c = record { sound = (c.memo_guards-regions.ensures.by_index _ (c.memo_ends-moves.ensures.by_index _ c.requires)).ends }
 
 pub returns : goal.returns
-returns c = record { value = λ ns n. head-of ns _ _ _ _ _ _ _ c.number-i.ensures (equations-end ns _ _ _ _ c.number-c.ensures (c.memo_ends-moves.ensures.value ns n)) (c.read_state_head-head.ensures ns n) (transitions-end ns _ _ _ _ c.number-g.ensures (c.memo_guards-regions.ensures.value ns n)); memo_sound = c.memo_guards-regions.ensures.by_index _ (c.memo_ends-moves.ensures.by_index _ c.requires.1) }
+returns c = record { value = λ ns n. head-of ns _ _ _ _ _ _ _ c.number-i.ensures (equations-end ns _ _ _ _ c.number-c.ensures (c.memo_ends-moves.ensures.value ns n)) (c.read_state_head-head.ensures ns n) (transitions-end ns _ _ _ _ c.number-g.ensures (c.memo_guards-regions.ensures.value ns n)); memo_sound = c.memo_guards-regions.ensures.by_index _ (c.memo_ends-moves.ensures.by_index _ c.requires) }

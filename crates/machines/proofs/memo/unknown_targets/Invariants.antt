@@ -8,4 +8,4 @@ use Rattle.machines.proofs.UnknownTargetLaws.{after}
 use Rattle.machines.proofs.memo.unknown_targets.Given as goal
 
 abbrev pub invariant-loop-fine : goal.invariant-loop-fine
-invariant-loop-fine l = (ns : List Name) → length ns ≡ l.names → after l.fine (unknown_from ns l.pack l.n l.f (l.n - l.fine) l.p) ≡ unknown_target_d ns l.pack l.n l.f
+invariant-loop-fine l = (ns : List Name) → length ns ≡ l.drawing.pack.names → after l.fine (unknown_from ns l.drawing.pack.bytes.now l.n l.f (l.n - l.fine) l.p) ≡ unknown_target_d ns l.drawing.pack.bytes.now l.n l.f

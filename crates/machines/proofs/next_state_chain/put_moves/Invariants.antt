@@ -9,4 +9,4 @@ use Rattle.machines.specs.EmitAt.{moves_t}
 use Rattle.machines.proofs.next_state_chain.put_moves.Given as goal
 
 abbrev pub invariant-loop : goal.invariant-loop
-invariant-loop l = (ns : List Name) → length ns ≡ l.names → render l.old (moves_t l.pack l.offsets l.layout l.qualified ns l.q (l.count - l.counter) l.p) (state_of l.out l.made l.v) ≡ render l.old (moves_t l.pack l.offsets l.layout l.qualified ns l.q l.count l.from) (state_of l.initial.out l.initial.made l.initial.v)
+invariant-loop l = (ns : List Name) → length ns ≡ l.pack.names → render l.old (moves_t l.pack.bytes.now l.offsets l.layout l.qualified ns l.q (l.count - l.counter) l.p) (state_of l.out l.made l.v) ≡ render l.old (moves_t l.pack.bytes.now l.offsets l.layout l.qualified ns l.q l.count l.from) (state_of l.initial.out l.initial.made l.initial.v)

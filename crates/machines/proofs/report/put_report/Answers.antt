@@ -1,24 +1,15 @@
-use Prim.Native.Nat.{ℕ, ◌+◌}
 use native.Mathlib.Omega.{arith}
-use mathlib.Core.List.{List}
-use mathlib.Core.Path.{ap, ◌∙◌}
-use lib.ListN.{length}
+use mathlib.Core.Path.{◌∙◌}
 use Rattle.machines.specs.ReportAt.{of_refused}
 use Rattle.machines.proofs.EmitMachineLaws.{long_kept}
-use Rattle.machines.proofs.ReportingLaws.{bytes-start, count_fits, count-more, entered, over_first, over_last, over-next, report-whole, room-now, within-now}
+use Rattle.machines.proofs.ReportingLaws.{count-more, entered, over_last, over-next, report-whole, room-now, within-now}
 use Rattle.machines.proofs.report.put_report.Goals as goal
 
-pub put_count-requires : goal.put_count-requires
-put_count-requires c = count_fits _ _ _ _ _ _ _ _ _ c.requires.2
-
-pub loop-i-init : goal.loop-i-init
-loop-i-init c = λ ns q es h. (ap (λ (y : List ℕ). 2 + length y) (bytes-start (of_refused _ es) _), over_first (of_refused _ es) _ _)
-
 pub put_refusal-e-requires : goal.put_refusal-e-requires
-put_refusal-e-requires c = (c.requires.0, room-now _ _ _ _ _ _ _ _ _ c.requires.2 _ _ _ (c.loop-i.auto.report ∙ c.put_count.auto.report) (λ ns q es h. (c.loop-i.invariant ns q es h).0) _ _ _ (long_kept _ _ _ _ _ _ c.loop-i.auto.layout c.loop-i.auto.rows c.loop-i.auto.qualified c.requires.1) c.loop-i-test.true, c.requires.3)
+put_refusal-e-requires c = room-now _ _ _ _ _ _ _ _ _ c.requires.1 _ _ _ (c.loop-i.auto.report ∙ c.put_count.auto.report) (λ ns q es h. (c.loop-i.invariant ns q es h).0) _ _ _ (long_kept _ _ _ _ _ _ c.loop-i.auto.layout c.loop-i.auto.rows c.loop-i.auto.qualified c.requires.0) c.loop-i-test.true
 
 pub loop-i-preserved : goal.loop-i-preserved
-loop-i-preserved c = λ ns q es h. (count-more (of_refused _ es) _ _ _ _ _ _ c.loop-i-test.true (entered ns _ _ _ _ _ _ _ _ _ _ es (h _ c.loop-i-test.true) (long_kept _ _ _ _ _ _ c.loop-i.auto.layout c.loop-i.auto.rows c.loop-i.auto.qualified c.requires.1)) (c.put_refusal-e.ensures ns q).0 (c.loop-i.invariant ns q es h).0, over-next (of_refused _ es) _ _ _ _ _ _ _ _ c.loop-i-test.true (within-now _ _ _ _ _ _ _ _ _ c.requires.2 _ _ _ (c.loop-i.auto.report ∙ c.put_count.auto.report) (λ ns q es h. (c.loop-i.invariant ns q es h).0)) (entered ns _ _ _ _ _ _ _ _ _ _ es (h _ c.loop-i-test.true) (long_kept _ _ _ _ _ _ c.loop-i.auto.layout c.loop-i.auto.rows c.loop-i.auto.qualified c.requires.1)) (c.put_refusal-e.ensures ns q).0 (c.put_refusal-e.ensures ns q).1 (c.loop-i.invariant ns q es h).1)
+loop-i-preserved c = λ ns q es h. (count-more (of_refused _ es) _ _ _ _ _ _ c.loop-i-test.true (entered ns _ _ _ _ _ _ _ _ _ _ es (h _ c.loop-i-test.true) (long_kept _ _ _ _ _ _ c.loop-i.auto.layout c.loop-i.auto.rows c.loop-i.auto.qualified c.requires.0)) (c.put_refusal-e.ensures ns q).0 (c.loop-i.invariant ns q es h).0, over-next (of_refused _ es) _ _ _ _ _ _ _ _ c.loop-i-test.true (within-now _ _ _ _ _ _ _ _ _ c.requires.1 _ _ _ (c.loop-i.auto.report ∙ c.put_count.auto.report) (λ ns q es h. (c.loop-i.invariant ns q es h).0)) (entered ns _ _ _ _ _ _ _ _ _ _ es (h _ c.loop-i-test.true) (long_kept _ _ _ _ _ _ c.loop-i.auto.layout c.loop-i.auto.rows c.loop-i.auto.qualified c.requires.0)) (c.put_refusal-e.ensures ns q).0 (c.put_refusal-e.ensures ns q).1 (c.loop-i.invariant ns q es h).1)
 
 pub returns : goal.returns
 returns c = λ ns q es h. report-whole _ _ _ _ _ (omega arith) c.put_count.ensures (over_last (of_refused _ es) _ _ _ _ _ c.loop-i-test.false (c.loop-i.invariant ns q es h).1)

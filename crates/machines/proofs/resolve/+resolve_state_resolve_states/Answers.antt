@@ -1,7 +1,6 @@
 use Rattle.machines.proofs.Remaining.{none_left, one_less, some_left}
 use borrow.Enum.Refused.{opened as unsealed}
 use mathlib.Core.Path.{refl, ◌∙◌}
-use native.Mathlib.Omega.{arith}
 use Rattle.machines.specs.CheckedReads.{number_in}
 use Rattle.machines.specs.ResolveAt.{walk}
 use Rattle.machines.proofs.CheckedReadLaws.{on}
@@ -12,33 +11,15 @@ use Rattle.machines.proofs.resolve.+resolve_state_resolve_states.Goals as goal
 pub resolve_state-returns-then-count-ge-STATES : goal.resolve_state-returns-then-count-ge-STATES
 resolve_state-returns-then-count-ge-STATES t c = λ ns e. state-large ns _ _ _ _ _ _ _ c.if-count-ge-STATES.true
 
-pub resolve_state-state_head-h-requires : goal.resolve_state-state_head-h-requires
-resolve_state-state_head-h-requires t c = c.requires
-
-pub resolve_state-loop-n-init : goal.resolve_state-loop-n-init
-resolve_state-loop-n-init t c = λ ns e. refl
-
-pub resolve_state-run_length-k-requires : goal.resolve_state-run_length-k-requires
-resolve_state-run_length-k-requires t c = c.loop-n-test.true
-
 pub resolve_state-take_regions-g-requires : goal.resolve_state-take_regions-g-requires
 resolve_state-take_regions-g-requires t c = once-near _ _ _ _ c.run_length-k.ensures
 
-pub resolve_state-resolve_states-e-requires : goal.resolve_state-resolve_states-e-requires
-resolve_state-resolve_states-e-requires t c = (omega (arith, c.decreases), c.requires)
-
 pub resolve_state-returns-in_default : goal.resolve_state-returns-in_default
 resolve_state-returns-in_default t c = λ ns e. state-on ns _ _ _ _ _ _ _ _ _ _ c.if-count-ge-STATES.false (c.state_head-h.ensures ns e) c.number-t.ensures
-    (stopped _ _ _ (unsealed c.in_default.in_default-own.keys2) (taken-stopped ns _ _ _ _ _ e c.requires.1 _ _ _ _ _ _ _ _ _ _ c.run_length-k.ensures c.take_regions-g.ensures (c.resolve_states-e.ensures ns e) (unsealed c.in_default.in_default-own.keys2) (c.loop-n.invariant ns e)))
-
-pub resolve_state-overflow_sub-n : goal.resolve_state-overflow_sub-n
-resolve_state-overflow_sub-n t c = c.run_length-k.ensures.few
-
-pub resolve_state-loop-n-smaller : goal.resolve_state-loop-n-smaller
-resolve_state-loop-n-smaller t c = omega (arith, c.run_length-k.ensures.some, c.run_length-k.ensures.few)
+    (stopped _ _ _ (unsealed c.in_default.in_default-own.keys2) (taken-stopped ns _ _ _ _ _ e c.args.tables.now.lengths _ _ _ _ _ _ _ _ _ _ c.run_length-k.ensures c.take_regions-g.ensures (c.resolve_states-e.ensures ns e) (unsealed c.in_default.in_default-own.keys2) (c.loop-n.invariant ns e)))
 
 pub resolve_state-loop-n-preserved : goal.resolve_state-loop-n-preserved
-resolve_state-loop-n-preserved t c = λ ns e. taken-went ns _ _ _ _ _ e c.requires.1 _ _ _ _ _ _ _ _ _ _ _ _ _ _ _ c.run_length-k.ensures c.take_regions-g.ensures (c.resolve_states-e.ensures ns e) c.in-Went.is c.max.ensures c.max-a.ensures (c.loop-n.invariant ns e)
+resolve_state-loop-n-preserved t c = λ ns e. taken-went ns _ _ _ _ _ e c.args.tables.now.lengths _ _ _ _ _ _ _ _ _ _ _ _ _ _ _ c.run_length-k.ensures c.take_regions-g.ensures (c.resolve_states-e.ensures ns e) c.in-Went.is c.max.ensures c.max-a.ensures (c.loop-n.invariant ns e)
 
 pub resolve_state-returns-then-f-eq-ABSENT : goal.resolve_state-returns-then-f-eq-ABSENT
 resolve_state-returns-then-f-eq-ABSENT t c = λ ns e. state-on ns _ _ _ _ _ _ _ _ _ _ c.if-count-ge-STATES.false (c.state_head-h.ensures ns e) c.number-t.ensures
@@ -48,9 +29,6 @@ pub resolve_state-returns-in_default-d : goal.resolve_state-returns-in_default-d
 resolve_state-returns-in_default-d t c = λ ns e. state-on ns _ _ _ _ _ _ _ _ _ _ c.if-count-ge-STATES.false (c.state_head-h.ensures ns e) c.number-t.ensures
     (went_on _ _ _ _ _ _ _ refl (rounds-done _ _ _ _ _ _ c.loop-n-test.false (c.loop-n.invariant ns e)) (on _ _ _ _ c.number-i.ensures
     (refine-into ns _ _ _ _ _ _ _ _ _ _ _ c.number-f.ensures c.if-f-eq-ABSENT.false (stopped _ _ _ (unsealed c.in_default-d.in_default-d-own.keys2) c.refinement-d.ensures))))
-
-pub resolve_state-resolve_states-y-requires : goal.resolve_state-resolve_states-y-requires
-resolve_state-resolve_states-y-requires t c = (omega (arith, c.decreases), c.requires)
 
 pub resolve_state-returns-in_default-y : goal.resolve_state-returns-in_default-y
 resolve_state-returns-in_default-y t c = λ ns e. state-on ns _ _ _ _ _ _ _ _ _ _ c.if-count-ge-STATES.false (c.state_head-h.ensures ns e) c.number-t.ensures
@@ -67,12 +45,6 @@ resolve_state-returns t c = λ ns e. state-on ns _ _ _ _ _ _ _ _ _ _ c.if-count-
 
 pub resolve_states-returns-then-levels-eq0 : goal.resolve_states-returns-then-levels-eq0
 resolve_states-returns-then-levels-eq0 t c = λ ns e. walk_none ns _ _ _ _ _ _ _ _ c.if-levels-eq0.true
-
-pub resolve_states-overflow_sub-levels : goal.resolve_states-overflow_sub-levels
-resolve_states-overflow_sub-levels t c = omega (arith, c.if-levels-eq0.false)
-
-pub resolve_states-resolve_state-e-requires : goal.resolve_states-resolve_state-e-requires
-resolve_states-resolve_state-e-requires t c = (omega (arith, c.if-levels-eq0.false, c.decreases), c.requires)
 
 pub resolve_states-returns-in_default : goal.resolve_states-returns-in_default
 resolve_states-returns-in_default t c = λ ns e. rounds-stopped _ _ _ _ _ _ _ (some_left c.loop-test.true) (unsealed c.in_default.in_default-own.keys2) (c.resolve_state-e.ensures ns e) (c.loop.invariant ns e) ∙ walk-some ns _ _ _ _ _ _ _ _ c.if-levels-eq0.false

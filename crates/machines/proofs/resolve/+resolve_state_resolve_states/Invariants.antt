@@ -13,10 +13,10 @@ abbrev pub decreases-resolve_states : goal.decreases-resolve_states
 decreases-resolve_states l = l.levels + l.levels
 
 abbrev pub invariant-resolve_state-loop-n : goal.invariant-resolve_state-loop-n
-invariant-resolve_state-loop-n l = (ns : List Name) → length ns ≡ l.names → rounds (region_w ns l.pack l.offsets l.machines (walk ns l.pack l.offsets l.machines l.levels) l.p) l.n l.o l.c l.a ≡ rounds (region_w ns l.pack l.offsets l.machines (walk ns l.pack l.offsets l.machines l.levels) l.p) l.initial.n l.initial.o l.initial.c l.initial.a
+invariant-resolve_state-loop-n l = (ns : List Name) → length ns ≡ l.tables.drawing.pack.names → rounds (region_w ns l.tables.drawing.pack.bytes.now l.tables.offsets.now l.tables.machines.now (walk ns l.tables.drawing.pack.bytes.now l.tables.offsets.now l.tables.machines.now l.levels) l.p) l.n l.o l.c l.a ≡ rounds (region_w ns l.tables.drawing.pack.bytes.now l.tables.offsets.now l.tables.machines.now (walk ns l.tables.drawing.pack.bytes.now l.tables.offsets.now l.tables.machines.now l.levels) l.p) l.initial.n l.initial.o l.initial.c l.initial.a
 
 abbrev pub decreases-resolve_state-loop-n : goal.decreases-resolve_state-loop-n
 decreases-resolve_state-loop-n l = l.n
 
 abbrev pub invariant-resolve_states-loop : goal.invariant-resolve_states-loop
-invariant-resolve_states-loop l = (ns : List Name) → length ns ≡ l.names → rounds (state_w ns l.pack l.offsets l.machines (walk ns l.pack l.offsets l.machines (l.levels - 1)) l.p) (l.count - l.counter) l.o l.c l.a ≡ rounds (state_w ns l.pack l.offsets l.machines (walk ns l.pack l.offsets l.machines (l.levels - 1)) l.p) l.count l.at l.done 0
+invariant-resolve_states-loop l = (ns : List Name) → length ns ≡ l.tables.drawing.pack.names → rounds (state_w ns l.tables.drawing.pack.bytes.now l.tables.offsets.now l.tables.machines.now (walk ns l.tables.drawing.pack.bytes.now l.tables.offsets.now l.tables.machines.now (l.levels - 1)) l.p) (l.count - l.counter) l.o l.c l.a ≡ rounds (state_w ns l.tables.drawing.pack.bytes.now l.tables.offsets.now l.tables.machines.now (walk ns l.tables.drawing.pack.bytes.now l.tables.offsets.now l.tables.machines.now (l.levels - 1)) l.p) l.count l.at l.done 0

@@ -6,9 +6,6 @@ use Rattle.machines.proofs.ResolveLaws.{head-is}
 use Rattle.machines.proofs.MemoSoundLaws.{moves_from}
 use Rattle.machines.proofs.resolve.read_state_head.Goals as goal
 
-pub target_len-x-requires : goal.target_len-x-requires
-target_len-x-requires c = c.requires
-
 pub loop-preserved : goal.loop-preserved
 loop-preserved c = λ ns e. rw one_less (turns-went (target_t ns _ _) max _ _ _ _ _ _ (some_left c.loop-test.true) (c.target_len-x.ensures ns e) c.max-a.ensures (c.loop.invariant ns e))
 

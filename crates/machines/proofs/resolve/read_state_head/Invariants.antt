@@ -8,4 +8,4 @@ use Rattle.machines.specs.ResolveAt.{target_t}
 use Rattle.machines.proofs.resolve.read_state_head.Given as goal
 
 abbrev pub invariant-loop : goal.invariant-loop
-invariant-loop l = (ns : List Name) → length ns ≡ l.names → turns (target_t ns l.pack l.offsets) max (l.end - l.counter) l.p l.a ≡ turns (target_t ns l.pack l.offsets) max l.end l.initial.p l.initial.a
+invariant-loop l = (ns : List Name) → length ns ≡ l.drawing.pack.names → turns (target_t ns l.drawing.pack.bytes.now l.offsets) max (l.end - l.counter) l.p l.a ≡ turns (target_t ns l.drawing.pack.bytes.now l.offsets) max l.end l.initial.p l.initial.a

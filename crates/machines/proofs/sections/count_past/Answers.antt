@@ -2,8 +2,5 @@ use native.Mathlib.Omega.{arith}
 use Rattle.machines.proofs.OriginsCounted.{passed_is}
 use Rattle.machines.proofs.sections.count_past.Goals as goal
 
-pub overflow_add-result : goal.overflow_add-result
-overflow_add-result c = omega (arith, c.adds_equations-b.ensures.0, c.requires.1, c.requires.2)
-
 pub returns : goal.returns
-returns c = (omega (arith, c.adds_equations-b.ensures.0, c.requires.2), λ ns e. passed_is ns _ _ _ _ _ _ _ (c.adds_equations-b.ensures.1 ns e))
+returns c = (omega (arith, c.adds_equations-b.ensures.0, c.requires.1), λ ns e. passed_is ns _ _ _ _ _ _ _ (c.adds_equations-b.ensures.1 ns e))

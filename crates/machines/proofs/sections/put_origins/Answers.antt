@@ -12,15 +12,6 @@ loop-i-init c = (omega (arith, c.old_equations-b.ensures.0), λ ns e. right-star
 pub returns-then-v : goal.returns-then-v
 returns-then-v c = λ ns e old l. stays-full _ _ _ _ _ _ c.if-v.true (c.loop-i.invariant.2 ns e old l)
 
-pub count_before-d-requires : goal.count_before-d-requires
-count_before-d-requires c = (c.requires.0, omega (arith, c.loop-i-test.true, c.requires.1), c.loop-i.invariant.0)
-
-pub put_origin-v-requires : goal.put_origin-v-requires
-put_origin-v-requires c = (c.requires.0, omega (arith, c.count_before-d.ensures.0, c.loop-i-test.true, c.requires.1))
-
-pub count_past-d-requires : goal.count_past-d-requires
-count_past-d-requires c = (c.requires.0, omega (arith, c.loop-i-test.true, c.requires.1), c.count_before-d.ensures.0)
-
 pub loop-i-preserved : goal.loop-i-preserved
 loop-i-preserved c = (c.count_past-d.ensures.0, λ ns e. passed-right ns _ _ _ _ _ _ _ _ _ (c.count_past-d.ensures.1 ns e) (counted-right ns _ _ _ _ _ _ _ _ _ (c.count_before-d.ensures.1 ns e) (c.loop-i.invariant.1 ns e)), λ ns e old l. each_more old (own_origin_t ns _ _ _ _ _ _) _ _ _ _ _ _ (one_more c.loop-i-test.true) (given-put ns _ _ _ _ _ _ _ _ _ old _ _ (c.count_before-d.ensures.1 ns e) (c.loop-i.invariant.1 ns e) (c.put_origin-v.ensures ns e old l)) (c.loop-i.invariant.2 ns e old l))
 

@@ -9,17 +9,11 @@ use Rattle.machines.proofs.validate.+validate_region_validate_state.Goals as goa
 pub validate_region-returns-then-levels-eq0 : goal.validate_region-returns-then-levels-eq0
 validate_region-returns-then-levels-eq0 t c = λ ns e. region-none ns _ _ _ _ c.if-levels-eq0.true
 
-pub validate_region-recall_targets-v-requires : goal.validate_region-recall_targets-v-requires
-validate_region-recall_targets-v-requires t c = c.requires
-
 pub validate_region-loop-init : goal.validate_region-loop-init
 validate_region-loop-init t c = (λ ns e. rw all_left (rows-from _ _ _ _ _ _ c.layout_word-end.ensures c.first-p.ensures), λ ns e. rw all_left (foreseen-from ns _ _ _ _ _ _ _ _ c.layout_word-end.ensures c.first-p.ensures (c.recall_targets-v.ensures ns e)))
 
-pub validate_region-overflow_sub-levels : goal.validate_region-overflow_sub-levels
-validate_region-overflow_sub-levels t c = omega (arith, c.if-levels-eq0.false)
-
 pub validate_region-validate_state-r-requires : goal.validate_region-validate_state-r-requires
-validate_region-validate_state-r-requires t c = (omega (arith, c.if-levels-eq0.false, c.decreases), (c.requires.0, c.requires.1, λ ns e. foreseen-one ns _ _ _ _ _ _ (some_left c.loop-test.true) (c.loop.invariant.1 ns e)))
+validate_region-validate_state-r-requires t c = (omega (arith, c.if-levels-eq0.false, c.decreases), (λ ns e. foreseen-one ns _ _ _ _ _ _ (some_left c.loop-test.true) (c.loop.invariant.1 ns e)))
 
 pub validate_region-returns-in_default : goal.validate_region-returns-in_default
 validate_region-returns-in_default t c = λ ns e. region-goes ns _ _ _ _ _ _ c.if-levels-eq0.false c.entry.ensures (sym c.if-not-has_state.false ∙ c.has_state.ensures) (rows-stop _ _ _ _ _ _ (some_left c.loop-test.true) (c.validate_state-r.ensures ns e) (stops _ (unsealed c.in_default.in_default-own.keys2)) (c.loop.invariant.0 ns e))
@@ -33,17 +27,11 @@ validate_region-returns t c = λ ns e. region-goes ns _ _ _ _ _ _ c.if-levels-eq
 pub validate_region-returns-then-not-has_state : goal.validate_region-returns-then-not-has_state
 validate_region-returns-then-not-has_state t c = λ ns e. region-initial ns _ _ _ _ _ c.if-levels-eq0.false c.entry.ensures (sym c.if-not-has_state.true ∙ c.has_state.ensures)
 
-pub validate_state-check_transitions-c-requires : goal.validate_state-check_transitions-c-requires
-validate_state-check_transitions-c-requires t c = c.requires
-
 pub validate_state-returns-in_default : goal.validate_state-returns-in_default
 validate_state-returns-in_default t c = λ ns e. state-stops ns _ _ _ _ _ _ (c.check_transitions-c.ensures ns e) (stops _ (unsealed c.in_default.in_default-own.keys2))
 
 pub validate_state-loop-init : goal.validate_state-loop-init
 validate_state-loop-init t c = λ ns e. rw all_left (rows-from _ _ _ _ _ _ c.layout_word-end.ensures c.inner-g.ensures)
-
-pub validate_state-validate_region-r-requires : goal.validate_state-validate_region-r-requires
-validate_state-validate_region-r-requires t c = (omega (arith, c.decreases), (c.requires.0, c.requires.1))
 
 pub validate_state-returns-in_default-r : goal.validate_state-returns-in_default-r
 validate_state-returns-in_default-r t c = λ ns e. state-goes ns _ _ _ _ _ _ _ (c.check_transitions-c.ensures ns e) c.in-Fine.is (rows-stop _ _ _ _ _ _ (some_left c.loop-test.true) (c.validate_region-r.ensures ns e) (stops _ (unsealed c.in_default-r.in_default-r-own.keys2)) (c.loop.invariant ns e))

@@ -13,7 +13,7 @@ abbrev pub decreases-validate_state : goal.decreases-validate_state
 decreases-validate_state l = l.levels + l.levels + 1
 
 abbrev pub invariant-validate_region-loop : goal.invariant-validate_region-loop
-invariant-validate_region-loop l = ((ns : List Name) → length ns ≡ l.names → each_row l.layout (checked_state ns l.pack l.layout (checked_region ns l.pack l.layout (l.levels - 1)) l.q) (l.end - l.counter) l.p ≡ each_row l.layout (checked_state ns l.pack l.layout (checked_region ns l.pack l.layout (l.levels - 1)) l.q) (get_or l.layout (l.q + 6) 0) (l.q + 9)) × AllRecalled l.pack l.names l.layout l.v l.q (l.end - l.counter) l.p
+invariant-validate_region-loop l = ((ns : List Name) → length ns ≡ l.drawing.pack.names → each_row l.layout (checked_state ns l.drawing.pack.bytes.now l.layout (checked_region ns l.drawing.pack.bytes.now l.layout (l.levels - 1)) l.q) (l.end - l.counter) l.p ≡ each_row l.layout (checked_state ns l.drawing.pack.bytes.now l.layout (checked_region ns l.drawing.pack.bytes.now l.layout (l.levels - 1)) l.q) (get_or l.layout (l.q + 6) 0) (l.q + 9)) × AllRecalled l.drawing.pack.bytes.now l.drawing.pack.names l.layout l.v l.q (l.end - l.counter) l.p
 
 abbrev pub invariant-validate_state-loop : goal.invariant-validate_state-loop
-invariant-validate_state-loop l = (ns : List Name) → length ns ≡ l.names → each_row l.layout (checked_region ns l.pack l.layout l.levels) (l.end - l.counter) l.g ≡ each_row l.layout (checked_region ns l.pack l.layout l.levels) (get_or l.layout (l.p + 5) 0) (l.p + 6)
+invariant-validate_state-loop l = (ns : List Name) → length ns ≡ l.drawing.pack.names → each_row l.layout (checked_region ns l.drawing.pack.bytes.now l.layout l.levels) (l.end - l.counter) l.g ≡ each_row l.layout (checked_region ns l.drawing.pack.bytes.now l.layout l.levels) (get_or l.layout (l.p + 5) 0) (l.p + 6)

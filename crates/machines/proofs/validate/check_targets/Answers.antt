@@ -6,12 +6,6 @@ use Rattle.machines.proofs.validate.check_targets.Goals as goal
 pub loop-init : goal.loop-init
 loop-init c = (λ ns e. rw all_left (targets-from ns _ _ _ _ _ _ c.layout_word.ensures c.number-c.ensures), tt)
 
-pub guard_end-requires : goal.guard_end-requires
-guard_end-requires c = c.requires
-
-pub has_target-requires : goal.has_target-requires
-has_target-requires c = c.loop.invariant.1
-
 pub loop-preserved : goal.loop-preserved
 loop-preserved c = (λ ns e. rw one_less (moves-went ns _ _ _ _ _ _ _ _ _ (some_left c.loop-test.true) (c.guard_end.ensures ns e) c.number-x.ensures (sym c.if-not-has_target.false ∙ c.has_target.ensures) (c.loop.invariant.0 ns e)), (has-now _ _ _ _ _ c.has_target.ensures c.if-not-has_target.false))
 

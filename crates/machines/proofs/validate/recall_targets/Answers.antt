@@ -10,7 +10,7 @@ pub returns-then-x-eq0 : goal.returns-then-x-eq0
 returns-then-x-eq0 c = λ ns e. unknown-foreseen ns _ _ _ _ _ _ c.empty_memo-then-x-eq0.ensures
 
 pub returns-then-c-n : goal.returns-then-c-n
-returns-then-c-n c = λ ns e. all-foreseen ns _ _ _ _ _ _ _ _ _ c.layout_word-n.ensures c.first-p.ensures (strays-kept _ _ _ _ _ _ _ _ c.requires.1 c.if-f-lt5.false c.memo_at-x.ensures (omega (arith, c.if-x-eq0.false)) c.memo_beside.ensures c.number-c.ensures c.if-c-n.true ns e) (c.rows_drawn.ensures ns e)
+returns-then-c-n c = λ ns e. all-foreseen ns _ _ _ _ _ _ _ _ _ c.layout_word-n.ensures c.first-p.ensures (strays-kept _ _ _ _ _ _ _ _ c.args.drawing.now.sound c.if-f-lt5.false c.memo_at-x.ensures (omega (arith, c.if-x-eq0.false)) c.memo_beside.ensures c.number-c.ensures c.if-c-n.true ns e) (c.rows_drawn.ensures ns e)
 
 pub returns : goal.returns
 returns c = λ ns e. unknown-foreseen ns _ _ _ _ _ _ c.empty_memo-2.ensures

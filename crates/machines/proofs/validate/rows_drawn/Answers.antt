@@ -3,12 +3,6 @@ use mathlib.Core.Path.{sym, ◌∙◌}
 use Rattle.machines.proofs.RecalledRows.{rows-drawn-done, rows-drawn-stop, rows-drawn-went}
 use Rattle.machines.proofs.validate.rows_drawn.Goals as goal
 
-pub row_drawn-requires : goal.row_drawn-requires
-row_drawn-requires c = c.requires
-
-pub past_of-at-requires : goal.past_of-at-requires
-past_of-at-requires c = c.requires
-
 pub loop-preserved : goal.loop-preserved
 loop-preserved c = λ ns e. rw one_less (rows-drawn-went ns _ _ _ _ _ _ _ _ (some_left c.loop-test.true) (sym c.if-not-row_drawn.false ∙ c.row_drawn.ensures ns e) c.layout_word-p.ensures (c.past_of-at.ensures ns e) (c.loop.invariant ns e))
 

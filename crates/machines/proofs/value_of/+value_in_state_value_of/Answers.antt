@@ -4,38 +4,23 @@ use Rattle.machines.proofs.RowLaws.{stays-full}
 use Rattle.machines.proofs.ValueLaws.{in-entered, in-own, value_none, value-some, values-last, values-more, values-none}
 use Rattle.machines.proofs.value_of.+value_in_state_value_of.Goals as goal
 
-pub value_in_state-entered-g-requires : goal.value_in_state-entered-g-requires
-value_in_state-entered-g-requires t c = c.requires
-
-pub value_in_state-put_own-requires : goal.value_in_state-put_own-requires
-value_in_state-put_own-requires t c = (c.requires.0, c.requires.1)
-
 pub value_in_state-returns-then-g-eq0 : goal.value_in_state-returns-then-g-eq0
 value_in_state-returns-then-g-eq0 t c = record { result_after = λ ns e. in-own _ _ _ _ ns _ _ _ _ _ _ _ (c.entered-g.ensures.value ns e) c.if-g-eq0.true (c.put_own.ensures ns e _); assigns_sound = c.entered-g.ensures.assigns_sound }
-
-pub value_in_state-value_of-requires : goal.value_in_state-value_of-requires
-value_in_state-value_of-requires t c = (omega (arith, c.decreases), (c.requires.0, c.requires.1, c.entered-g.ensures.assigns_sound))
 
 pub value_in_state-returns : goal.value_in_state-returns
 value_in_state-returns t c = record { result_after = λ ns e. in-entered _ _ _ _ ns _ _ _ _ _ _ _ (c.entered-g.ensures.value ns e) c.if-g-eq0.false (c.value_of.ensures.result_after ns e); assigns_sound = c.value_of.ensures.assigns_sound }
 
 pub value_of-returns-then-levels-eq0 : goal.value_of-returns-then-levels-eq0
-value_of-returns-then-levels-eq0 t c = record { result_after = λ ns e. value_none _ _ _ _ ns _ _ _ _ c.if-levels-eq0.true; assigns_sound = c.requires.2 }
+value_of-returns-then-levels-eq0 t c = record { result_after = λ ns e. value_none _ _ _ _ ns _ _ _ _ c.if-levels-eq0.true; assigns_sound = c.requires }
 
 pub value_of-returns-then-v : goal.value_of-returns-then-v
 value_of-returns-then-v t c = record { result_after = λ ns e. stays-full _ _ _ _ _ _ c.if-v.true (c.loop.invariant.0 ns e) ∙ value-some _ _ _ _ ns _ _ _ _ _ _ c.if-levels-eq0.false c.layout_word-n.ensures c.first-p.ensures; assigns_sound = c.loop.invariant.1 }
-
-pub value_of-value_in_state-v-requires : goal.value_of-value_in_state-v-requires
-value_of-value_in_state-v-requires t c = (omega (arith, c.if-levels-eq0.false, c.decreases), (c.requires.0, c.requires.1, c.loop.invariant.1))
 
 pub value_of-loop-preserved : goal.value_of-loop-preserved
 value_of-loop-preserved t c = (λ ns e. values-more _ _ _ _ _ _ _ _ _ _ _ _ _ (omega arith) (omega arith) c.put_test-a.ensures (c.value_in_state-v.ensures.result_after ns e) c.layout_word-p.ensures (c.loop.invariant.0 ns e), c.value_in_state-v.ensures.assigns_sound)
 
 pub value_of-returns-then-n-eq0 : goal.value_of-returns-then-n-eq0
 value_of-returns-then-n-eq0 t c = record { result_after = λ ns e. values-none _ _ _ _ _ _ _ _ _ (omega arith) (c.loop.invariant.0 ns e) ∙ value-some _ _ _ _ ns _ _ _ _ _ _ c.if-levels-eq0.false c.layout_word-n.ensures c.first-p.ensures; assigns_sound = c.loop.invariant.1 }
-
-pub value_of-value_in_state-requires : goal.value_of-value_in_state-requires
-value_of-value_in_state-requires t c = (omega (arith, c.if-levels-eq0.false, c.decreases), (c.requires.0, c.requires.1, c.loop.invariant.1))
 
 pub value_of-returns : goal.value_of-returns
 value_of-returns t c = record { result_after = λ ns e. c.value_in_state.ensures.result_after ns e ∙ values-last _ _ _ _ _ _ _ _ _ (omega arith) (λ d. absurd (omega arith)) (c.loop.invariant.0 ns e) ∙ value-some _ _ _ _ ns _ _ _ _ _ _ c.if-levels-eq0.false c.layout_word-n.ensures c.first-p.ensures; assigns_sound = c.value_in_state.ensures.assigns_sound }

@@ -17,4 +17,4 @@ abbrev pub decreases-value_of : goal.decreases-value_of
 decreases-value_of l = l.levels + l.levels
 
 abbrev pub invariant-value_of-loop : goal.invariant-value_of-loop
-invariant-value_of-loop l = ((ns : List Name) → length ns ≡ l.names → render l.old (values_t l.layout l.qualified (in_state_t l.pack l.layout l.qualified ns l.x (value_t l.pack l.layout l.qualified ns l.x l.rest) (uncovered_t ns l.pack l.layout l.x l.rest)) l.q (l.n - (l.counter - 1)) l.p) (state_of l.out l.made l.v) ≡ render l.old (values_t l.layout l.qualified (in_state_t l.pack l.layout l.qualified ns l.x (value_t l.pack l.layout l.qualified ns l.x l.rest) (uncovered_t ns l.pack l.layout l.x l.rest)) l.q l.n l.initial.p) (state_of l.initial.out l.initial.made l.initial.v)) × AssignsSound l.pack l.names l.memo l.hints
+invariant-value_of-loop l = ((ns : List Name) → length ns ≡ l.drawing.pack.names → render l.old (values_t l.layout l.qualified (in_state_t l.drawing.pack.bytes.now l.layout l.qualified ns l.x (value_t l.drawing.pack.bytes.now l.layout l.qualified ns l.x l.rest) (uncovered_t ns l.drawing.pack.bytes.now l.layout l.x l.rest)) l.q (l.n - (l.counter - 1)) l.p) (state_of l.out l.made l.v) ≡ render l.old (values_t l.layout l.qualified (in_state_t l.drawing.pack.bytes.now l.layout l.qualified ns l.x (value_t l.drawing.pack.bytes.now l.layout l.qualified ns l.x l.rest) (uncovered_t ns l.drawing.pack.bytes.now l.layout l.x l.rest)) l.q l.n l.initial.p) (state_of l.initial.out l.initial.made l.initial.v)) × AssignsSound l.drawing.pack.bytes.now l.drawing.pack.names l.drawing.memo.now l.hints

@@ -1,13 +1,7 @@
-use Rattle.machines.proofs.Remaining.{all_left, none_left, one_less, some_left}
+use Rattle.machines.proofs.Remaining.{none_left, one_less, some_left}
 use mathlib.Core.Path.{◌∙◌}
 use Rattle.machines.proofs.ValueLaws.{entered_from, giving-done, giving-found, giving-went}
 use Rattle.machines.proofs.value_of.entered.Goals as goal
-
-pub loop-init : goal.loop-init
-loop-init c = (λ ns e. rw all_left, c.requires.2)
-
-pub require_cover_region-m-requires : goal.require_cover_region-m-requires
-require_cover_region-m-requires c = (c.requires.0, c.requires.1, c.loop.invariant.1)
 
 pub returns-then-m-eq0 : goal.returns-then-m-eq0
 returns-then-m-eq0 c = record { value = λ ns e. giving-found _ _ _ _ _ _ (some_left c.loop-test.true) (c.require_cover_region-m.ensures.value ns e) c.if-m-eq0.true (c.loop.invariant.0 ns e) ∙ entered_from _ _ _ _ _ c.layout_word-end.ensures c.inner-g.ensures; assigns_sound = c.require_cover_region-m.ensures.assigns_sound }

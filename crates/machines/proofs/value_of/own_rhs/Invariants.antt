@@ -7,4 +7,4 @@ use Rattle.machines.specs.ValueAt.{side_from}
 use Rattle.machines.proofs.value_of.own_rhs.Given as goal
 
 abbrev pub invariant-loop : goal.invariant-loop
-invariant-loop l = (ns : List Name) → length ns ≡ l.names → side_from ns l.pack l.x (l.end - l.counter) l.p ≡ side_from ns l.pack l.x l.end l.initial.p
+invariant-loop l = (ns : List Name) → length ns ≡ l.drawing.pack.names → side_from ns l.drawing.pack.bytes.now l.x (l.end - l.counter) l.p ≡ side_from ns l.drawing.pack.bytes.now l.x l.end l.initial.p

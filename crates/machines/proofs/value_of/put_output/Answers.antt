@@ -4,8 +4,5 @@ use Rattle.pack.specs.Intern.{render}
 use Rattle.machines.proofs.ValueLaws.{output-term}
 use Rattle.machines.proofs.value_of.put_output.Goals as goal
 
-pub value_of-requires : goal.value_of-requires
-value_of-requires c = c.requires
-
 pub returns : goal.returns
 returns c = record { result_after = λ ns e. c.value_of.ensures.result_after ns e ∙ ap (render _ _) (c.put_u16-b.ensures _ ∙ ap (puts _) (c.put_u16-a.ensures _)) ∙ output-term _ _ _ _ ns _ _; assigns_sound = c.value_of.ensures.assigns_sound }

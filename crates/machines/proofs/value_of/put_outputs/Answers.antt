@@ -12,9 +12,6 @@ loop-init c = (λ ns e. rw all_left, blank-told _ _ _ _ (zeros 7322))
 pub returns-then-v : goal.returns-then-v
 returns-then-v c = λ ns e. stays-full _ _ _ _ _ _ c.if-v.true (c.loop.invariant.0 ns e) ∙ outputs-is _ _ _ _ ns _ _ _ c.number-c.ensures
 
-pub put_output-v-requires : goal.put_output-v-requires
-put_output-v-requires c = (c.requires.0, c.requires.1, c.loop.invariant.1)
-
 pub loop-preserved : goal.loop-preserved
 loop-preserved c = (λ ns e. outputs-more _ _ _ _ ns _ _ _ _ _ _ _ _ (one_more c.loop-test.true) c.number-x.ensures (c.put_output-v.ensures.result_after ns e) (c.after_port-p.ensures ns e) (c.loop.invariant.0 ns e), c.put_output-v.ensures.assigns_sound)
 

@@ -10,4 +10,4 @@ use Rattle.machines.specs.ValueAt.{outputs_t}
 use Rattle.machines.proofs.value_of.put_outputs.Given as goal
 
 abbrev pub invariant-loop : goal.invariant-loop
-invariant-loop l = ((ns : List Name) → length ns ≡ l.names → render l.old (outputs_t l.pack l.layout l.qualified ns (l.end - l.counter) l.p) (state_of l.out l.made l.v) ≡ render l.old (outputs_t l.pack l.layout l.qualified ns l.end l.initial.p) (state_of l.initial.out l.initial.made l.initial.v)) × AssignsSound l.pack l.names l.memo l.told
+invariant-loop l = ((ns : List Name) → length ns ≡ l.drawing.pack.names → render l.old (outputs_t l.drawing.pack.bytes.now l.layout l.qualified ns (l.end - l.counter) l.p) (state_of l.out l.made l.v) ≡ render l.old (outputs_t l.drawing.pack.bytes.now l.layout l.qualified ns l.end l.initial.p) (state_of l.initial.out l.initial.made l.initial.v)) × AssignsSound l.drawing.pack.bytes.now l.drawing.pack.names l.drawing.memo.now l.told

@@ -1,12 +1,6 @@
 use Rattle.machines.proofs.JudgeLaws.{judged-cycle, judged-laid, judged-large, judged-unknown, letters-cycle, letters-laid, letters-large, letters-unknown}
 use Rattle.machines.proofs.verdicts.judge.Goals as goal
 
-pub to_outputs-o-requires : goal.to_outputs-o-requires
-to_outputs-o-requires c = c.requires.0
-
-pub judge_laid-requires : goal.judge_laid-requires
-judge_laid-requires c = (c.requires.0, c.requires.1.ends)
-
 pub returns-in-Cycle : goal.returns-in-Cycle
 returns-in-Cycle c = record { value = λ ns e. judged-cycle ns _ _ _ _ _ _ _ _ _ _ c.number-m.ensures (c.to_initial-i.ensures ns e) (c.resolve_machine-w.ensures ns e) _ _ _ _ c.in-Cycle.is c.named.ensures c.no_name.ensures c.refused.ensures; qualified_after = λ ns e. letters-cycle ns _ _ _ _ _ _ _ _ _ _ c.number-m.ensures (c.to_initial-i.ensures ns e) (c.resolve_machine-w.ensures ns e) _ c.in-Cycle.is }
 

@@ -7,4 +7,4 @@ use Rattle.machines.specs.OwnersAt.{HasRegions, fill_t, machine_end, nth}
 use Rattle.machines.proofs.verdicts.judge_all.Given as goal
 
 abbrev pub invariant-loop-i : goal.invariant-loop-i
-invariant-loop-i l = (ns : List Name) → length ns ≡ l.names → (l.p ≡ nth (machine_end ns l.pack) l.from l.i) × (fill_t (nth (machine_end ns l.pack) l.from) (l.count - l.i) l.i l.defs ≡ fill_t (nth (machine_end ns l.pack) l.from) l.count 0 l.initial.defs) × ((gs : ℕ → ℕ) → ((k : ℕ) → k < l.count → HasRegions ns l.pack l.offsets l.machines (nth (machine_end ns l.pack) l.from k) (gs k)) → fill_t gs (l.count - l.i) l.i l.regcounts ≡ fill_t gs l.count 0 l.initial.regcounts)
+invariant-loop-i l = (ns : List Name) → length ns ≡ l.tables.drawing.pack.names → (l.p ≡ nth (machine_end ns l.tables.drawing.pack.bytes.now) l.from l.i) × (fill_t (nth (machine_end ns l.tables.drawing.pack.bytes.now) l.from) (l.count - l.i) l.i l.defs ≡ fill_t (nth (machine_end ns l.tables.drawing.pack.bytes.now) l.from) l.count 0 l.initial.defs) × ((gs : ℕ → ℕ) → ((k : ℕ) → k < l.count → HasRegions ns l.tables.drawing.pack.bytes.now l.tables.offsets.now l.tables.machines.now (nth (machine_end ns l.tables.drawing.pack.bytes.now) l.from k) (gs k)) → fill_t gs (l.count - l.i) l.i l.regcounts ≡ fill_t gs l.count 0 l.initial.regcounts)

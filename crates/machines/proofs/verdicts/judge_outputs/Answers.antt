@@ -7,9 +7,6 @@ use Rattle.machines.proofs.verdicts.judge_outputs.Goals as goal
 pub loop-init : goal.loop-init
 loop-init c = (λ ns e. rw all_left, blank-told _ _ _ _ (zeros 7322), blank-given _ _ _ _ (zeros 17408))
 
-pub uncovered_output-m-requires : goal.uncovered_output-m-requires
-uncovered_output-m-requires c = (c.requires.0, c.requires.1, c.loop.invariant.1, c.loop.invariant.2)
-
 pub returns-then-m-ne0 : goal.returns-then-m-ne0
 returns-then-m-ne0 c = λ ns e. outputs-stop ns _ _ _ _ _ _ _ _ _ _ _ (some_left c.loop-test.true) c.number-x.ensures (c.uncovered_output-m.ensures.value ns e) c.if-m-ne0.true c.named.ensures c.state_called.ensures c.refused.ensures (c.loop.invariant.0 ns e)
 

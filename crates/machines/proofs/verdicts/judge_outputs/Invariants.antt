@@ -8,4 +8,4 @@ use Rattle.machines.specs.AssignsMemo.{AssignmentSound, AssignsSound}
 use Rattle.machines.proofs.verdicts.judge_outputs.Given as goal
 
 abbrev pub invariant-loop : goal.invariant-loop
-invariant-loop l = ((ns : List Name) → length ns ≡ l.names → outputs_j ns l.pack l.layout l.regions (l.count - l.counter) l.p ≡ outputs_j ns l.pack l.layout l.regions l.count l.from) × AssignsSound l.pack l.names l.memo l.told × AssignmentSound l.pack l.names l.layout l.given
+invariant-loop l = ((ns : List Name) → length ns ≡ l.drawing.pack.names → outputs_j ns l.drawing.pack.bytes.now l.layout l.regions (l.count - l.counter) l.p ≡ outputs_j ns l.drawing.pack.bytes.now l.layout l.regions l.count l.from) × AssignsSound l.drawing.pack.bytes.now l.drawing.pack.names l.drawing.memo.now l.told × AssignmentSound l.drawing.pack.bytes.now l.drawing.pack.names l.layout l.given

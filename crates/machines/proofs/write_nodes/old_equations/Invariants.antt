@@ -7,4 +7,4 @@ use Rattle.machines.specs.AddedAt.{old_t}
 use Rattle.machines.proofs.write_nodes.old_equations.Given as goal
 
 abbrev pub invariant-loop-i : goal.invariant-loop-i
-invariant-loop-i l = (l.i ≤ l.k) × ((ns : List Name) → length ns ≡ l.names → old_t ns l.pack (l.count - l.i) l.p (l.k - l.i) ≡ old_t ns l.pack l.count l.from l.k)
+invariant-loop-i l = (l.i ≤ l.k) × ((ns : List Name) → length ns ≡ l.pack.names → old_t ns l.pack.bytes.now (l.count - l.i) l.p (l.k - l.i) ≡ old_t ns l.pack.bytes.now l.count l.from l.k)

@@ -12,4 +12,4 @@ use Rattle.machines.specs.WriteNodesAt.{new_node_t}
 use Rattle.machines.proofs.write_nodes.put_new_nodes.Given as goal
 
 abbrev pub invariant-loop-i : goal.invariant-loop-i
-invariant-loop-i l = (ns : List Name) → length ns ≡ l.names → (eqs : ℕ → List Item) → AllWrite l.old (equations_at ns l.pack l.offsets l.machines) l.defs l.n eqs → render l.old (each_t (new_node_t ns l.pack l.defs l.receivers l.regcounts l.offsets l.n eqs) (l.n - l.i) l.i) (state_of l.out l.made l.v) ≡ render l.old (each_t (new_node_t ns l.pack l.defs l.receivers l.regcounts l.offsets l.n eqs) l.n 0) (state_of l.initial.out l.initial.made l.initial.v)
+invariant-loop-i l = (ns : List Name) → length ns ≡ l.drawing.pack.names → (eqs : ℕ → List Item) → AllWrite l.old (equations_at ns l.drawing.pack.bytes.now l.offsets l.machines) l.defs l.n eqs → render l.old (each_t (new_node_t ns l.drawing.pack.bytes.now l.defs l.receivers l.regcounts l.offsets l.n eqs) (l.n - l.i) l.i) (state_of l.out l.made l.v) ≡ render l.old (each_t (new_node_t ns l.drawing.pack.bytes.now l.defs l.receivers l.regcounts l.offsets l.n eqs) l.n 0) (state_of l.initial.out l.initial.made l.initial.v)

@@ -1,9 +1,5 @@
-use native.Mathlib.Omega.{arith}
 use Rattle.machines.proofs.NodeHeadLaws.{node-locals-put}
 use Rattle.machines.proofs.write_nodes.put_node_locals.Goals as goal
-
-pub overflow_add-o : goal.overflow_add-o
-overflow_add-o c = omega (arith, c.added_locals-m.ensures.0, c.small-o.ensures.0, c.requires.1)
 
 pub returns : goal.returns
 returns c = λ ns e. node-locals-put ns _ _ _ _ _ _ _ _ _ _ _ _ _ _ _ _ _ _ c.small-o.ensures.1 (c.added_locals-m.ensures.1 ns e) c.between-h.ensures (c.put_u16-a.ensures _) (c.put_bytes-b.ensures _) (c.put_all_locals.ensures ns e)

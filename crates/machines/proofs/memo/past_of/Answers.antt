@@ -1,5 +1,0 @@
-use Rattle.machines.proofs.MemoSoundLaws.{past-kept}
-use Rattle.machines.proofs.memo.past_of.Goals as goal
-
-pub returns-then-r-gt0 : goal.returns-then-r-gt0
-returns-then-r-gt0 c = past-kept _ _ _ _ _ _ c.requires.1 c.memo_regions-r.ensures c.if-r-gt0.true c.memo_past.ensures
