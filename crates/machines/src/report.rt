@@ -16,7 +16,7 @@ ghost use Rattle.machines.specs.ReportAt.{EntersAll, RoomAt, RoomForAll, bytes_t
 use crate::checked_read::number;
 use crate::layout::{pack_name, part};
 use crate::table::entry;
-use crate::verdicts::{NameRef, VerdictRow, judge, named, no_name, refused};
+use crate::verdicts::{NameRef, Refusal, VerdictRow, judge};
 use pack::record::Pack;
 use wire::writer::append;
 
@@ -177,7 +177,7 @@ fn refusal_of(
     defs: &[usize],
     regcounts: &[usize],
     i: usize,
-) -> VerdictRow
+) -> Result<usize, Refusal>
     requires { (length pack.now ≤ max_bytes) × MemoSound pack.now names offsets.now memo.now }
     ensures value { (ns : List Name) → length ns ≡ names → result ≡ refusal_t ns pack.now offsets.now machines.now defs.now regcounts.now i layout.old rows.old qualified.old }
     ensures qualified_after { (ns : List Name) → length ns ≡ names → qualified.new ≡ letters_t ns pack.now offsets.now machines.now defs.now regcounts.now i layout.old rows.old qualified.old }
@@ -191,7 +191,7 @@ fn refusal_of(
     }
     let m = number(pack, at);
     let o = number(pack, m.next);
-    refused(VerdictRow::UNKNOWN_OWNER, named(o.value), no_name())
+    Err(Refusal::UnknownOwner(o.value))
 }
 
 // How many bytes its entry takes: none where it is not refused.
@@ -221,7 +221,10 @@ fn refusal_len(
     let j = refusal_of(
         pack, names, offsets, machines, memo, layout, rows, qualified, defs, regcounts, i,
     );
-    entry_len(pack, offsets, qualified, m.value, j)
+    match j {
+        Ok(_) => 0,
+        Err(r) => entry_len(pack, offsets, qualified, m.value, r.row()),
+    }
 }
 
 // How many bytes the report of the first n machines takes.
@@ -281,7 +284,10 @@ fn put_refusal(
     let j = refusal_of(
         pack, names, offsets, machines, memo, layout, rows, qualified, defs, regcounts, i,
     );
-    put_entry(pack, offsets, qualified, m.value, j, report, at)
+    match j {
+        Ok(_) => at,
+        Err(r) => put_entry(pack, offsets, qualified, m.value, r.row(), report, at),
+    }
 }
 
 // The report of the first n machines, of which so many are refused.
