@@ -6,7 +6,7 @@ ghost use Rattle.std.specs.Prelude.{List, ◌≡◌, ◌+◌, ◌≤◌, get_or,
 ghost use Rattle.pack_rules.specs.Names.{Name};
 ghost use Rattle.pack_rules.specs.Limits.{max_bytes};
 ghost use Rattle.machines.specs.MemoSound.{RowsSound};
-ghost use Rattle.machines.specs.ValidateAt.{AllRecalled, Has, OneRecalled, checked_region, checked_state, has_t, is_state_t, onward as onward_of, recall_t as foretold_of, row_drawn, rows_drawn, targets_t, unknown};
+ghost use Rattle.machines.specs.ValidateAt.{AllRecalled, Has, OneRecalled, checked_region, checked_state, has_t, is_state_t, onward as onward_of, recall_t as foretold_of, row_drawn, rows_drawn, targets_t};
 
 use crate::checked_read::number;
 use crate::layout::{first, inner, layout_word};
@@ -16,11 +16,10 @@ use crate::table::entry;
 // --- What is known of the targets of a region's states before they are looked at: `memo` has of a drawn region which state is the
 // first with an unknown target.
 
-// What is known of the targets of a region's states from one on: the next `fine` ones have none that is wrong, the one after
-// them has one, with this name. Where nothing is known, this says nothing.
+// What may be known of the targets of a region's states from one on: the next `fine` ones have none that is wrong, the one after
+// them has one, with this name.
 #[derive(Clone, Copy)]
 pub struct TargetMemo {
-    pub known: bool,
     pub fine: usize,
     pub name: usize,
 }
@@ -58,17 +57,6 @@ fn rows_drawn(
     true
 }
 
-// Where nothing is known.
-fn empty_memo() -> TargetMemo
-    ensures { result ≡ unknown }
-{
-    TargetMemo {
-        known: false,
-        fine: 0,
-        name: 0,
-    }
-}
-
 // What is kept of the states of the region at the word q, where they are those of a drawn region.
 pub fn recall_targets(
     pack: &[u8],
@@ -76,7 +64,7 @@ pub fn recall_targets(
     memo: &[u16],
     layout: &[usize],
     q: usize,
-) -> TargetMemo
+) -> Option<TargetMemo>
     requires { (length pack.now ≤ max_bytes) × RowsSound pack.now names memo.now }
     ensures { AllRecalled pack.now names layout.now result q (get_or layout.now (q + 6) 0) (q + 9) }
 {
@@ -84,35 +72,35 @@ pub fn recall_targets(
     let p = first(layout, q);
     let f = entry(layout, p);
     if f < 5 {
-        return empty_memo();
+        return None;
     }
     let x = memo_at(memo, f - 5, UNKNOWN_TARGET);
     if x == 0 {
-        return empty_memo();
+        return None;
     }
     let c = number(pack, f - 2);
-    if c.value == n {
-        return TargetMemo {
-            known: rows_drawn(pack, names, memo, layout, n, p, f),
+    if c.value == n && rows_drawn(pack, names, memo, layout, n, p, f) {
+        return Some(TargetMemo {
             fine: memo_beside(memo, f - 5),
             name: x - 1,
-        };
+        });
     }
-    empty_memo()
+    None
 }
 
 // What is known of the states after one.
-pub fn onward(v: TargetMemo) -> TargetMemo
+#[tactic(auto, unfolding(crate::specs::ValidateAt::onward))]
+pub fn onward(v: Option<TargetMemo>) -> Option<TargetMemo>
     ensures { result ≡ onward_of v }
 {
-    if v.fine == 0 {
-        return empty_memo();
+    let m = v?;
+    if m.fine == 0 {
+        return None;
     }
-    TargetMemo {
-        known: v.known,
-        fine: v.fine - 1,
-        name: v.name,
-    }
+    Some(TargetMemo {
+        fine: m.fine - 1,
+        ..m
+    })
 }
 
 // What checking came to: nothing wrong, a region (by its word) whose initial state is not among its states,
@@ -194,6 +182,7 @@ fn check_targets(
 }
 
 // What is known of the state at the word p, in the region at the word q.
+#[tactic(auto, unfolding(crate::specs::ValidateAt::recall_t))]
 fn recall(v: TargetMemo, q: usize, p: usize) -> Checked
     ensures { result ≡ foretold_of v q p }
 {
@@ -213,17 +202,17 @@ fn check_transitions(
     names: usize,
     memo: &[u16],
     layout: &[usize],
-    v: TargetMemo,
+    v: Option<TargetMemo>,
     q: usize,
     p: usize,
 ) -> Checked
     requires { (length pack.now ≤ max_bytes) × RowsSound pack.now names memo.now × OneRecalled pack.now names layout.now v q p }
     ensures { (ns : List Name) → length ns ≡ names → result ≡ targets_t ns pack.now layout.now q p }
 {
-    if v.known {
-        return recall(v, q, p);
+    match v {
+        Some(m) => recall(m, q, p),
+        None => check_targets(pack, names, memo, layout, q, p),
     }
-    check_targets(pack, names, memo, layout, q, p)
 }
 
 // A state: its targets, then its regions.
@@ -234,7 +223,7 @@ fn validate_state(
     memo: &[u16],
     layout: &[usize],
     levels: usize,
-    v: TargetMemo,
+    v: Option<TargetMemo>,
     q: usize,
     p: usize,
 ) -> Checked

@@ -1,5 +1,5 @@
 use mathlib.Core.Path.{sym, ◌∙◌}
 use Rattle.machines.proofs.validate.check_transitions.Goals as goal
 
-pub returns-then-v : goal.returns-then-v
-returns-then-v c = λ ns e. c.recall.ensures ∙ sym (c.requires.2 ns e c.if-v.true)
+pub returns-in-Some : goal.returns-in-Some
+returns-in-Some c = λ ns e. c.recall.ensures ∙ sym (rw c.in-Some.is at (c.requires.2 ns e))
