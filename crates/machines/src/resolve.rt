@@ -4,7 +4,7 @@
 //   read_state_head, state_head    a state's longest name and where its regions are, read, or looked up in `memo`
 //   EmptyRegions, SkippedRegions   regions without states that follow one another, passed in one step
 //   resolve_machine                the walk: where it ended, or why it stopped (`Resolved`)
-ghost use Rattle.std.specs.Prelude.{◌≡◌, ◌||◌, eqb, List, ◌<◌, ◌≤◌, length};
+ghost use Rattle.std.specs.Prelude.{◌≡◌, List, ◌<◌, ◌≤◌, length};
 ghost use Rattle.machines.specs.RefineStack.{on_of, pushed_of, start_of};
 ghost use Rattle.pack_rules.specs.Names.{Name};
 ghost use Rattle.pack_rules.specs.Limits.{max_bytes};
@@ -27,67 +27,36 @@ use wire::number::WORD_RANGE;
 // Name indexes, the machine entered last first; `Pack::ABSENT` where there is none.
 #[derive(Clone, Copy)]
 pub struct RefineStack {
-    pub a: usize,
-    pub b: usize,
-    pub c: usize,
-    pub d: usize,
-    pub e: usize,
-    pub f: usize,
-    pub g: usize,
-    pub h: usize,
+    pub names: [usize; Pack::LEVELS],
 }
 
 // The path with nothing but the top machine m.
+#[tactic(auto, unfolding(crate::specs::RefineStack::start_of))]
 pub fn start_stack(m: usize) -> RefineStack
     ensures { result ≡ start_of m }
 {
-    RefineStack {
-        a: m,
-        b: Pack::ABSENT,
-        c: Pack::ABSENT,
-        d: Pack::ABSENT,
-        e: Pack::ABSENT,
-        f: Pack::ABSENT,
-        g: Pack::ABSENT,
-        h: Pack::ABSENT,
-    }
+    let mut names = [Pack::ABSENT; Pack::LEVELS];
+    names[0] = m;
+    RefineStack { names }
 }
 
 // The machine m is entered.
+#[tactic(auto, unfolding(crate::specs::RefineStack::pushed_of))]
 pub fn push(p: RefineStack, m: usize) -> RefineStack
     ensures { result ≡ pushed_of p m }
 {
-    RefineStack {
-        a: m,
-        b: p.a,
-        c: p.b,
-        d: p.c,
-        e: p.d,
-        f: p.e,
-        g: p.f,
-        h: p.g,
-    }
-}
-
-// Whether m is a, or the rest says so.
-fn same_or(m: usize, a: usize, rest: bool) -> bool
-    ensures { result ≡ (eqb m a || rest) }
-{
-    if m == a { true } else { rest }
+    let mut names = p.names;
+    names.copy_within(..Pack::LEVELS - 1, 1);
+    names[0] = m;
+    RefineStack { names }
 }
 
 // Whether the machine m is on the path.
+#[tactic(auto, unfolding(crate::specs::RefineStack::on_of))]
 pub fn contains(p: RefineStack, m: usize) -> bool
     ensures { result ≡ on_of p m }
 {
-    let h = same_or(m, p.h, false);
-    let g = same_or(m, p.g, h);
-    let f = same_or(m, p.f, g);
-    let e = same_or(m, p.e, f);
-    let d = same_or(m, p.d, e);
-    let c = same_or(m, p.c, d);
-    let b = same_or(m, p.b, c);
-    same_or(m, p.a, b)
+    p.names.contains(&m)
 }
 
 // --- What resolving needs of a state's head: its longest name, and where its regions are.
