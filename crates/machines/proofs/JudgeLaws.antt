@@ -7,7 +7,7 @@ use mathlib.Core.Path.{◌≡◌, refl, sym, ap, ◌∙◌}
 use lib.ListN.{get_or, take}
 use lib.Dec.{ltb}
 use borrow.Author.Tests.{eq-eqb, le-leb, le-ltb, lt-leb, lt-ltb, ne_eqb}
-use Rattle.std.specs.Prelude.{Ok, Err}
+use Rattle.std.specs.Prelude.{Ok, Err, Option, Some, None}
 use Rattle.pack_rules.specs.Names.{Name}
 use Rattle.pack_rules.specs.Read.{port_in}
 use Rattle.machines.specs.declared.verdicts.NameRef.{NameRef}
@@ -22,7 +22,7 @@ use Rattle.machines.specs.CheckedReads.{number_in}
 use Rattle.machines.specs.Duplicates.{duplicate_at}
 use Rattle.machines.specs.ValidateAt.{checked_region}
 use Rattle.machines.specs.CoverAt.{uncovered_t}
-use Rattle.machines.specs.VerdictAt.{Judged, again_called, board_at, called_at, checked_j, judge_at, laid_at, laid_j, lay_at, no_name, outputs_at, outputs_j, state_called, walk_at, walked_b, walked_j}
+use Rattle.machines.specs.VerdictAt.{Judged, again_called, board_at, called_at, checked_j, judge_at, laid_at, laid_j, lay_at, no_name, outputs_at, outputs_j, state_called, unless_again, walk_at, walked_b, walked_j}
 use Rattle.machines.specs.LayoutAt.{Board, board, layout_machine, layout_t}
 use Rattle.machines.specs.declared.layout.LayoutPos.{LayoutPos}
 use Rattle.machines.specs.Tables.{initial_in, outputs_in}
@@ -88,23 +88,23 @@ module _ (ns : List Name) (s t : List ℕ) where
     rest = checked_j ns s t (checked_region ns s t 8 0) outputs regions
 
     abbrev again : Judged
-    again = cond (ltb (duplicate_at (take letters qualified)) letters) (Err (no.DuplicateState (again_called qualified (duplicate_at (take letters qualified))))) rest
+    again = unless_again qualified (duplicate_at (take letters qualified)) rest
 
     pub laid-empty : (e : ℕ) → e ≡ get_or t 6 0 → e ≡ 0 → Err no.NoStates ≡ laid_j ns s t qualified letters regions outputs
     unfolding laid_j
     laid-empty e f g = sym (ap (λ y. cond y (Err no.NoStates) again) (eq-eqb (get_or t 6 0) 0 (sym f ∙ g)))
 
-    pub laid-again : (e d : ℕ) (a : NameRef) → e ≡ get_or t 6 0 → (e ≡ 0 → ⊥) → d ≡ duplicate_at (take letters qualified) → d < letters → a ≡ again_called qualified d → Err (no.DuplicateState a) ≡ laid_j ns s t qualified letters regions outputs
-    unfolding laid_j
-    laid-again e d a f g h k m =
-        (λ i. Err (no.DuplicateState ((m ∙ ap (again_called qualified) h) i)))
-        ∙ sym (ap (λ y. cond y (Err no.NoStates) again) (ne_eqb (get_or t 6 0) 0 (λ z. g (f ∙ z))) ∙ ap (λ y. cond y (Err (no.DuplicateState (again_called qualified (duplicate_at (take letters qualified))))) rest) (ap (λ y. ltb y letters) (sym h) ∙ lt-ltb d letters k))
+    pub laid-again : (e d : ℕ) (o : Option ℕ) (a : NameRef) → e ≡ get_or t 6 0 → (e ≡ 0 → ⊥) → o ≡ duplicate_at (take letters qualified) → o ≡ Some d → a ≡ again_called qualified d → Err (no.DuplicateState a) ≡ laid_j ns s t qualified letters regions outputs
+    unfolding laid_j unless_again
+    laid-again e d o a f g h k m =
+        (λ i. Err (no.DuplicateState (m i)))
+        ∙ ap (λ y. unless_again qualified y rest) (sym k ∙ h) ∙ sym (ap (λ y. cond y (Err no.NoStates) again) (ne_eqb (get_or t 6 0) 0 (λ z. g (f ∙ z))))
 
-    pub laid-rest : (e d : ℕ) (c : Checked) (r : Judged) → e ≡ get_or t 6 0 → (e ≡ 0 → ⊥) → d ≡ duplicate_at (take letters qualified) → letters ≤ d → c ≡ checked_region ns s t 8 0 → r ≡ checked_j ns s t c outputs regions → r ≡ laid_j ns s t qualified letters regions outputs
-    unfolding laid_j
-    laid-rest e d c r f g h k m n =
+    pub laid-rest : (e : ℕ) (o : Option ℕ) (c : Checked) (r : Judged) → e ≡ get_or t 6 0 → (e ≡ 0 → ⊥) → o ≡ duplicate_at (take letters qualified) → o ≡ None → c ≡ checked_region ns s t 8 0 → r ≡ checked_j ns s t c outputs regions → r ≡ laid_j ns s t qualified letters regions outputs
+    unfolding laid_j unless_again
+    laid-rest e o c r f g h k m n =
         n ∙ ap (λ y. checked_j ns s t y outputs regions) m
-        ∙ sym (ap (λ y. cond y (Err no.NoStates) again) (ne_eqb (get_or t 6 0) 0 (λ z. g (f ∙ z))) ∙ ap (λ y. cond y (Err (no.DuplicateState (again_called qualified (duplicate_at (take letters qualified))))) rest) (ap (λ y. ltb y letters) (sym h) ∙ le-ltb d letters k))
+        ∙ ap (λ y. unless_again qualified y rest) (sym k ∙ h) ∙ sym (ap (λ y. cond y (Err no.NoStates) again) (ne_eqb (get_or t 6 0) 0 (λ z. g (f ∙ z))))
 
 -- resolving, and then the machine as it is laid out
 module _ (ns : List Name) (s offsets to : List ℕ) where

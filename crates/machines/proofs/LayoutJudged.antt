@@ -12,7 +12,7 @@ use borrow.Author.Tests.{eq-eqb, le-ltb, lt-ltb, ne_eqb}
 use Rattle.wire.specs.Answer.{counted, many, u16, value}
 use Rattle.wire.specs.Lists.{All}
 use Rattle.wire.proofs.Answers.{bind-value, map-value}
-use Rattle.std.specs.Prelude.{Ok, Err}
+use Rattle.std.specs.Prelude.{Ok, Err, Option as Maybe}
 use Rattle.pack_rules.specs.Names.{Name}
 use Rattle.pack_rules.specs.Syntax.{Port}
 use Rattle.machine_rules.specs.Resolved.{ResolvedMachine, ResolvedStates, r_cons, r_nil, s_cons, s_nil}
@@ -37,7 +37,7 @@ use Rattle.machines.specs.CoverAt.{missed, uncovered_t}
 use Rattle.machines.specs.EmitAt.{letters_at}
 use Rattle.machines.specs.Duplicates.{duplicate_at}
 use Rattle.machines.specs.ValidateAt.{checked_region}
-use Rattle.machines.specs.VerdictAt.{Judged, again_called, called_at, checked_j, laid_j, named, no_name, outputs_at, outputs_j, state_called}
+use Rattle.machines.specs.VerdictAt.{Judged, again_called, called_at, checked_j, laid_j, named, no_name, outputs_at, outputs_j, state_called, unless_again}
 use Rattle.machines.specs.VerdictMeaning.{RefusedFor}
 use Rattle.machines.proofs.Reading.{many-cut, many_more, many-over, name-number}
 use Rattle.machines.proofs.CheckedReadLaws.{end-to, number-num, number-to}
@@ -212,19 +212,17 @@ module _ (s : List ℕ) (ns : List Name) (offsets : List ℕ) (fresh : Fresh [] 
   unfolding enc
   before-end d n a = omega (arith, a.offset, ap (λ (y : List Name). length (enc y)) a.names, ap length (enc-append a.before (n ∷ a.after)), length-append (enc a.before) (enc (n ∷ a.after)))
 
-  abbrev second : ℕ → Judged
-  second d = cond (ltb d b.c.letters) (Err (no.DuplicateState (again_called b.qualified d))) rest
+  abbrev second : Maybe ℕ → Judged
+  second d = unless_again b.qualified d rest
 
-  again-said : (d : ℕ) → Said all (repeated [] all) d → Stands (first_of twice (first_of invalid missing)) (second d)
-  unfolding as_refusal
+  again-said : (d : Maybe ℕ) → Said all (repeated [] all) d → Stands (first_of twice (first_of invalid missing)) (second d)
+  unfolding as_refusal unless_again
   again-said d (inl (e, f)) =
-      let g : ltb d b.c.letters ≡ false = le-ltb d b.c.letters (omega (arith, f, laid.letters-end)) in
-      subst (λ y. Stands (first_of twice (first_of invalid missing)) (cond y (Err (no.DuplicateState (again_called b.qualified d))) rest)) (sym g)
+      subst (λ y. Stands (first_of twice (first_of invalid missing)) (second y)) (sym f)
       (stood-none s offsets b.qualified m (suc (size_s x.states)) twice (first_of invalid missing) rest (ap (as_refusal (λ n. duplicate_state x.name n)) e) valid-as)
-  again-said d (inr (n, e, a)) =
+  again-said o (inr (n, d, e, f, a)) =
       let l = before-end d n a in
-      let g : ltb d b.c.letters ≡ true = lt-ltb d b.c.letters (omega (arith, laid.letters-end)) in
-      subst (λ y. Stands (first_of twice (first_of invalid missing)) (cond y (Err (no.DuplicateState (again_called b.qualified d))) rest)) (sym g)
+      subst (λ y. Stands (first_of twice (first_of invalid missing)) (second y)) (sym f)
       (stood-some s offsets b.qualified m (suc (size_s x.states)) twice (first_of invalid missing) (duplicate_state x.name n) _ (ap (as_refusal (λ n. duplicate_state x.name n)) e)
       (again-as s ns offsets b.qualified fresh spot few short m small x.name is all b.c.letters d n laid.letters (omega (arith, laid.letters-end, laid.letters-few)) a
       (maybe-some Lettered (repeated [] all) n e (repeated-told Lettered [] all lettered))))

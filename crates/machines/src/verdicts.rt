@@ -260,8 +260,7 @@ fn judge_laid(
     if entry(layout, 6) == 0 {
         return Err(Refusal::NoStates);
     }
-    let d = duplicate_name(qualified, letters);
-    if d < letters {
+    if let Some(d) = duplicate_name(qualified, letters) {
         return Err(Refusal::DuplicateState(again_called(qualified, d)));
     }
     let c = validate_region(pack, names, memo, layout, Pack::LEVELS, 0);
