@@ -5,8 +5,7 @@ use mathlib.Core.List.{List}
 use mathlib.Core.Bool.{false, cond}
 use mathlib.Core.Path.{◌≡◌, refl, sym, ap, ◌∙◌}
 use lib.ListN.{get_or, take}
-use lib.Dec.{ltb}
-use borrow.Author.Tests.{eq-eqb, le-leb, le-ltb, lt-leb, lt-ltb, ne_eqb}
+use borrow.Author.Tests.{eq-eqb, le-leb, lt-leb, ne_eqb}
 use Rattle.std.specs.Prelude.{Ok, Err, Option, Some, None}
 use Rattle.pack_rules.specs.Names.{Name}
 use Rattle.pack_rules.specs.Read.{port_in}
@@ -22,7 +21,7 @@ use Rattle.machines.specs.CheckedReads.{number_in}
 use Rattle.machines.specs.Duplicates.{duplicate_at}
 use Rattle.machines.specs.ValidateAt.{checked_region}
 use Rattle.machines.specs.CoverAt.{uncovered_t}
-use Rattle.machines.specs.VerdictAt.{Judged, again_called, board_at, called_at, checked_j, judge_at, laid_at, laid_j, lay_at, no_name, outputs_at, outputs_j, state_called, unless_again, walk_at, walked_b, walked_j}
+use Rattle.machines.specs.VerdictAt.{Judged, again_called, board_at, called_at, checked_j, judge_at, laid_at, laid_j, lay_at, no_name, outputs_at, outputs_j, state_called, unless_again, unless_missed, walk_at, walked_b, walked_j}
 use Rattle.machines.specs.LayoutAt.{Board, board, layout_machine, layout_t}
 use Rattle.machines.specs.declared.layout.LayoutPos.{LayoutPos}
 use Rattle.machines.specs.Tables.{initial_in, outputs_in}
@@ -47,23 +46,23 @@ again-near qualified d n h e =
     ∙ ap (λ b. cond b no_name (record { letter = d + 1; letters = get_or qualified d 0; name = 65535 })) (sym (lt-leb 4294967296 d h))
 
 module _ (ns : List Name) (s t : List ℕ) where
-  pub outputs-went : (regions n p q : ℕ) (x : NumberAt) (m : ℕ) (z : Judged) → 0 < n → x ≡ number_in s p → m ≡ uncovered_t ns s t x.value 8 0 → m ≡ 0 → q ≡ end_of (port_in ns s p) → outputs_j ns s t regions n p ≡ z → outputs_j ns s t regions (n - 1) q ≡ z
-  unfolding outputs_j
+  pub outputs-went : (regions n p q : ℕ) (x : NumberAt) (m : Option ℕ) (z : Judged) → 0 < n → x ≡ number_in s p → m ≡ uncovered_t ns s t x.value 8 0 → m ≡ None → q ≡ end_of (port_in ns s p) → outputs_j ns s t regions n p ≡ z → outputs_j ns s t regions (n - 1) q ≡ z
+  unfolding outputs_j unless_missed
   outputs-went regions zero p q x m z l a b c d e = absurd (omega arith)
   outputs-went regions (suc n) p q x m z l a b c d e =
       let k : suc n - 1 ≡ n = omega arith in
-      let o : uncovered_t ns s t (number_in s p).value 8 0 ≡ 0 = ap (λ (y : NumberAt). uncovered_t ns s t y.value 8 0) (sym a) ∙ sym b ∙ c in
+      let o : uncovered_t ns s t (number_in s p).value 8 0 ≡ None = ap (λ (y : NumberAt). uncovered_t ns s t y.value 8 0) (sym a) ∙ sym b ∙ c in
       (λ i. outputs_j ns s t regions (k i) (d i))
-      ∙ sym (ap (λ y. cond y (outputs_j ns s t regions n (end_of (port_in ns s p))) (Err (no.OutputUnassigned (number_in s p).value (state_called t (uncovered_t ns s t (number_in s p).value 8 0))))) (eq-eqb _ 0 o))
+      ∙ sym (ap (λ y. unless_missed t (number_in s p).value y (outputs_j ns s t regions n (end_of (port_in ns s p)))) o)
       ∙ e
 
-  pub outputs-stop : (regions n p : ℕ) (x : NumberAt) (m : ℕ) (b : NameRef) (z : Judged) → 0 < n → x ≡ number_in s p → m ≡ uncovered_t ns s t x.value 8 0 → (m ≡ 0 → ⊥) → b ≡ state_called t m → outputs_j ns s t regions n p ≡ z → Err (no.OutputUnassigned x.value b) ≡ z
-  unfolding outputs_j
-  outputs-stop regions zero p x m b z l c d e g k = absurd (omega arith)
-  outputs-stop regions (suc n) p x m b z l c d e g k =
-      let o : m ≡ uncovered_t ns s t (number_in s p).value 8 0 = d ∙ ap (λ (y : NumberAt). uncovered_t ns s t y.value 8 0) c in
-      (λ i. Err (no.OutputUnassigned (c i).value ((g ∙ ap (state_called t) o) i)))
-      ∙ sym (ap (λ y. cond y (outputs_j ns s t regions n (end_of (port_in ns s p))) (Err (no.OutputUnassigned (number_in s p).value (state_called t (uncovered_t ns s t (number_in s p).value 8 0))))) (ne_eqb _ 0 (λ y. e (o ∙ y))))
+  pub outputs-stop : (regions n p q : ℕ) (x : NumberAt) (m : Option ℕ) (b : NameRef) (z : Judged) → 0 < n → x ≡ number_in s p → m ≡ uncovered_t ns s t x.value 8 0 → m ≡ Some q → b ≡ state_called t q → outputs_j ns s t regions n p ≡ z → Err (no.OutputUnassigned x.value b) ≡ z
+  unfolding outputs_j unless_missed
+  outputs-stop regions zero p q x m b z l c d e g k = absurd (omega arith)
+  outputs-stop regions (suc n) p q x m b z l c d e g k =
+      let o : uncovered_t ns s t (number_in s p).value 8 0 ≡ Some q = ap (λ (y : NumberAt). uncovered_t ns s t y.value 8 0) (sym c) ∙ sym d ∙ e in
+      (λ i. Err (no.OutputUnassigned (c i).value (g i)))
+      ∙ sym (ap (λ y. unless_missed t (number_in s p).value y (outputs_j ns s t regions n (end_of (port_in ns s p)))) o)
       ∙ k
 
   pub outputs-done : (regions n p : ℕ) (z : Judged) → n ≤ 0 → outputs_j ns s t regions n p ≡ z → Ok regions ≡ z

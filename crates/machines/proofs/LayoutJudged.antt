@@ -7,12 +7,12 @@ use mathlib.Core.Option.{Option, none, some}
 use mathlib.Core.Logic.{inl, inr}
 use mathlib.Core.Path.{◌≡◌, refl, sym, ap, subst, ◌∙◌}
 use lib.ListN.{length, get_or, take, length-append}
-use lib.Dec.{eqb, ltb}
-use borrow.Author.Tests.{eq-eqb, le-ltb, lt-ltb, ne_eqb}
+use lib.Dec.{eqb}
+use borrow.Author.Tests.{eq-eqb, ne_eqb}
 use Rattle.wire.specs.Answer.{counted, many, u16, value}
 use Rattle.wire.specs.Lists.{All}
 use Rattle.wire.proofs.Answers.{bind-value, map-value}
-use Rattle.std.specs.Prelude.{Ok, Err, Option as Maybe}
+use Rattle.std.specs.Prelude.{Ok, Err, Option as Maybe, Some, None}
 use Rattle.pack_rules.specs.Names.{Name}
 use Rattle.pack_rules.specs.Syntax.{Port}
 use Rattle.machine_rules.specs.Resolved.{ResolvedMachine, ResolvedStates, r_cons, r_nil, s_cons, s_nil}
@@ -37,7 +37,7 @@ use Rattle.machines.specs.CoverAt.{missed, uncovered_t}
 use Rattle.machines.specs.EmitAt.{letters_at}
 use Rattle.machines.specs.Duplicates.{duplicate_at}
 use Rattle.machines.specs.ValidateAt.{checked_region}
-use Rattle.machines.specs.VerdictAt.{Judged, again_called, called_at, checked_j, laid_j, named, no_name, outputs_at, outputs_j, state_called, unless_again}
+use Rattle.machines.specs.VerdictAt.{Judged, again_called, called_at, checked_j, laid_j, named, no_name, outputs_at, outputs_j, state_called, unless_again, unless_missed}
 use Rattle.machines.specs.VerdictMeaning.{RefusedFor}
 use Rattle.machines.proofs.Reading.{many-cut, many_more, many-over, name-number}
 use Rattle.machines.proofs.CheckedReadLaws.{end-to, number-num, number-to}
@@ -108,29 +108,20 @@ module _ (s : List ℕ) (ns : List Name) (offsets qualified : List ℕ) (fresh :
 
   -- the outputs of a machine x that is held
   module _ (t reg : List ℕ) (x : ResolvedMachine) (w v : ℕ) (held : HeldR ns s t reg qualified 0 0 8 1 0 0 (r_cons x.initial true x.states r_nil) w v) (fine : All Lettered (collect_state_names x.states)) (k : ℕ) (fits : k < 65536) where
-    output-step : (n p i y z : ℕ) → number_in s p ≡ num i y → end_of (port_in ns s p) ≡ z
-        → outputs_j ns s t k (suc n) p ≡ cond (eqb (uncovered_t ns s t i 8 0) 0) (outputs_j ns s t k n z) (Err (no.OutputUnassigned i (state_called t (uncovered_t ns s t i 8 0))))
+    output-step : (n p i y z : ℕ) → number_in s p ≡ num i y → end_of (port_in ns s p) ≡ z → outputs_j ns s t k (suc n) p ≡ unless_missed t i (uncovered_t ns s t i 8 0) (outputs_j ns s t k n z)
     unfolding outputs_j
-    output-step n p i y z e f =
-        λ j. cond (eqb (uncovered_t ns s t (e j).value 8 0) 0) (outputs_j ns s t k n (f j)) (Err (no.OutputUnassigned (e j).value (state_called t (uncovered_t ns s t (e j).value 8 0))))
+    output-step n p i y z e f = λ j. unless_missed t (e j).value (uncovered_t ns s t (e j).value 8 0) (outputs_j ns s t k n (f j))
 
     -- one output by its answer u, and those after it
-    output-as : (i u : ℕ) (ps : List Port) (p : Port) (j : Judged) → i < length ns → name_at ns i ≡ p.name → missed t qualified u ≡ require_cover_states p.name x.states
+    output-as : (i : ℕ) (u : Maybe ℕ) (ps : List Port) (p : Port) (j : Judged) → i < length ns → name_at ns i ≡ p.name → missed t qualified u ≡ require_cover_states p.name x.states
         → Stood s offsets qualified m k (uncovered own x.states ps) j
-        → Stood s offsets qualified m k (uncovered own x.states (p ∷ ps)) (cond (eqb u 0) j (Err (no.OutputUnassigned i (state_called t u))))
-    unfolding uncovered missed as_refusal
-    output-as i u ps p j h e f ih = go (eqb u 0) f
-      where
-        rest : Option Refusal
-        rest = uncovered own x.states ps
-
-        go : (b : Bool) → cond b none (some (letters_at t qualified u)) ≡ require_cover_states p.name x.states
-            → Stood s offsets qualified m k (first_of (as_refusal (λ n. unassigned own p.name n) (require_cover_states p.name x.states)) rest) (cond b j (Err (no.OutputUnassigned i (state_called t u))))
-        go true g = stood-none s offsets qualified m k _ rest j (ap (as_refusal (λ n. unassigned own p.name n)) (sym g)) ih
-        go false g =
-            stood-some s offsets qualified m k _ rest (unassigned own p.name (letters_at t qualified u)) _ (ap (as_refusal (λ n. unassigned own p.name n)) (sym g))
-            (subst (λ (y : Name). Refuses (unassigned own y (letters_at t qualified u)) (Err (no.OutputUnassigned i (state_called t u)))) e
-            (unassigned-as t i u h (maybe-some Lettered (require_cover_states p.name x.states) (letters_at t qualified u) (sym g) (uncovered-told Lettered p.name x.states fine))))
+        → Stood s offsets qualified m k (uncovered own x.states (p ∷ ps)) (unless_missed t i u j)
+    unfolding uncovered missed as_refusal unless_missed
+    output-as i None ps p j h e f ih = stood-none s offsets qualified m k _ (uncovered own x.states ps) j (ap (as_refusal (λ n. unassigned own p.name n)) (sym f)) ih
+    output-as i (Some u) ps p j h e f ih =
+        stood-some s offsets qualified m k _ (uncovered own x.states ps) (unassigned own p.name (letters_at t qualified u)) _ (ap (as_refusal (λ n. unassigned own p.name n)) (sym f))
+        (subst (λ (y : Name). Refuses (unassigned own y (letters_at t qualified u)) (Err (no.OutputUnassigned i (state_called t u)))) e
+        (unassigned-as t i u h (maybe-some Lettered (require_cover_states p.name x.states) (letters_at t qualified u) (sym f) (uncovered-told Lettered p.name x.states fine))))
 
     outputs-as : (n p : ℕ) (ps : List Port) (q : ℕ) → many (port_in ns s) n p ≡ value ps q → Stood s offsets qualified m k (uncovered own x.states ps) (outputs_j ns s t k n p)
     unfolding outputs_j uncovered Stood port_in

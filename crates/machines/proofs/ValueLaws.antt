@@ -1,17 +1,18 @@
 -- Laws of the values of outputs as the code writes them.
 use Prim.Native.Nat.{ℕ, zero, suc, ◌+◌, ◌-◌, ◌<◌, ◌≤◌}
 use native.Mathlib.Omega.{arith}
-use mathlib.Core.List.{List}
-use mathlib.Core.Bool.{Bool, true, false, cond, ◌&&◌}
+use mathlib.Core.List.{List, [], ◌∷◌}
+use mathlib.Core.Bool.{Bool, true, false, cond, ◌&&◌, not}
 use mathlib.Core.Path.{◌≡◌, refl, sym, ap, ◌∙◌}
 use lib.ListN.{get_or}
 use lib.Dec.{eqb}
-use borrow.Author.Tests.{eq-eqb, ne_eqb}
 use Rattle.wire.specs.Bytes.{two}
 use Rattle.wire.specs.Writer.{State, puts}
+use Rattle.std.specs.Option.{is_none, is_some}
+use Rattle.std.specs.Prelude.{Option as Maybe, Some, None}
 use Rattle.pack_rules.specs.Names.{Name}
 use Rattle.pack_rules.specs.Read.{equation_in, expr_in, port_in}
-use Rattle.pack_rules.specs.Write.{Item}
+use Rattle.pack_rules.specs.Write.{Item, raw}
 use Rattle.pack.specs.Intern.{put_item, render}
 use Rattle.pack.proofs.Interns.{render-append}
 use Rattle.machines.specs.declared.checked_read.NumberAt.{NumberAt}
@@ -20,7 +21,8 @@ use Rattle.machines.specs.CheckedReads.{number_in}
 use Rattle.machines.specs.Layout.{slice_of}
 use Rattle.machines.specs.CoverAt.{uncovered_t}
 use Rattle.machines.specs.EmitAt.{last_or, test_t}
-use Rattle.machines.specs.ValueAt.{entered_t, giving_from, in_state_t, output_t, outputs_t, port_outputs_t, side_bytes, side_from, side_t, value_t, values_t}
+use Rattle.machines.specs.ValueAt.{into, entered_t, giving_from, in_state_t, output_t, outputs_t, port_outputs_t, side_bytes, side_from, side_t, value_t, values_t}
+use Rattle.machines.proofs.CoverLaws.{none-told}
 use Rattle.machines.proofs.CheckedReadLaws.{on}
 
 module _ (ns : List Name) (s : List ℕ) (out : ℕ) where
@@ -58,21 +60,21 @@ module _ (ns : List Name) (s : List ℕ) (out : ℕ) where
       ap (λ (x : List ℕ). puts x z) (k ∙ ap (λ (y : ℕ). slice_of s a (y - a)) h ∙ ap (λ (y : ℕ). slice_of s y (end_of (expr_in ns s y) - y)) i)
 
 -- the loop over a state's regions: one that does not give the output, one that does, and the end
-module _ (t : List ℕ) (f : ℕ → ℕ) where
-  pub giving-went : (n g m r z : ℕ) → 0 < n → m ≡ f g → (m ≡ 0 → ⊥) → r ≡ get_or t (g + 4) 0 → giving_from t f n g ≡ z → giving_from t f (n - 1) r ≡ z
+module _ (t : List ℕ) (f : ℕ → Maybe ℕ) where
+  pub giving-went : (n g : ℕ) (m : Maybe ℕ) (b : Bool) (r : ℕ) (z : Maybe ℕ) → 0 < n → m ≡ f g → is_some m ≡ not b → b ≡ false → r ≡ get_or t (g + 4) 0 → giving_from t f n g ≡ z → giving_from t f (n - 1) r ≡ z
   unfolding giving_from
-  giving-went zero g m r z l e h a d = absurd (omega arith)
-  giving-went (suc n) g m r z l e h a d =
+  giving-went zero g m b r z l e c h a d = absurd (omega arith)
+  giving-went (suc n) g m b r z l e c h a d =
       let i : suc n - 1 ≡ n = omega arith in
-      (λ j. giving_from t f (i j) (a j)) ∙ sym (ap (λ (x : Bool). cond x g (giving_from t f n (get_or t (g + 4) 0))) (ne_eqb (f g) 0 (λ y. h (e ∙ y)))) ∙ d
+      (λ j. giving_from t f (i j) (a j)) ∙ sym (ap (λ (x : Bool). cond x (Some g) (giving_from t f n (get_or t (g + 4) 0))) (ap is_none (sym e) ∙ none-told m _ _ c h)) ∙ d
 
-  pub giving-found : (n g m z : ℕ) → 0 < n → m ≡ f g → m ≡ 0 → giving_from t f n g ≡ z → g ≡ z
+  pub giving-found : (n g : ℕ) (m : Maybe ℕ) (b : Bool) (z : Maybe ℕ) → 0 < n → m ≡ f g → is_some m ≡ not b → b ≡ true → giving_from t f n g ≡ z → Some g ≡ z
   unfolding giving_from
-  giving-found zero g m z l e h d = absurd (omega arith)
-  giving-found (suc n) g m z l e h d =
-      sym (ap (λ (x : Bool). cond x g (giving_from t f n (get_or t (g + 4) 0))) (eq-eqb (f g) 0 (sym e ∙ h))) ∙ d
+  giving-found zero g m b z l e c h d = absurd (omega arith)
+  giving-found (suc n) g m b z l e c h d =
+      sym (ap (λ (x : Bool). cond x (Some g) (giving_from t f n (get_or t (g + 4) 0))) (ap is_none (sym e) ∙ none-told m _ _ c h)) ∙ d
 
-  pub giving-done : (n g z : ℕ) → n ≤ 0 → giving_from t f n g ≡ z → 0 ≡ z
+  pub giving-done : (n g : ℕ) (z : Maybe ℕ) → n ≤ 0 → giving_from t f n g ≡ z → None ≡ z
   unfolding giving_from
   giving-done zero g z l d = d
   giving-done (suc n) g z l d = absurd (omega arith)
@@ -119,13 +121,13 @@ module _ (old t qualified : List ℕ) where
 module _ (old sb t qualified : List ℕ) (ns : List Name) where
   module _ (out : ℕ) where
     -- in a state: its own right side, or the value of the region that is entered
-    pub in-own : (v : ℕ → List Item) (f : ℕ → ℕ) (p g : ℕ) (x s : State) → g ≡ entered_t t f p → g ≡ 0 → x ≡ puts (side_bytes ns sb out (get_or t p 0)) s → x ≡ render old (in_state_t sb t qualified ns out v f p) s
+    pub in-own : (v : ℕ → List Item) (f : ℕ → Maybe ℕ) (p : ℕ) (g : Maybe ℕ) (x s : State) → g ≡ entered_t t f p → g ≡ None → x ≡ puts (side_bytes ns sb out (get_or t p 0)) s → x ≡ render old (in_state_t sb t qualified ns out v f p) s
     unfolding in_state_t render put_item
-    in-own v f p g x s e h d = rw (eq-eqb (entered_t t f p) 0 (sym e ∙ h)) d
+    in-own v f p g x s e h d = d ∙ ap (λ y. render old (into (raw (side_bytes ns sb out (get_or t p 0)) ∷ []) v y) s) (sym h ∙ e)
 
-    pub in-entered : (v : ℕ → List Item) (f : ℕ → ℕ) (p g : ℕ) (x s : State) → g ≡ entered_t t f p → (g ≡ 0 → ⊥) → x ≡ render old (v g) s → x ≡ render old (in_state_t sb t qualified ns out v f p) s
+    pub in-entered : (v : ℕ → List Item) (f : ℕ → Maybe ℕ) (p q : ℕ) (g : Maybe ℕ) (x s : State) → g ≡ entered_t t f p → g ≡ Some q → x ≡ render old (v q) s → x ≡ render old (in_state_t sb t qualified ns out v f p) s
     unfolding in_state_t
-    in-entered v f p g x s e h d = rw (ne_eqb (entered_t t f p) 0 (λ y. h (e ∙ y))) (d ∙ ap (λ (y : ℕ). render old (v y) s) e)
+    in-entered v f p q g x s e h d = d ∙ ap (λ y. render old (into (raw (side_bytes ns sb out (get_or t p 0)) ∷ []) v y) s) (sym h ∙ e)
 
     pub value_none : (l q : ℕ) (s : State) → l ≡ 0 → s ≡ render old (value_t sb t qualified ns out l q) s
     unfolding value_t render

@@ -58,6 +58,11 @@ row_of no.TooLarge = refused_by 17 no_name no_name
 abbrev pub Judged : Type 0
 Judged = Result ℕ Refusal
 
+-- the output x, which the state at a word does not give, or else j
+unfoldable pub unless_missed : List ℕ → ℕ → Option ℕ → Judged → Judged
+unless_missed t x (Some p) j = Err (no.OutputUnassigned x (state_called t p))
+unless_missed t x None j = j
+
 -- a name that stands twice, or else j
 unfoldable pub unless_again : List ℕ → Option ℕ → Judged → Judged
 unless_again qualified (Some d) j = Err (no.DuplicateState (again_called qualified d))
@@ -68,8 +73,7 @@ module _ (ns : List Name) (s t : List ℕ) where
   unfoldable pub outputs_j : ℕ → ℕ → ℕ → Judged
   outputs_j regions zero p = Ok regions
   outputs_j regions (suc n) p =
-      cond (eqb (uncovered_t ns s t (number_in s p).value max_level 0) 0) (outputs_j regions n (end_of (port_in ns s p)))
-      (Err (no.OutputUnassigned (number_in s p).value (state_called t (uncovered_t ns s t (number_in s p).value max_level 0))))
+      unless_missed t (number_in s p).value (uncovered_t ns s t (number_in s p).value max_level 0) (outputs_j regions n (end_of (port_in ns s p)))
 
   -- the outputs whose count stands at `at`
   unfoldable pub outputs_at : ℕ → ℕ → Judged

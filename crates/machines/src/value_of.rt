@@ -57,7 +57,7 @@ fn put_own(
     put_bytes(between(pack, a, e), out, writer)
 }
 
-// The first region of the state at the word p that gives x in all its states; 0 where there is none.
+// The first region of the state at the word p that gives x in all its states.
 fn entered(
     pack: &[u8],
     names: usize,
@@ -67,7 +67,7 @@ fn entered(
     x: usize,
     levels: usize,
     p: usize,
-) -> usize
+) -> Option<usize>
     requires { (length pack.now ≤ max_bytes) × RowsSound pack.now names memo.now × AssignsSound pack.now names memo.now hints.old }
     ensures value { (ns : List Name) → length ns ≡ names → result ≡ entered_t layout.now (uncovered_t ns pack.now layout.now x levels) p }
     ensures assigns_sound { AssignsSound pack.now names memo.now hints.new }
@@ -75,12 +75,12 @@ fn entered(
     let mut g = inner(layout, p);
     for _ in 0..layout_word(layout, p, 5) {
         let m = require_cover_region(pack, names, memo, layout, hints, x, levels, g);
-        if m == 0 {
-            return g;
+        if m.is_none() {
+            return Some(g);
         }
         g = layout_word(layout, g, 4);
     }
-    0
+    None
 }
 
 // The value of x in the state at the word p.
@@ -104,13 +104,12 @@ fn value_in_state(
     ensures result_after { (ns : List Name) → length ns ≡ names → state_of out.new made.new result ≡ render old.now (in_state_t pack.now layout.now qualified.now ns x (value_t pack.now layout.now qualified.now ns x levels) (uncovered_t ns pack.now layout.now x levels) p) (state_of out.old made.old writer) }
     ensures assigns_sound { AssignsSound pack.now names memo.now hints.new }
 {
-    let g = entered(pack, names, memo, layout, hints, x, levels, p);
-    if g == 0 {
-        return put_own(pack, names, memo, layout, x, p, out, writer);
+    match entered(pack, names, memo, layout, hints, x, levels, p) {
+        None => put_own(pack, names, memo, layout, x, p, out, writer),
+        Some(g) => value_of(
+            old, pack, names, memo, layout, qualified, hints, x, levels, g, out, made, writer,
+        ),
     }
-    value_of(
-        old, pack, names, memo, layout, qualified, hints, x, levels, g, out, made, writer,
-    )
 }
 
 // The value of x by the states of the region at the word q; the last has no test.

@@ -150,7 +150,7 @@ fn again_called(qualified: &[u8], d: usize) -> NameRef
     }
 }
 
-// 0 where each state gives the output x, else the word of a state that does not. Where an output was asked for and is given, it need
+// Where not each state gives the output x, the word of one that does not. Where an output was asked for and is given, it need
 // not be asked for again: a machine may have it thousands of times.
 fn uncovered_output(
     pack: &[u8],
@@ -160,21 +160,21 @@ fn uncovered_output(
     hints: &mut [u16],
     given: &mut [u8],
     x: usize,
-) -> usize
+) -> Option<usize>
     requires { (length pack.now ≤ max_bytes) × RowsSound pack.now names memo.now × AssignsSound pack.now names memo.now hints.old × AssignmentSound pack.now names layout.now given.old }
     ensures value { (ns : List Name) → length ns ≡ names → result ≡ uncovered_t ns pack.now layout.now x max_level 0 }
     ensures assigns_sound { AssignsSound pack.now names memo.now hints.new }
     ensures assignment_sound { AssignmentSound pack.now names layout.now given.new }
 {
     if 0 < byte_at(given, x) {
-        return 0;
+        return None;
     }
     let m = require_cover_region(pack, names, memo, layout, hints, x, Pack::LEVELS, 0);
-    if m != 0 {
+    if m.is_some() {
         return m;
     }
     set_byte(given, x, 1);
-    0
+    None
 }
 
 // The outputs of a machine that is laid out, `count` from the offset `from` on: the first that a state does not give. What drawn
@@ -198,10 +198,10 @@ fn judge_outputs(
     for _ in 0..count {
         let x = number(pack, p);
         let m = uncovered_output(pack, names, memo, layout, &mut told, &mut given, x.value);
-        if m != 0 {
+        if let Some(p) = m {
             return Err(Refusal::OutputUnassigned {
                 output: x.value,
-                state: state_called(layout, m),
+                state: state_called(layout, p),
             });
         }
         p = after_port(pack, names, p);
