@@ -21,43 +21,46 @@ use Rattle.machines.specs.CheckedReads.{number_in}
 use Rattle.machines.specs.Layout.{slice_of}
 use Rattle.machines.specs.CoverAt.{uncovered_t}
 use Rattle.machines.specs.EmitAt.{last_or, test_t}
-use Rattle.machines.specs.ValueAt.{into, entered_t, giving_from, in_state_t, output_t, outputs_t, port_outputs_t, side_bytes, side_from, side_t, value_t, values_t}
+use Rattle.machines.specs.ValueAt.{into, entered_t, giving_from, in_state_t, output_t, outputs_t, port_outputs_t, side_bytes, side_from, side_of, side_t, value_t, values_t}
 use Rattle.machines.proofs.CoverLaws.{none-told}
 use Rattle.machines.proofs.CheckedReadLaws.{on}
 
 module _ (ns : List Name) (s : List ℕ) (out : ℕ) where
-  side-step : (n p : ℕ) (k l : NumberAt) (b : Bool) → k ≡ number_in s p → l ≡ number_in s k.next → b ≡ (eqb k.value 1 && eqb l.value out) → cond b l.next (side_from ns s out n (end_of (equation_in ns s p))) ≡ side_from ns s out (suc n) p
+  side-step : (n p : ℕ) (k l : NumberAt) (b : Bool) → k ≡ number_in s p → l ≡ number_in s k.next → b ≡ (eqb k.value 1 && eqb l.value out) → cond b (Some l.next) (side_from ns s out n (end_of (equation_in ns s p))) ≡ side_from ns s out (suc n) p
   unfolding side_from
   side-step n p k l b e f g =
-      on k _ _ _ e (on l _ _ _ f (ap (λ (x : Bool). cond x l.next (side_from ns s out n (end_of (equation_in ns s p)))) g))
+      on k _ _ _ e (on l _ _ _ f (ap (λ (x : Bool). cond x (Some l.next) (side_from ns s out n (end_of (equation_in ns s p)))) g))
 
   -- the loop over equations: one that does not give the output, one that does, and the end
-  pub side-went : (n p r z : ℕ) (k l : NumberAt) (b : Bool) → 0 < n → k ≡ number_in s p → l ≡ number_in s k.next → b ≡ (eqb k.value 1 && eqb l.value out) → b ≡ false → r ≡ end_of (equation_in ns s p) → side_from ns s out n p ≡ z → side_from ns s out (n - 1) r ≡ z
+  pub side-went : (n p r : ℕ) (z : Maybe ℕ) (k l : NumberAt) (b : Bool) → 0 < n → k ≡ number_in s p → l ≡ number_in s k.next → b ≡ (eqb k.value 1 && eqb l.value out) → b ≡ false → r ≡ end_of (equation_in ns s p) → side_from ns s out n p ≡ z → side_from ns s out (n - 1) r ≡ z
   side-went zero p r z k l b h e f g a c d = absurd (omega arith)
   side-went (suc n) p r z k l b h e f g a c d =
       let i : suc n - 1 ≡ n = omega arith in
-      (λ j. side_from ns s out (i j) (c j)) ∙ ap (λ (x : Bool). cond x l.next (side_from ns s out n (end_of (equation_in ns s p)))) (sym a) ∙ side-step n p k l b e f g ∙ d
+      (λ j. side_from ns s out (i j) (c j)) ∙ ap (λ (x : Bool). cond x (Some l.next) (side_from ns s out n (end_of (equation_in ns s p)))) (sym a) ∙ side-step n p k l b e f g ∙ d
 
-  pub side-found : (n p z : ℕ) (k l : NumberAt) (b : Bool) → 0 < n → k ≡ number_in s p → l ≡ number_in s k.next → b ≡ (eqb k.value 1 && eqb l.value out) → b ≡ true → side_from ns s out n p ≡ z → l.next ≡ z
+  pub side-found : (n p : ℕ) (z : Maybe ℕ) (k l : NumberAt) (b : Bool) → 0 < n → k ≡ number_in s p → l ≡ number_in s k.next → b ≡ (eqb k.value 1 && eqb l.value out) → b ≡ true → side_from ns s out n p ≡ z → Some l.next ≡ z
   side-found zero p z k l b h e f g a d = absurd (omega arith)
   side-found (suc n) p z k l b h e f g a d =
-      ap (λ (x : Bool). cond x l.next (side_from ns s out n (end_of (equation_in ns s p)))) (sym a) ∙ side-step n p k l b e f g ∙ d
+      ap (λ (x : Bool). cond x (Some l.next) (side_from ns s out n (end_of (equation_in ns s p)))) (sym a) ∙ side-step n p k l b e f g ∙ d
 
-  pub side-done : (n p z : ℕ) → n ≤ 0 → side_from ns s out n p ≡ z → 0 ≡ z
+  pub side-done : (n p : ℕ) (z : Maybe ℕ) → n ≤ 0 → side_from ns s out n p ≡ z → None ≡ z
   unfolding side_from
   side-done zero p z l d = d
   side-done (suc n) p z l d = absurd (omega arith)
 
-  pub side-is : (at r : ℕ) (i c : NumberAt) → i ≡ number_in s at → c ≡ number_in s i.next → r ≡ side_from ns s out c.value c.next → r ≡ side_t ns s out at
+  pub side-is : (at : ℕ) (r : Maybe ℕ) (i c : NumberAt) → i ≡ number_in s at → c ≡ number_in s i.next → r ≡ side_from ns s out c.value c.next → r ≡ side_t ns s out at
   unfolding side_t
   side-is at r i c e f g = on i _ _ _ e (on c _ _ _ f g)
 
   -- the bytes that are copied
-  pub side-copied : (b : List ℕ) (p at a e : ℕ) (z : State) → at ≡ p → a ≡ side_t ns s out at → e ≡ end_of (expr_in ns s a) → b ≡ slice_of s a (e - a) → puts b z ≡ puts (side_bytes ns s out p) z
-  unfolding side_bytes
-  side-copied b p at a e z f g h k =
-      let i = g ∙ ap (side_t ns s out) f in
-      ap (λ (x : List ℕ). puts x z) (k ∙ ap (λ (y : ℕ). slice_of s a (y - a)) h ∙ ap (λ (y : ℕ). slice_of s y (end_of (expr_in ns s y) - y)) i)
+  pub side-copied : (b : List ℕ) (p at a e : ℕ) (g : Maybe ℕ) (z : State) → at ≡ p → g ≡ side_t ns s out at → g ≡ Some a → e ≡ end_of (expr_in ns s a) → b ≡ slice_of s a (e - a) → puts b z ≡ puts (side_bytes ns s out p) z
+  unfolding side_bytes side_of
+  side-copied b p at a e g z f d i h k =
+      ap (λ (x : List ℕ). puts x z) (k ∙ ap (λ (y : ℕ). slice_of s a (y - a)) h ∙ ap (side_of ns s out) (sym i ∙ d ∙ ap (side_t ns s out) f))
+
+  pub side-none : (p at : ℕ) (g : Maybe ℕ) (z : State) → at ≡ p → g ≡ side_t ns s out at → g ≡ None → z ≡ puts (side_bytes ns s out p) z
+  unfolding side_bytes side_of puts
+  side-none p at g z f d i = ap (λ (x : Maybe ℕ). puts (side_of ns s out x) z) (sym i ∙ d ∙ ap (side_t ns s out) f)
 
 -- the loop over a state's regions: one that does not give the output, one that does, and the end
 module _ (t : List ℕ) (f : ℕ → Maybe ℕ) where

@@ -17,18 +17,23 @@ use Rattle.machines.specs.EmitAt.{last_or, test_t}
 
 -- names, the pack's bytes, an output by its name's index
 module _ (ns : List Name) (s : List ℕ) (out : ℕ) where
-  -- where the right side stands of the first of n equations from p on that has the output as its only left name; 0 where there is none
-  unfoldable pub side_from : ℕ → ℕ → ℕ
-  side_from zero p = 0
-  side_from (suc n) p = with (number_in s p) λ k o. with (number_in s o) λ i r. cond (eqb k 1 && eqb i out) r (side_from n (end_of (equation_in ns s p)))
+  -- where the right side stands of the first of n equations from p on that has the output as its only left name
+  unfoldable pub side_from : ℕ → ℕ → Option ℕ
+  side_from zero p = None
+  side_from (suc n) p = with (number_in s p) λ k o. with (number_in s o) λ i r. cond (eqb k 1 && eqb i out) (Some r) (side_from n (end_of (equation_in ns s p)))
 
   -- of the equations of the state at the offset `at`
-  unfoldable pub side_t : ℕ → ℕ
+  unfoldable pub side_t : ℕ → Option ℕ
   side_t at = with (number_in s at) λ i p. with (number_in s p) λ n q. side_from n q
 
-  -- its bytes
+  -- the bytes of a right side that stands there
+  unfoldable pub side_of : Option ℕ → List ℕ
+  side_of None = []
+  side_of (Some a) = slice_of s a (end_of (expr_in ns s a) - a)
+
+  -- of the state at the offset `at`
   unfoldable pub side_bytes : ℕ → List ℕ
-  side_bytes at = slice_of s (side_t at) (end_of (expr_in ns s (side_t at)) - side_t at)
+  side_bytes at = side_of (side_t at)
 
 -- words
 module _ (t : List ℕ) where

@@ -19,8 +19,8 @@ use crate::table::entry;
 use pack::record::Pack;
 use wire::writer::{Writer, put_bytes, put_u16};
 
-// Where the right side stands of the first equation of the state at `at` that has x as its only left name; 0 where there is none.
-fn own_rhs(pack: &[u8], names: usize, memo: &[u16], x: usize, at: usize) -> usize
+// Where the right side stands of the first equation of the state at `at` that has x as its only left name.
+fn own_rhs(pack: &[u8], names: usize, memo: &[u16], x: usize, at: usize) -> Option<usize>
     requires { (length pack.now ≤ max_bytes) × RowsSound pack.now names memo.now }
     ensures { (ns : List Name) → length ns ≡ names → result ≡ side_t ns pack.now x at }
 {
@@ -31,11 +31,11 @@ fn own_rhs(pack: &[u8], names: usize, memo: &[u16], x: usize, at: usize) -> usiz
         let k = number(pack, p);
         let l = number(pack, k.next);
         if k.value == 1 && l.value == x {
-            return l.next;
+            return Some(l.next);
         }
         p = end_of(pack, names, memo, p);
     }
-    0
+    None
 }
 
 // That right side of the state at the word p.
@@ -52,9 +52,10 @@ fn put_own(
     requires { (length pack.now ≤ max_bytes) × RowsSound pack.now names memo.now }
     ensures { (ns : List Name) → length ns ≡ names → (m : List ℕ) → state_of out.new m result ≡ puts (side_bytes ns pack.now x (get_or layout.now p 0)) (state_of out.old m writer) }
 {
-    let a = own_rhs(pack, names, memo, x, entry(layout, p));
-    let e = after_expr(pack, names, a);
-    put_bytes(between(pack, a, e), out, writer)
+    match own_rhs(pack, names, memo, x, entry(layout, p)) {
+        None => writer,
+        Some(a) => put_bytes(between(pack, a, after_expr(pack, names, a)), out, writer),
+    }
 }
 
 // The first region of the state at the word p that gives x in all its states.
