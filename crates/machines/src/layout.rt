@@ -130,6 +130,8 @@ fn put_name(pack: &[u8], offsets: &[u16], i: usize, qualified: &mut [u8], at: us
 }
 
 // The full name of the name i: a prefix, m letters from a on and `_`, where m is not 0; then the name. How many letters it has.
+// Not inlined: what its loops hold would stand on the stack once for each level of regions.
+#[inline(never)]
 pub fn qualify(
     pack: &[u8],
     offsets: &[u16],
