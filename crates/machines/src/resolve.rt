@@ -42,8 +42,8 @@ pub fn start_stack(m: usize) -> RefineStack
 
 // The machine m is entered.
 #[tactic(auto, unfolding(crate::specs::RefineStack::pushed_of))]
-pub fn push(p: RefineStack, m: usize) -> RefineStack
-    ensures { result ≡ pushed_of p m }
+pub fn push(p: &RefineStack, m: usize) -> RefineStack
+    ensures { result ≡ pushed_of p.now m }
 {
     let mut names = p.names;
     names.copy_within(..Pack::LEVELS - 1, 1);
@@ -53,8 +53,8 @@ pub fn push(p: RefineStack, m: usize) -> RefineStack
 
 // Whether the machine m is on the path.
 #[tactic(auto, unfolding(crate::specs::RefineStack::on_of))]
-pub fn contains(p: RefineStack, m: usize) -> bool
-    ensures { result ≡ on_of p m }
+pub fn contains(p: &RefineStack, m: usize) -> bool
+    ensures { result ≡ on_of p.now m }
 {
     p.names.contains(&m)
 }
@@ -239,11 +239,11 @@ fn refinement(
     pack: &[u8],
     offsets: &[u16],
     machines: &[u16],
-    p: RefineStack,
+    p: &RefineStack,
     i: usize,
     m: usize,
 ) -> Resolved
-    ensures { result ≡ enter_w pack.now offsets.now machines.now p i m }
+    ensures { result ≡ enter_w pack.now offsets.now machines.now p.now i m }
 {
     if contains(p, m) {
         return Resolved::Cycle(m);
@@ -278,12 +278,12 @@ fn resolve_state(
     machines: &[u16],
     memo: &[u16],
     levels: usize,
-    p: RefineStack,
+    p: &RefineStack,
     at: usize,
     count: usize,
 ) -> Resolved
     requires { (length pack.now ≤ max_bytes) × MemoSound pack.now names offsets.now memo.now }
-    ensures { (ns : List Name) → length ns ≡ names → result ≡ state_w ns pack.now offsets.now machines.now (walk_in ns pack.now offsets.now machines.now levels) p at count }
+    ensures { (ns : List Name) → length ns ≡ names → result ≡ state_w ns pack.now offsets.now machines.now (walk_in ns pack.now offsets.now machines.now levels) p.now at count }
 {
     if Pack::STATES <= count {
         return Resolved::Large;
@@ -318,7 +318,7 @@ fn resolve_state(
         return d;
     };
     let q = push(p, f.value);
-    let y = resolve_states(pack, names, offsets, machines, memo, levels, q, k, b, c);
+    let y = resolve_states(pack, names, offsets, machines, memo, levels, &q, k, b, c);
     let Resolved::Went(_, j, w) = y else {
         return y;
     };
@@ -334,13 +334,13 @@ fn resolve_states(
     machines: &[u16],
     memo: &[u16],
     levels: usize,
-    p: RefineStack,
+    p: &RefineStack,
     count: usize,
     at: usize,
     done: usize,
 ) -> Resolved
     requires { (length pack.now ≤ max_bytes) × MemoSound pack.now names offsets.now memo.now }
-    ensures { (ns : List Name) → length ns ≡ names → result ≡ walk_in ns pack.now offsets.now machines.now levels p count at done }
+    ensures { (ns : List Name) → length ns ≡ names → result ≡ walk_in ns pack.now offsets.now machines.now levels p.now count at done }
 {
     if levels == 0 {
         return Resolved::Large;
@@ -381,7 +381,7 @@ pub fn resolve_machine(
         machines,
         memo,
         Pack::LEVELS,
-        start_stack(m),
+        &start_stack(m),
         k.value,
         k.next,
         0,
