@@ -9,6 +9,7 @@ use lib.ListN.{length, get_or, set, length-set}
 use lib.Seq.{get_or-set_other, get_or-set_same}
 use lib.Dec.{eqb, ltb}
 use borrow.Author.Tests.{eqb-true, eqb-false}
+use Rattle.std.specs.Prelude.{Option as Maybe, None}
 use Rattle.pack_rules.specs.Names.{Name}
 use Rattle.machines.specs.declared.cover.OnlyLeft.{OnlyLeft}
 use Rattle.wire.specs.declared.answer.Number.{Number}
@@ -211,19 +212,19 @@ blank-told s names memo hints h = record {
 
 -- an output that was found given
 module _ (s : List ℕ) (names : ℕ) (t : List ℕ) where
-  given-now : (x m : ℕ) → ((ns : List Name) → length ns ≡ names → m ≡ uncovered_t ns s t x 8 0) → m ≡ 0 → Given s names t x
+  given-now : (x : ℕ) (m : Maybe ℕ) → ((ns : List Name) → length ns ≡ names → m ≡ uncovered_t ns s t x 8 0) → m ≡ None → Given s names t x
   unfolding Given
   given-now x m h e ns n = sym (h ns n) ∙ e
 
-  pub given-zero : (x m : ℕ) → ((ns : List Name) → length ns ≡ names → m ≡ uncovered_t ns s t x 8 0) → m ≡ 0 → (ns : List Name) → length ns ≡ names → 0 ≡ uncovered_t ns s t x 8 0
+  pub given-zero : (x : ℕ) (m : Maybe ℕ) → ((ns : List Name) → length ns ≡ names → m ≡ uncovered_t ns s t x 8 0) → m ≡ None → (ns : List Name) → length ns ≡ names → None ≡ uncovered_t ns s t x 8 0
   given-zero x m h e ns n = sym e ∙ h ns n
 
-  pub given-before : (given : List ℕ) (x c : ℕ) → AssignmentSound s names t given → c ≡ get_or given x 0 → 0 < c → (ns : List Name) → length ns ≡ names → 0 ≡ uncovered_t ns s t x 8 0
+  pub given-before : (given : List ℕ) (x c : ℕ) → AssignmentSound s names t given → c ≡ get_or given x 0 → 0 < c → (ns : List Name) → length ns ≡ names → None ≡ uncovered_t ns s t x 8 0
   unfolding Given
   given-before given x c h e l ns n = sym (h.known x (subst (λ (y : ℕ). 0 < y) e l) ns n)
 
   -- an output more
-  pub given-more : (given u : List ℕ) (x m : ℕ) → AssignmentSound s names t given → ((ns : List Name) → length ns ≡ names → m ≡ uncovered_t ns s t x 8 0) → m ≡ 0 → u ≡ set given x 1 → AssignmentSound s names t u
+  pub given-more : (given u : List ℕ) (x : ℕ) (m : Maybe ℕ) → AssignmentSound s names t given → ((ns : List Name) → length ns ≡ names → m ≡ uncovered_t ns s t x 8 0) → m ≡ None → u ≡ set given x 1 → AssignmentSound s names t u
   given-more given u x m h f e d = record { known = λ y l. go y (eqb y x) refl (subst (λ (v : List ℕ). 0 < get_or v y 0) d l) }
     where
       go : (y : ℕ) (b : Bool) → eqb y x ≡ b → 0 < get_or (set given x 1) y 0 → Given s names t y

@@ -93,7 +93,6 @@ module _ (s : List ℕ) (ns : List Name) (offsets qualified : List ℕ) (spot : 
       record {
         kind = sym (ap (λ (y : Refusal). y.kind) c);
         some = lo;
-        regions = refl;
         entry = entry-is s offsets qualified m (refused_by k a b) hi (subst (All Short) (sym o) l)
             ∙ ap (λ (y : Refusal). entries (y ∷ [])) (ap (λ (y : List Name). record { kind = k; names = y }) n ∙ sym c);
       }

@@ -2,17 +2,19 @@
 use Prim.Native.Nat.{ℕ, zero, suc, ◌+◌, ◌-◌, ◌<◌, ◌≤◌}
 use native.Mathlib.Omega.{arith}
 use mathlib.Core.List.{List}
-use mathlib.Core.Bool.{Bool, true, false, cond, ◌&&◌, ◌||◌}
+use mathlib.Core.Bool.{Bool, true, false, ◌&&◌, ◌||◌, not, true≢false}
 use mathlib.Core.Path.{◌≡◌, refl, sym, ap, ◌∙◌}
 use lib.ListN.{get_or}
 use lib.Dec.{eqb}
 use borrow.Author.Tests.{eq-eqb, ne_eqb}
+use Rattle.std.specs.Option.{is_none, is_some, option_and, option_or}
+use Rattle.std.specs.Prelude.{Option as Maybe, Some, None}
 use Rattle.pack_rules.specs.Names.{Name}
 use Rattle.pack_rules.specs.Read.{equation_in}
 use Rattle.machines.specs.declared.cover.OnlyLeft.{OnlyLeft}
 use Rattle.wire.specs.declared.answer.Number.{Number}
 use Rattle.machines.specs.ResolvedIn.{end_of}
-use Rattle.machines.specs.CheckedReads.{first_some, number_in, with}
+use Rattle.machines.specs.CheckedReads.{number_in, with}
 use Rattle.machines.specs.CoverAt.{all_miss, asked, assigned, first_miss, gives_t, miss_t, own_t, tells, uncovered_t}
 use Rattle.machines.proofs.CheckedReadLaws.{on}
 
@@ -68,23 +70,48 @@ module _ (ns : List Name) (s : List ℕ) where
   unfolding own_t
   own_is out at i t a x y z = on i _ _ _ x (on t _ _ _ y z)
 
+-- an answer that there is, and one that there is not
+or-none : (x y : Maybe ℕ) → is_some x ≡ false → option_or x y ≡ y
+or-none None y e = refl
+or-none (Some m) y e = absurd (true≢false e)
+
+or-some : (x y : Maybe ℕ) → is_some x ≡ true → option_or x y ≡ x
+or-some None y e = absurd (true≢false (sym e))
+or-some (Some m) y e = refl
+
+and-none : (x y : Maybe ℕ) → is_none x ≡ true → option_and x y ≡ None
+and-none None y e = refl
+and-none (Some m) y e = absurd (true≢false (sym e))
+
+and-some : (x y : Maybe ℕ) → is_none x ≡ false → option_and x y ≡ y
+and-some None y e = absurd (true≢false e)
+and-some (Some m) y e = refl
+
+pub none-told : (x : Maybe ℕ) (a b : Bool) → is_some x ≡ not a → a ≡ b → is_none x ≡ b
+none-told x true b e h = ap not e ∙ h
+none-told x false b e h = ap not e ∙ h
+
+pub no-answer : (x : Maybe ℕ) → is_some x ≡ false → x ≡ None
+no-answer None e = refl
+no-answer (Some m) e = absurd (true≢false e)
+
 -- the loop over states: one that gives the output, one that does not, and the end
-module _ (t : List ℕ) (f : ℕ → ℕ) where
-  pub first-went : (n p m r z : ℕ) → 0 < n → m ≡ f p → m ≡ 0 → r ≡ get_or t (p + 4) 0 → first_miss t f n p ≡ z → first_miss t f (n - 1) r ≡ z
-  unfolding first_miss first_some
-  first-went zero p m r z l e h g d = absurd (omega arith)
-  first-went (suc n) p m r z l e h g d =
+module _ (t : List ℕ) (f : ℕ → Maybe ℕ) where
+  pub first-went : (n p : ℕ) (m : Maybe ℕ) (b : Bool) (r : ℕ) (z : Maybe ℕ) → 0 < n → m ≡ f p → b ≡ is_some m → b ≡ false → r ≡ get_or t (p + 4) 0 → first_miss t f n p ≡ z → first_miss t f (n - 1) r ≡ z
+  unfolding first_miss
+  first-went zero p m b r z l e k h g d = absurd (omega arith)
+  first-went (suc n) p m b r z l e k h g d =
       let i : suc n - 1 ≡ n = omega arith in
       ap (λ (y : ℕ). first_miss t f y r) i ∙ ap (first_miss t f n) g
-      ∙ sym (ap (λ (b : Bool). cond b (first_miss t f n (get_or t (p + 4) 0)) (f p)) (eq-eqb (f p) 0 (sym e ∙ h))) ∙ d
+      ∙ sym (or-none (f p) (first_miss t f n (get_or t (p + 4) 0)) (ap is_some (sym e) ∙ sym k ∙ h)) ∙ d
 
-  pub first_found : (n p m z : ℕ) → 0 < n → m ≡ f p → (m ≡ 0 → ⊥) → first_miss t f n p ≡ z → m ≡ z
-  unfolding first_miss first_some
-  first_found zero p m z l e h d = absurd (omega arith)
-  first_found (suc n) p m z l e h d =
-      e ∙ sym (ap (λ (b : Bool). cond b (first_miss t f n (get_or t (p + 4) 0)) (f p)) (ne_eqb (f p) 0 (λ g. h (e ∙ g)))) ∙ d
+  pub first_found : (n p : ℕ) (m : Maybe ℕ) (b : Bool) (z : Maybe ℕ) → 0 < n → m ≡ f p → b ≡ is_some m → b ≡ true → first_miss t f n p ≡ z → m ≡ z
+  unfolding first_miss
+  first_found zero p m b z l e k h d = absurd (omega arith)
+  first_found (suc n) p m b z l e k h d =
+      e ∙ sym (or-some (f p) (first_miss t f n (get_or t (p + 4) 0)) (ap is_some (sym e) ∙ sym k ∙ h)) ∙ d
 
-  pub first_done : (n p z : ℕ) → n ≤ 0 → first_miss t f n p ≡ z → 0 ≡ z
+  pub first_done : (n p : ℕ) (z : Maybe ℕ) → n ≤ 0 → first_miss t f n p ≡ z → None ≡ z
   unfolding first_miss
   first_done zero p z l d = d
   first_done (suc n) p z l d = absurd (omega arith)
@@ -99,22 +126,22 @@ module _ (t : List ℕ) (f : ℕ → ℕ) where
   first-from k n p r e h = ap (λ (y : ℕ). first_miss t f y p) e ∙ first-start n p r h
 
   -- the loop over regions: one that does not give the output, one that does, and the end
-  pub all-went : (n g m v k r z : ℕ) → 0 < n → m ≡ f g → (m ≡ 0 → ⊥) → k ≡ first_some v m → r ≡ get_or t (g + 4) 0 → all_miss t f n g v ≡ z → all_miss t f (n - 1) r k ≡ z
+  pub all-went : (n g : ℕ) (m v k : Maybe ℕ) (b : Bool) (r : ℕ) (z : Maybe ℕ) → 0 < n → m ≡ f g → is_some m ≡ not b → b ≡ false → k ≡ option_or v m → r ≡ get_or t (g + 4) 0 → all_miss t f n g v ≡ z → all_miss t f (n - 1) r k ≡ z
   unfolding all_miss
-  all-went zero g m v k r z l e h a b d = absurd (omega arith)
-  all-went (suc n) g m v k r z l e h a b d =
+  all-went zero g m v k b r z l e c h a w d = absurd (omega arith)
+  all-went (suc n) g m v k b r z l e c h a w d =
       let i : suc n - 1 ≡ n = omega arith in
       ap (λ (y : ℕ). all_miss t f y r k) i
-      ∙ (λ j. all_miss t f n (b j) ((a ∙ ap (first_some v) e) j))
-      ∙ sym (ap (λ (x : Bool). cond x 0 (all_miss t f n (get_or t (g + 4) 0) (first_some v (f g)))) (ne_eqb (f g) 0 (λ y. h (e ∙ y)))) ∙ d
+      ∙ (λ j. all_miss t f n (w j) ((a ∙ ap (option_or v) e) j))
+      ∙ sym (and-some (f g) (all_miss t f n (get_or t (g + 4) 0) (option_or v (f g))) (ap is_none (sym e) ∙ none-told m _ _ c h)) ∙ d
 
-  pub all-given : (n g m v z : ℕ) → 0 < n → m ≡ f g → m ≡ 0 → all_miss t f n g v ≡ z → 0 ≡ z
+  pub all-given : (n g : ℕ) (m v : Maybe ℕ) (b : Bool) (z : Maybe ℕ) → 0 < n → m ≡ f g → is_some m ≡ not b → b ≡ true → all_miss t f n g v ≡ z → None ≡ z
   unfolding all_miss
-  all-given zero g m v z l e h d = absurd (omega arith)
-  all-given (suc n) g m v z l e h d =
-      sym (ap (λ (x : Bool). cond x 0 (all_miss t f n (get_or t (g + 4) 0) (first_some v (f g)))) (eq-eqb (f g) 0 (sym e ∙ h))) ∙ d
+  all-given zero g m v b z l e c h d = absurd (omega arith)
+  all-given (suc n) g m v b z l e c h d =
+      sym (and-none (f g) (all_miss t f n (get_or t (g + 4) 0) (option_or v (f g))) (ap is_none (sym e) ∙ none-told m _ _ c h)) ∙ d
 
-  pub all_done : (n g v z : ℕ) → n ≤ 0 → all_miss t f n g v ≡ z → v ≡ z
+  pub all_done : (n g : ℕ) (v z : Maybe ℕ) → n ≤ 0 → all_miss t f n g v ≡ z → v ≡ z
   unfolding all_miss
   all_done zero g v z l d = d
   all_done (suc n) g v z l d = absurd (omega arith)
@@ -124,21 +151,21 @@ module _ (ns : List Name) (s t : List ℕ) (out : ℕ) where
   own_at : (at p : ℕ) (o b : Bool) → at ≡ get_or t p 0 → o ≡ own_t ns s out at → o ≡ b → own_t ns s out (get_or t p 0) ≡ b
   own_at at p o b e f g = ap (own_t ns s out) (sym e) ∙ sym f ∙ g
 
-  pub state-own : (f : ℕ → ℕ) (at p : ℕ) (o : Bool) → at ≡ get_or t p 0 → o ≡ own_t ns s out at → o ≡ true → 0 ≡ miss_t ns s t out f p
+  pub state-own : (f : ℕ → Maybe ℕ) (at p : ℕ) (o : Bool) → at ≡ get_or t p 0 → o ≡ own_t ns s out at → o ≡ true → None ≡ miss_t ns s t out f p
   unfolding miss_t
   state-own f at p o a b g = rw (own_at at p o true a b g) refl
 
-  pub state-alone : (f : ℕ → ℕ) (at p n : ℕ) (o : Bool) → at ≡ get_or t p 0 → o ≡ own_t ns s out at → o ≡ false → n ≡ get_or t (p + 5) 0 → n ≡ 0 → p ≡ miss_t ns s t out f p
+  pub state-alone : (f : ℕ → Maybe ℕ) (at p n : ℕ) (o : Bool) → at ≡ get_or t p 0 → o ≡ own_t ns s out at → o ≡ false → n ≡ get_or t (p + 5) 0 → n ≡ 0 → Some p ≡ miss_t ns s t out f p
   unfolding miss_t
   state-alone f at p n o a b g e h = rw (own_at at p o false a b g, eq-eqb (get_or t (p + 5) 0) 0 (sym e ∙ h)) refl
 
-  pub state-regions : (f : ℕ → ℕ) (at p n g : ℕ) (o : Bool) → at ≡ get_or t p 0 → o ≡ own_t ns s out at → o ≡ false → n ≡ get_or t (p + 5) 0 → (n ≡ 0 → ⊥) → (0 < get_or t (p + 5) 0 → g ≡ p + 6) → all_miss t f n g 0 ≡ miss_t ns s t out f p
+  pub state-regions : (f : ℕ → Maybe ℕ) (at p n g : ℕ) (o : Bool) → at ≡ get_or t p 0 → o ≡ own_t ns s out at → o ≡ false → n ≡ get_or t (p + 5) 0 → (n ≡ 0 → ⊥) → (0 < get_or t (p + 5) 0 → g ≡ p + 6) → all_miss t f n g None ≡ miss_t ns s t out f p
   unfolding miss_t
   state-regions f at p n g o a b c e h d =
       rw (own_at at p o false a b c, ne_eqb (get_or t (p + 5) 0) 0 (λ z. h (e ∙ z)))
-      (let l : 0 < get_or t (p + 5) 0 = omega arith in λ i. all_miss t f (e i) (d l i) 0)
+      (let l : 0 < get_or t (p + 5) 0 = omega arith in λ i. all_miss t f (e i) (d l i) None)
 
-  pub uncovered-none : (l q : ℕ) → l ≡ 0 → 0 ≡ uncovered_t ns s t out l q
+  pub uncovered-none : (l q : ℕ) → l ≡ 0 → None ≡ uncovered_t ns s t out l q
   unfolding uncovered_t
   uncovered-none l q e = rw e
 

@@ -2,14 +2,16 @@
 use Prim.Native.Nat.{ℕ, zero, suc, ◌+◌, ◌<◌, ◌≤◌}
 use native.Mathlib.Omega.{arith}
 use mathlib.Core.List.{List, [], ◌∷◌}
-use mathlib.Core.Bool.{Bool, true, false, cond, ◌&&◌, ◌||◌, or-false}
+use mathlib.Core.Bool.{Bool, true, false, cond, ◌&&◌, ◌||◌, or-false, true≢false}
 use mathlib.Core.Option.{Option, none, some}
 use mathlib.Core.Path.{◌≡◌, refl, sym, ap, ◌∙◌}
 use lib.ListN.{length, get_or}
 use lib.Dec.{eqb}
-use borrow.Author.Tests.{eq-eqb, eqb-false, eqb-true, ne_eqb}
+use borrow.Author.Tests.{ne_eqb}
 use Rattle.wire.specs.Answer.{counted, many, u16, value}
 use Rattle.wire.proofs.Answers.{bind-value, map-value}
+use Rattle.std.specs.Option.{is_none as nothing, option_and, option_or}
+use Rattle.std.specs.Prelude.{Option as Maybe, Some, None}
 use Rattle.pack_rules.specs.Names.{Name, eq_name}
 use Rattle.pack_rules.specs.Syntax.{Equation, Transition}
 use Rattle.machine_rules.specs.Resolved.{ResolvedMachine, ResolvedRegions, ResolvedStates, r_cons, r_nil, s_cons, s_nil}
@@ -21,7 +23,7 @@ use Rattle.machines.specs.declared.cover.OnlyLeft.{OnlyLeft}
 use Rattle.machine_rules.specs.Lower.{all_states_cover, is_only, is_some, own_value, some_region_covers}
 use Rattle.machine_rules.specs.Checks.{require_cover_regions, require_cover_states, unless_covered, unless_other}
 use Rattle.machines.specs.ResolvedIn.{StateAt, end_of}
-use Rattle.machines.specs.CheckedReads.{first_some, number_in, with}
+use Rattle.machines.specs.CheckedReads.{number_in, with}
 use Rattle.machines.specs.Layout.{HeldR, HeldS, RegionRow, StateRow, g_end, g_more, h_end, h_more}
 use Rattle.machines.specs.EmitAt.{letters_at}
 use Rattle.machines.specs.CoverAt.{all_miss, asked, assigned, first_miss, gives_t, miss_t, missed, own_t, tells, uncovered_t}
@@ -134,58 +136,49 @@ module _ (ns : List Name) (s t reg qualified : List ℕ) where
 
 module _ (t qualified : List ℕ) where
   -- the state that an answer names
-  missed-none : (m : ℕ) → m ≡ 0 → missed t qualified m ≡ none
-  unfolding missed
-  missed-none m e = rw (eq-eqb m 0 e)
-
-  missed-some : (m : ℕ) → (m ≡ 0 → ⊥) → missed t qualified m ≡ some (letters_at t qualified m)
-  unfolding missed
-  missed-some m e = rw (ne_eqb m 0 e)
-
-  missed-zero : (m : ℕ) → eqb m 0 ≡ is_none (missed t qualified m)
+  missed-zero : (m : Maybe ℕ) → nothing m ≡ is_none (missed t qualified m)
   unfolding missed is_none
-  missed-zero m = go (eqb m 0)
-    where
-      go : (b : Bool) → b ≡ is_none (cond b none (some (letters_at t qualified m)))
-      go true = refl
-      go false = refl
+  missed-zero None = refl
+  missed-zero (Some m) = refl
 
-  missed-next : (a b : ℕ) → missed t qualified (first_some a b) ≡ first_of (missed t qualified a) (missed t qualified b)
-  unfolding first_some first_of
-  missed-next a b = go (eqb a 0) refl
-    where
-      go : (x : Bool) → eqb a 0 ≡ x → missed t qualified (cond (eqb a 0) b a) ≡ first_of (missed t qualified a) (missed t qualified b)
-      go true e = rw (e, missed-none a (eqb-true a 0 e)) refl
-      go false e = rw (e, missed-some a (eqb-false a 0 e)) refl
+  missed-next : (a b : Maybe ℕ) → missed t qualified (option_or a b) ≡ first_of (missed t qualified a) (missed t qualified b)
+  unfolding missed first_of
+  missed-next None b = refl
+  missed-next (Some a) b = refl
 
-  missed-own : (b : Bool) (x : ℕ) → missed t qualified (cond b 0 x) ≡ unless_covered b (missed t qualified x)
+  missed-own : (b : Bool) (x : Maybe ℕ) → missed t qualified (cond b None x) ≡ unless_covered b (missed t qualified x)
   unfolding unless_covered missed
   missed-own true x = refl
   missed-own false x = refl
 
   -- a region, and those after it
-  missed-other : (f a : ℕ) (b : Bool) → ((f ≡ 0 → ⊥) → a ≡ cond b 0 f) → missed t qualified (cond (eqb f 0) 0 a) ≡ unless_other (missed t qualified f) b
-  unfolding unless_other
-  missed-other f a b h = go (eqb f 0) refl b h
-    where
-      go : (x : Bool) → eqb f 0 ≡ x → (b : Bool) → ((f ≡ 0 → ⊥) → a ≡ cond b 0 f) → missed t qualified (cond (eqb f 0) 0 a) ≡ unless_other (missed t qualified f) b
-      go true e b h = rw (e, missed-none f (eqb-true f 0 e)) (missed-none 0 refl)
-      go false e true h = rw (e, missed-some f (eqb-false f 0 e), h (eqb-false f 0 e)) (missed-none 0 refl)
-      go false e false h = rw (e, missed-some f (eqb-false f 0 e), h (eqb-false f 0 e)) (missed-some f (eqb-false f 0 e))
+  missed-other : (f a : Maybe ℕ) (b : Bool) → (nothing f ≡ false → a ≡ cond b None f) → missed t qualified (option_and f a) ≡ unless_other (missed t qualified f) b
+  unfolding unless_other missed
+  missed-other None a b h = refl
+  missed-other (Some m) a true h = ap (missed t qualified) (h refl)
+  missed-other (Some m) a false h = ap (missed t qualified) (h refl)
+
+kept : (m x : Maybe ℕ) → nothing m ≡ false → option_or m x ≡ m
+kept None x e = absurd (true≢false e)
+kept (Some m) x e = refl
+
+and-as : (x y : Maybe ℕ) → option_and x y ≡ cond (nothing x) None y
+and-as None y = refl
+and-as (Some m) y = refl
 
 module _ (ns : List Name) (s t reg qualified : List ℕ) (fresh : Fresh [] ns) (out : ℕ) (low : out < length ns) where
   abbrev o : Name
   o = name_at ns out
 
   -- whether a region gives the output, by its answer
-  gives_all : (m : ℕ) (ss : ResolvedStates) → missed t qualified m ≡ require_cover_states o ss → eqb m 0 ≡ all_states_cover o ss
+  gives_all : (m : Maybe ℕ) (ss : ResolvedStates) → missed t qualified m ≡ require_cover_states o ss → nothing m ≡ all_states_cover o ss
   gives_all m ss e = missed-zero t qualified m ∙ ap is_none e ∙ none-states o ss
 
-  states-none : (f : ℕ → ℕ) (p : ℕ) → missed t qualified (first_miss t f 0 p) ≡ require_cover_states o s_nil
-  unfolding first_miss require_cover_states
-  states-none f p = missed-none t qualified 0 refl
+  states-none : (f : ℕ → Maybe ℕ) (p : ℕ) → missed t qualified (first_miss t f 0 p) ≡ require_cover_states o s_nil
+  unfolding first_miss missed require_cover_states
+  states-none f p = refl
 
-  states-more : (f : ℕ → ℕ) (n p e : ℕ) (nn : Name) (es : List Equation) (ts : List Transition) (rs : ResolvedRegions) (rest : ResolvedStates) → get_or t (p + 4) 0 ≡ e
+  states-more : (f : ℕ → Maybe ℕ) (n p e : ℕ) (nn : Name) (es : List Equation) (ts : List Transition) (rs : ResolvedRegions) (rest : ResolvedStates) → get_or t (p + 4) 0 ≡ e
       → missed t qualified (f p) ≡ unless_covered (is_some (own_value o es)) (require_cover_regions o nn rs) → missed t qualified (first_miss t f n e) ≡ require_cover_states o rest
       → missed t qualified (first_miss t f (suc n) p) ≡ require_cover_states o (s_cons nn es ts rs rest)
   unfolding first_miss require_cover_states
@@ -194,39 +187,40 @@ module _ (ns : List Name) (s t reg qualified : List ℕ) (fresh : Fresh [] ns) (
       ∙ (λ i. first_of (b i) ((ap (λ (y : ℕ). missed t qualified (first_miss t f n y)) a ∙ c) i))
 
   -- a state, by its regions
-  state-told : {at tr a m e k v w : ℕ} {nm : Name} {ts : List Transition} (f : ℕ → ℕ) (p : ℕ) (es : List Equation) (x : Option Name) → StateRow t p at tr a m e k → StateAt ns s at nm es ts v w
-      → missed t qualified (cond (eqb k 0) p (all_miss t f k (p + 6) 0)) ≡ x → missed t qualified (miss_t ns s t out f p) ≡ unless_covered (is_some (own_value o es)) x
+  state-told : {at tr a m e k v w : ℕ} {nm : Name} {ts : List Transition} (f : ℕ → Maybe ℕ) (p : ℕ) (es : List Equation) (x : Option Name) → StateRow t p at tr a m e k → StateAt ns s at nm es ts v w
+      → missed t qualified (cond (eqb k 0) (Some p) (all_miss t f k (p + 6) None)) ≡ x → missed t qualified (miss_t ns s t out f p) ≡ unless_covered (is_some (own_value o es)) x
   unfolding miss_t
   state-told {at = at} f p es x row d h =
       let b = ap (own_t ns s out) row.drawn ∙ own-link ns s fresh out low at _ es _ _ _ d in
-      (λ i. missed t qualified (cond (b i) 0 (cond (eqb (row.regions i) 0) p (all_miss t f (row.regions i) (p + 6) 0))))
+      (λ i. missed t qualified (cond (b i) None (cond (eqb (row.regions i) 0) (Some p) (all_miss t f (row.regions i) (p + 6) None))))
       ∙ missed-own t qualified (is_some (own_value o es)) _ ∙ ap (unless_covered (is_some (own_value o es))) h
 
   -- the regions of a state: none; the first, by those after it; those after it
-  regions-none : (p : ℕ) (nn : Name) → 0 < p → letters_at t qualified p ≡ nn → missed t qualified p ≡ require_cover_regions o nn r_nil
-  unfolding require_cover_regions
-  regions-none p nn h e = missed-some t qualified p (λ z. omega arith) ∙ ap some e
+  regions-none : (p : ℕ) (nn : Name) → letters_at t qualified p ≡ nn → missed t qualified (Some p) ≡ require_cover_regions o nn r_nil
+  unfolding missed require_cover_regions
+  regions-none p nn e = ap some e
 
-  regions-first : (f : ℕ → ℕ) (p k g e : ℕ) (nn full : Name) (h : Bool) (ss : ResolvedStates) (rest : ResolvedRegions) → get_or t (g + 4) 0 ≡ e → missed t qualified (f g) ≡ require_cover_states o ss → ((m : ℕ) → (m ≡ 0 → ⊥) → all_miss t f k e m ≡ cond (some_region_covers o rest) 0 m)
-      → missed t qualified (cond (eqb (suc k) 0) p (all_miss t f (suc k) g 0)) ≡ require_cover_regions o nn (r_cons full h ss rest)
-  unfolding all_miss require_cover_regions first_some
+  regions-first : (f : ℕ → Maybe ℕ) (p k g e : ℕ) (nn full : Name) (h : Bool) (ss : ResolvedStates) (rest : ResolvedRegions) → get_or t (g + 4) 0 ≡ e → missed t qualified (f g) ≡ require_cover_states o ss → ((m : Maybe ℕ) → nothing m ≡ false → all_miss t f k e m ≡ cond (some_region_covers o rest) None m)
+      → missed t qualified (cond (eqb (suc k) 0) (Some p) (all_miss t f (suc k) g None)) ≡ require_cover_regions o nn (r_cons full h ss rest)
+  unfolding all_miss require_cover_regions
   regions-first f p k g e nn full h ss rest a b c =
-      ap (λ (x : Bool). missed t qualified (cond x p (all_miss t f (suc k) g 0))) (ne_eqb (suc k) 0 (λ z. omega arith))
+      ap (λ (x : Bool). missed t qualified (cond x (Some p) (all_miss t f (suc k) g None))) (ne_eqb (suc k) 0 (λ z. omega arith))
       ∙ missed-other t qualified (f g) (all_miss t f k (get_or t (g + 4) 0) (f g)) (some_region_covers o rest) (λ z. ap (λ (y : ℕ). all_miss t f k y (f g)) a ∙ c (f g) z)
       ∙ ap (λ (y : Option Name). unless_other y (some_region_covers o rest)) b
 
-  after_none : (f : ℕ → ℕ) (g m : ℕ) → all_miss t f 0 g m ≡ cond (some_region_covers o r_nil) 0 m
+  after_none : (f : ℕ → Maybe ℕ) (g : ℕ) (m : Maybe ℕ) → all_miss t f 0 g m ≡ cond (some_region_covers o r_nil) None m
   unfolding all_miss some_region_covers
   after_none f g m = refl
 
-  after_more : (f : ℕ → ℕ) (k g e m : ℕ) (full : Name) (h : Bool) (ss : ResolvedStates) (rest : ResolvedRegions) → (m ≡ 0 → ⊥) → get_or t (g + 4) 0 ≡ e → missed t qualified (f g) ≡ require_cover_states o ss → all_miss t f k e m ≡ cond (some_region_covers o rest) 0 m
-      → all_miss t f (suc k) g m ≡ cond (some_region_covers o (r_cons full h ss rest)) 0 m
-  unfolding all_miss some_region_covers first_some
+  after_more : (f : ℕ → Maybe ℕ) (k g e : ℕ) (m : Maybe ℕ) (full : Name) (h : Bool) (ss : ResolvedStates) (rest : ResolvedRegions) → nothing m ≡ false → get_or t (g + 4) 0 ≡ e → missed t qualified (f g) ≡ require_cover_states o ss → all_miss t f k e m ≡ cond (some_region_covers o rest) None m
+      → all_miss t f (suc k) g m ≡ cond (some_region_covers o (r_cons full h ss rest)) None m
+  unfolding all_miss some_region_covers
   after_more f k g e m full h ss rest z a b c =
-      (λ i. cond (gives_all (f g) ss b i) 0 (all_miss t f k (a i) (cond (ne_eqb m 0 z i) (f g) m)))
-      ∙ ap (cond (all_states_cover o ss) 0) c ∙ go (all_states_cover o ss)
+      and-as (f g) (all_miss t f k (get_or t (g + 4) 0) (option_or m (f g)))
+      ∙ (λ i. cond (gives_all (f g) ss b i) None (all_miss t f k (a i) (kept m (f g) z i)))
+      ∙ ap (cond (all_states_cover o ss) None) c ∙ go (all_states_cover o ss)
     where
-      go : (x : Bool) → cond x 0 (cond (some_region_covers o rest) 0 m) ≡ cond (x || some_region_covers o rest) 0 m
+      go : (x : Bool) → cond x None (cond (some_region_covers o rest) None m) ≡ cond (x || some_region_covers o rest) None m
       go true = refl
       go false = refl
 
@@ -234,34 +228,31 @@ module _ (ns : List Name) (s t reg qualified : List ℕ) (fresh : Fresh [] ns) (
   unfolding uncovered_t
   uncovered-parts l g n x e h = ap (λ (y : ℕ). missed t qualified (first_miss t (miss_t ns s t out (uncovered_t ns s t out l)) y (g + 9))) e ∙ h
 
-  later : (p e : ℕ) → 0 < p → p + 6 ≤ e → 0 < e
-  later p e a b = omega arith
-
   mutual
     -- the answer of states that are held names the first that does not give the output
-    link_s : {pre : Name} {up l n p i q j : ℕ} (ss : ResolvedStates) → HeldS ns s t reg qualified pre up l n p i ss q j → 0 < p
+    link_s : {pre : Name} {up l n p i q j : ℕ} (ss : ResolvedStates) → HeldS ns s t reg qualified pre up l n p i ss q j
         → missed t qualified (first_miss t (miss_t ns s t out (uncovered_t ns s t out l)) n p) ≡ require_cover_states o ss
-    link_s s_nil (h_end a b) h = states-none _ _
-    link_s (s_cons nn es ts rs rest) (h_more row d to f sl ms rg st) h =
-        states-more _ _ _ _ nn es ts rs rest row.after (state-told _ _ es _ row d (link_r nn rs rg h (state-letters t qualified _ nn row sl))) (link_s rest st (later _ _ h (end_r ns s t reg qualified rs rg)))
+    link_s s_nil (h_end a b) = states-none _ _
+    link_s (s_cons nn es ts rs rest) (h_more row d to f sl ms rg st) =
+        states-more _ _ _ _ nn es ts rs rest row.after (state-told _ _ es _ row d (link_r nn rs rg (state-letters t qualified _ nn row sl))) (link_s rest st)
 
-    link_r : {up st l k p i q j : ℕ} (nn : Name) (rs : ResolvedRegions) → HeldR ns s t reg qualified up st l k p i rs q j → 0 < st → letters_at t qualified st ≡ nn
-        → missed t qualified (cond (eqb k 0) st (all_miss t (uncovered_t ns s t out l) k p 0)) ≡ require_cover_regions o nn rs
-    link_r nn r_nil (g_end a b) h e = regions-none _ nn h e
-    link_r nn (r_cons full b ss rest) (g_more row rg lt f pr fu st more) h e =
-        regions-first _ _ _ _ _ nn full b ss rest row.after (uncovered-parts _ _ _ _ row.states (link_s ss st (omega arith))) (λ m z. link_more rest more m z)
+    link_r : {up st l k p i q j : ℕ} (nn : Name) (rs : ResolvedRegions) → HeldR ns s t reg qualified up st l k p i rs q j → letters_at t qualified st ≡ nn
+        → missed t qualified (cond (eqb k 0) (Some st) (all_miss t (uncovered_t ns s t out l) k p None)) ≡ require_cover_regions o nn rs
+    link_r nn r_nil (g_end a b) e = regions-none _ nn e
+    link_r nn (r_cons full b ss rest) (g_more row rg lt f pr fu st more) e =
+        regions-first _ _ _ _ _ nn full b ss rest row.after (uncovered-parts _ _ _ _ row.states (link_s ss st)) (λ m z. link_more rest more m z)
 
-    link_more : {up st l k p i q j : ℕ} (rs : ResolvedRegions) → HeldR ns s t reg qualified up st l k p i rs q j → (m : ℕ) → (m ≡ 0 → ⊥)
-        → all_miss t (uncovered_t ns s t out l) k p m ≡ cond (some_region_covers o rs) 0 m
+    link_more : {up st l k p i q j : ℕ} (rs : ResolvedRegions) → HeldR ns s t reg qualified up st l k p i rs q j → (m : Maybe ℕ) → nothing m ≡ false
+        → all_miss t (uncovered_t ns s t out l) k p m ≡ cond (some_region_covers o rs) None m
     link_more r_nil (g_end a b) m z = after_none _ _ m
     link_more (r_cons full b ss rest) (g_more row rg lt f pr fu st more) m z =
-        after_more _ _ _ _ m full b ss rest z row.after (uncovered-parts _ _ _ _ row.states (link_s ss st (omega arith))) (link_more rest more m z)
+        after_more _ _ _ _ m full b ss rest z row.after (uncovered-parts _ _ _ _ row.states (link_s ss st)) (link_more rest more m z)
 
   -- THE LAW: the answer of a region that is held names the first state that does not give the output
   pub uncovered-held : {x y a m e i n st up v l w q j : ℕ} {pre : Name} (p : ℕ) (ss : ResolvedStates) → RegionRow t p x y a m e i n st up → HeldS ns s t reg qualified pre v l n (p + 9) w ss q j → missed t qualified (uncovered_t ns s t out (suc l) p) ≡ require_cover_states o ss
-  uncovered-held p ss row st = uncovered-parts _ _ _ _ row.states (link_s ss st (omega arith))
+  uncovered-held p ss row st = uncovered-parts _ _ _ _ row.states (link_s ss st)
 
-  pub covers-held : {x y a m e i n st up v l w q j : ℕ} {pre : Name} (p : ℕ) (ss : ResolvedStates) → RegionRow t p x y a m e i n st up → HeldS ns s t reg qualified pre v l n (p + 9) w ss q j → eqb (uncovered_t ns s t out (suc l) p) 0 ≡ all_states_cover o ss
+  pub covers-held : {x y a m e i n st up v l w q j : ℕ} {pre : Name} (p : ℕ) (ss : ResolvedStates) → RegionRow t p x y a m e i n st up → HeldS ns s t reg qualified pre v l n (p + 9) w ss q j → nothing (uncovered_t ns s t out (suc l) p) ≡ all_states_cover o ss
   covers-held p ss row st = gives_all _ ss (uncovered-held p ss row st)
 
   -- of a machine whose top region is held at the word 0

@@ -1,8 +1,9 @@
 -- The first name that stood before: the steps of the search, and what it finds in a table of names.
 use Prim.Native.Nat.{ℕ, zero, suc, ◌+◌, ◌-◌, ◌≤◌, ◌<◌, min}
 use native.Mathlib.Omega.{arith}
-use mathlib.Core.List.{List, [], ◌∷◌, ◌++◌, append_assoc, append-nil}
+use mathlib.Core.List.{List, [], ◌∷◌, ◌++◌, append_assoc}
 use mathlib.Core.Option.{Option, none, some}
+use Rattle.std.specs.Prelude.{Option as Maybe, Some, None}
 use mathlib.Core.Bool.{Bool, true, false, cond, ◌||◌}
 use mathlib.Core.Logic.{◌⊎◌, inl, inr, ⊎_elim}
 use mathlib.Core.Path.{◌≡◌, refl, sym, ap, subst, ◌∙◌}
@@ -44,7 +45,7 @@ found-is t n f e = held f ∙ ap found e ∙ found-member (table t) n 0
     held (Err k) = refl
 
 -- steps enough are steps enough
-again-past : (f : ℕ) (t : List ℕ) (at : ℕ) → length t ≤ at → first_again f t at ≡ at
+again-past : (f : ℕ) (t : List ℕ) (at : ℕ) → length t ≤ at → first_again f t at ≡ None
 unfolding first_again
 again-past zero t at h = refl
 again-past (suc f) t at h = rw (le-ltb at (length t) h)
@@ -60,8 +61,8 @@ again-enough (suc f) zero t at h k = again-past (suc f) t at (omega arith)
 again-enough (suc f) (suc g) t at h k = go (ltb at (length t)) refl (λ l. again-enough f g t (end_at t at) (let m = end_after t at l in omega arith) (let m = end_after t at l in omega arith))
   where
     go : (b : Bool) → ltb at (length t) ≡ b → (at < length t → first_again f t (end_at t at) ≡ first_again g t (end_at t at))
-        → cond b (cond (member (word_at t at) (table (take at t))) at (first_again f t (end_at t at))) at ≡ cond b (cond (member (word_at t at) (table (take at t))) at (first_again g t (end_at t at))) at
-    go true e ih = ap (λ y. cond (member (word_at t at) (table (take at t))) at y) (ih (ltb-true at (length t) e))
+        → cond b (cond (member (word_at t at) (table (take at t))) (Some at) (first_again f t (end_at t at))) None ≡ cond b (cond (member (word_at t at) (table (take at t))) (Some at) (first_again g t (end_at t at))) None
+    go true e ih = ap (λ y. cond (member (word_at t at) (table (take at t))) (Some at) y) (ih (ltb-true at (length t) e))
     go false e ih = refl
 
 -- the search: a name more, one that stood before, the end
@@ -69,31 +70,31 @@ pub again-start : (t : List ℕ) → first_again (length t - 0) t 0 ≡ duplicat
 unfolding duplicate_at
 again-start t = ap (λ f. first_again f t 0) (omega arith)
 
-again-step : (t : List ℕ) (at : ℕ) → at < length t → first_again (length t - at) t at ≡ cond (member (word_at t at) (table (take at t))) at (first_again (length t - end_at t at) t (end_at t at))
+again-step : (t : List ℕ) (at : ℕ) → at < length t → first_again (length t - at) t at ≡ cond (member (word_at t at) (table (take at t))) (Some at) (first_again (length t - end_at t at) t (end_at t at))
 unfolding first_again
 again-step t at h =
     let f : length t - at ≡ suc (length t - at - 1) = omega arith in
     ap (λ y. first_again y t at) f
-    ∙ ap (λ b. cond b (cond (member (word_at t at) (table (take at t))) at (first_again (length t - at - 1) t (end_at t at))) at) (lt-ltb at (length t) h)
-    ∙ ap (λ y. cond (member (word_at t at) (table (take at t))) at y) (again-enough (length t - at - 1) (length t - end_at t at) t (end_at t at) (let m = end_after t at h in omega arith) (omega arith))
+    ∙ ap (λ b. cond b (cond (member (word_at t at) (table (take at t))) (Some at) (first_again (length t - at - 1) t (end_at t at))) None) (lt-ltb at (length t) h)
+    ∙ ap (λ y. cond (member (word_at t at) (table (take at t))) (Some at) y) (again-enough (length t - at - 1) (length t - end_at t at) t (end_at t at) (let m = end_after t at h in omega arith) (omega arith))
 
-module _ (t : List ℕ) (at e : ℕ) (b z : ℕ) (r : Bool) (h : at < length t) (p : e ≡ min (at + 1 + get_or t at 0) (length t)) (q : r ≡ member (take (e - (at + 1)) (drop (at + 1) t)) (table (take at t))) where
+module _ (t : List ℕ) (at e : ℕ) (b : ℕ) (z : Maybe ℕ) (r : Bool) (h : at < length t) (p : e ≡ min (at + 1 + get_or t at 0) (length t)) (q : r ≡ member (take (e - (at + 1)) (drop (at + 1) t)) (table (take at t))) where
   same : r ≡ member (word_at t at) (table (take at t))
   unfolding word_at end_at
   same = q ∙ ap (λ y. member (take (y - (at + 1)) (drop (at + 1) t)) (table (take at t))) p
 
-  pub again-here : r ≡ true → first_again (length t - at) t at ≡ z → at ≡ z
-  again-here g d = sym (ap (λ y. cond y at (first_again (length t - end_at t at) t (end_at t at))) (sym same ∙ g)) ∙ sym (again-step t at h) ∙ d
+  pub again-here : r ≡ true → first_again (length t - at) t at ≡ z → Some at ≡ z
+  again-here g d = sym (ap (λ y. cond y (Some at) (first_again (length t - end_at t at) t (end_at t at))) (sym same ∙ g)) ∙ sym (again-step t at h) ∙ d
 
   pub again-past-it : r ≡ false → first_again (length t - at) t at ≡ z → first_again (length t - e) t e ≡ z
   unfolding end_at
-  again-past-it g d = ap (λ y. first_again (length t - y) t y) p ∙ sym (ap (λ y. cond y at (first_again (length t - end_at t at) t (end_at t at))) (sym same ∙ g)) ∙ sym (again-step t at h) ∙ d
+  again-past-it g d = ap (λ y. first_again (length t - y) t y) p ∙ sym (ap (λ y. cond y (Some at) (first_again (length t - end_at t at) t (end_at t at))) (sym same ∙ g)) ∙ sym (again-step t at h) ∙ d
 
-pub again-end : (t : List ℕ) (at z : ℕ) → length t ≤ at → first_again (length t - at) t at ≡ z → at ≡ z
+pub again-end : (t : List ℕ) (at : ℕ) (z : Maybe ℕ) → length t ≤ at → first_again (length t - at) t at ≡ z → None ≡ z
 again-end t at z h d = sym (again-past (length t - at) t at h) ∙ d
 
 -- the first n bytes, or all where there are fewer
-pub again_cut : (l : List ℕ) (n e r : ℕ) → e ≡ min n (length l) → r ≡ duplicate_at (take e l) → r ≡ duplicate_at (take n l)
+pub again_cut : (l : List ℕ) (n e : ℕ) (r : Maybe ℕ) → e ≡ min n (length l) → r ≡ duplicate_at (take e l) → r ≡ duplicate_at (take n l)
 again_cut l n e r p q = q ∙ ap duplicate_at (⊎_elim (λ (h : length l < n). over h) (λ (h : n ≤ length l). let g : e ≡ n = omega arith in ap (λ y. take y l) g) (lt-or-le (length l) n))
   where
     over : length l < n → take e l ≡ take n l
@@ -128,8 +129,8 @@ again-in pre (m ∷ ms) t e =
     let n : at + 1 + length m ≡ length (enc more) = omega (arith, ap length (enc-more pre m), length-append (enc pre) (length m ∷ m)) in
     let z : end_at t at ≡ at + 1 + length m = ap (λ y. end_at y at) e ∙ end-here (enc pre) m (enc ms) in
     again-step t at l
-    ∙ (λ j. cond (member (w j) (s j)) at (first_again (length t - (z ∙ n) j) t ((z ∙ n) j)))
-    ∙ ap (λ y. cond (member m pre) at y) (again-in more ms t (e ∙ enc-move pre m ms) ∙ ap (duplicate_in more ms) (sym n))
+    ∙ (λ j. cond (member (w j) (s j)) (Some at) (first_again (length t - (z ∙ n) j) t ((z ∙ n) j)))
+    ∙ ap (λ y. cond (member m pre) (Some at) y) (again-in more ms t (e ∙ enc-move pre m ms) ∙ ap (duplicate_in more ms) (sym n))
 
 -- the table of names: where the first stands that stood before
 pub again-names : (ns : List Name) → duplicate_at (enc ns) ≡ duplicate_in [] ns 0
@@ -156,18 +157,18 @@ pub record Again (ns : List Name) (at : ℕ) (n : Name) : Type 0 where
   pub offset : at ≡ length (enc before)
 
 -- none of the rest stands again, or the first that does is where the search stops
-abbrev pub Said : List Name → Option Name → ℕ → Type 0
-Said all r at = ((r ≡ none) × (at ≡ length (enc all))) ⊎ ((n : Name) × (r ≡ some n) × Again all at n)
+abbrev pub Said : List Name → Option Name → Maybe ℕ → Type 0
+Said all r at = ((r ≡ none) × (at ≡ None)) ⊎ ((n : Name) × (d : ℕ) × (r ≡ some n) × (at ≡ Some d) × Again all d n)
 
 again-said : (pre seen rest : List Name) (at : ℕ) → ((x : Name) → member x pre ≡ member x seen) → at ≡ length (enc pre) → Said (pre ++ rest) (repeated seen rest) (duplicate_in pre rest at)
 unfolding repeated duplicate_in member
-again-said pre seen [] at same e = inl (refl, e ∙ ap (λ (l : List Name). length (enc l)) (sym (append-nil pre)))
-again-said pre seen (n ∷ ns) at same e = subst (λ b. Said (pre ++ (n ∷ ns)) (elim (member n seen) [ true ↦ some n | false ↦ repeated (n ∷ seen) ns ]) (cond b at (duplicate_in (pre ++ (n ∷ [])) ns (at + 1 + length n)))) (sym (same n)) (go (member n seen) refl
+again-said pre seen [] at same e = inl (refl, refl)
+again-said pre seen (n ∷ ns) at same e = subst (λ b. Said (pre ++ (n ∷ ns)) (elim (member n seen) [ true ↦ some n | false ↦ repeated (n ∷ seen) ns ]) (cond b (Some at) (duplicate_in (pre ++ (n ∷ [])) ns (at + 1 + length n)))) (sym (same n)) (go (member n seen) refl
     (again-said (pre ++ (n ∷ [])) (n ∷ seen) ns (at + 1 + length n) (λ x. member-snoc x n pre ∙ ap (λ b. eq_name x n || b) (same x)) (omega (arith, ap length (enc-more pre n), length-append (enc pre) (length n ∷ n)))))
   where
     go : (b : Bool) → member n seen ≡ b → Said ((pre ++ (n ∷ [])) ++ ns) (repeated (n ∷ seen) ns) (duplicate_in (pre ++ (n ∷ [])) ns (at + 1 + length n))
-        → Said (pre ++ (n ∷ ns)) (elim b [ true ↦ some n | false ↦ repeated (n ∷ seen) ns ]) (cond b at (duplicate_in (pre ++ (n ∷ [])) ns (at + 1 + length n)))
-    go true f ih = inr (n, refl, record { before = pre; after = ns; names = refl; offset = e })
+        → Said (pre ++ (n ∷ ns)) (elim b [ true ↦ some n | false ↦ repeated (n ∷ seen) ns ]) (cond b (Some at) (duplicate_in (pre ++ (n ∷ [])) ns (at + 1 + length n)))
+    go true f ih = inr (n, at, refl, refl, record { before = pre; after = ns; names = refl; offset = e })
     go false f ih = subst (λ (l : List Name). Said l (repeated (n ∷ seen) ns) (duplicate_in (pre ++ (n ∷ [])) ns (at + 1 + length n))) (append_assoc pre (n ∷ []) ns) ih
 
 -- of a table of names: none stands twice and the answer is its length, or the answer is where the first of those stands

@@ -22,6 +22,7 @@ use Rattle.machine_rules.specs.Resolve.{append_region, as_machine, as_target, co
 use Rattle.machine_rules.specs.Lower.{all_states_cover, is_only, is_some, names_of, own_value, some_region_covers}
 use Rattle.machine_rules.specs.Checks.{bad_initial, bad_target, check_no_states, collect_region_names, collect_state_names, refusal_of, repeated, require_cover_regions, require_cover_states, uncovered, unless_covered, unless_other, validate_regions, validate_states}
 use Rattle.machine_rules.specs.Machines.{accept, checked, judge, resolved}
+use Rattle.std.specs.Result.{result_unwrap_or}
 use Rattle.machines.specs.VerdictAt.{board_at, judge_at}
 use Rattle.machines.specs.Verdicts.{AcceptedAs}
 use Rattle.machines.specs.VerdictMeaning.{JudgedAs}
@@ -39,7 +40,7 @@ use Rattle.machines.proofs.CallScratch.{zeros as none-at}
 use Rattle.machines.proofs.Resolved.{Ready, walked-stands}
 use Rattle.machines.proofs.MachineLaidOut.{LaidMachine}
 use Rattle.machines.proofs.ResolvedLaidOut.{walked-laid, walked-tree}
-use Rattle.machines.proofs.MachineJudged.{read-judged}
+use Rattle.machines.proofs.MachineJudged.{accepted-count, read-judged}
 
 abbrev ns : List Name
 ns = (77 ∷ []) ∷ (111 ∷ []) ∷ (97 ∷ []) ∷ (78 ∷ []) ∷ (98 ∷ []) ∷ []
@@ -125,8 +126,7 @@ unfolding judge resolved checked resolved_states resolve_s resolve_r refine_at r
 accepted-here = refl
 
 -- and so does the code, with two regions, whatever long tables held before
-judged-instance : (t reg qualified : List ℕ) → Long t reg qualified → AcceptedAs (M ∷ N ∷ []) M (as_machine M tree) (judge_at ns s (names_placed s 5 2 0 zeros) (machines_placed ns s 16 zeros) 18 t reg qualified).regions
-unfolding JudgedAs
+judged-instance : (t reg qualified : List ℕ) → Long t reg qualified → AcceptedAs (M ∷ N ∷ []) M (as_machine M tree) (result_unwrap_or (judge_at ns s (names_placed s 5 2 0 zeros) (machines_placed ns s 16 zeros) 18 t reg qualified) 0)
 judged-instance t reg qualified long =
-    (subst (λ j. JudgedAs s (names_placed s 5 2 0 zeros) (board_at ns s (names_placed s 5 2 0 zeros) (machines_placed ns s 16 zeros) 18 t reg qualified).qualified (number_in s 18).value (M ∷ N ∷ []) M j (judge_at ns s (names_placed s 5 2 0 zeros) (machines_placed ns s 16 zeros) 18 t reg qualified)) accepted-here
-    (read-judged s ns (M ∷ N ∷ []) (names_placed s 5 2 0 zeros) (machines_placed ns s 16 zeros) tables (small_bytes s bytes-here) 18 M 45 read-M t reg qualified long)).1
+    accepted-count s _ _ _ (M ∷ N ∷ []) M (as_machine M tree) _ (subst (λ j. JudgedAs s (names_placed s 5 2 0 zeros) (board_at ns s (names_placed s 5 2 0 zeros) (machines_placed ns s 16 zeros) 18 t reg qualified).qualified (number_in s 18).value (M ∷ N ∷ []) M j (judge_at ns s (names_placed s 5 2 0 zeros) (machines_placed ns s 16 zeros) 18 t reg qualified)) accepted-here
+    (read-judged s ns (M ∷ N ∷ []) (names_placed s 5 2 0 zeros) (machines_placed ns s 16 zeros) tables (small_bytes s bytes-here) 18 M 45 read-M t reg qualified long))

@@ -5,12 +5,12 @@ use mathlib.Core.List.{List}
 use mathlib.Core.Bool.{false, cond}
 use mathlib.Core.Path.{◌≡◌, refl, sym, ap, ◌∙◌}
 use lib.ListN.{get_or, take}
-use lib.Dec.{ltb}
-use borrow.Author.Tests.{eq-eqb, le-leb, le-ltb, lt-leb, lt-ltb, ne_eqb}
+use borrow.Author.Tests.{eq-eqb, le-leb, lt-leb, ne_eqb}
+use Rattle.std.specs.Prelude.{Ok, Err, Option, Some, None}
 use Rattle.pack_rules.specs.Names.{Name}
 use Rattle.pack_rules.specs.Read.{port_in}
 use Rattle.machines.specs.declared.verdicts.NameRef.{NameRef}
-use Rattle.machines.specs.declared.verdicts.VerdictRow.{VerdictRow}
+use Rattle.machines.specs.declared.verdicts.Refusal.TheVariants as no
 use Rattle.wire.specs.declared.answer.Number.{Number}
 use Rattle.machines.specs.declared.validate.Checked.{Checked}
 use Rattle.machines.specs.declared.validate.Checked.TheVariants as ck
@@ -21,7 +21,7 @@ use Rattle.machines.specs.CheckedReads.{number_in}
 use Rattle.machines.specs.Duplicates.{duplicate_at}
 use Rattle.machines.specs.ValidateAt.{checked_region}
 use Rattle.machines.specs.CoverAt.{uncovered_t}
-use Rattle.machines.specs.VerdictAt.{again_called, board_at, called_at, checked_j, judge_at, laid_at, laid_j, lay_at, named, no_name, outputs_at, outputs_j, refused_by, state_called, walk_at, walked_b, walked_j}
+use Rattle.machines.specs.VerdictAt.{Judged, again_called, board_at, called_at, checked_j, judge_at, laid_at, laid_j, lay_at, no_name, outputs_at, outputs_j, state_called, unless_again, unless_missed, walk_at, walked_b, walked_j}
 use Rattle.machines.specs.LayoutAt.{Board, board, layout_machine, layout_t}
 use Rattle.machines.specs.declared.layout.LayoutPos.{LayoutPos}
 use Rattle.machines.specs.Tables.{initial_in, outputs_in}
@@ -45,68 +45,65 @@ again-near qualified d n h e =
     (λ i. record { letter = d + 1; letters = e i; name = 65535 })
     ∙ ap (λ b. cond b no_name (record { letter = d + 1; letters = get_or qualified d 0; name = 65535 })) (sym (lt-leb 4294967296 d h))
 
-pub refused-is : (k : ℕ) (a b x y : NameRef) (r : VerdictRow) → r ≡ refused_by k a b → a ≡ x → b ≡ y → r ≡ refused_by k x y
-refused-is k a b x y r e f g = e ∙ λ i. refused_by k (f i) (g i)
-
 module _ (ns : List Name) (s t : List ℕ) where
-  pub outputs-went : (regions n p q : ℕ) (x : Number) (m : ℕ) (z : VerdictRow) → 0 < n → x ≡ number_in s p → m ≡ uncovered_t ns s t x.value 8 0 → m ≡ 0 → q ≡ end_of (port_in ns s p) → outputs_j ns s t regions n p ≡ z → outputs_j ns s t regions (n - 1) q ≡ z
-  unfolding outputs_j
+  pub outputs-went : (regions n p q : ℕ) (x : Number) (m : Option ℕ) (z : Judged) → 0 < n → x ≡ number_in s p → m ≡ uncovered_t ns s t x.value 8 0 → m ≡ None → q ≡ end_of (port_in ns s p) → outputs_j ns s t regions n p ≡ z → outputs_j ns s t regions (n - 1) q ≡ z
+  unfolding outputs_j unless_missed
   outputs-went regions zero p q x m z l a b c d e = absurd (omega arith)
   outputs-went regions (suc n) p q x m z l a b c d e =
       let k : suc n - 1 ≡ n = omega arith in
-      let o : uncovered_t ns s t (number_in s p).value 8 0 ≡ 0 = ap (λ (y : Number). uncovered_t ns s t y.value 8 0) (sym a) ∙ sym b ∙ c in
+      let o : uncovered_t ns s t (number_in s p).value 8 0 ≡ None = ap (λ (y : Number). uncovered_t ns s t y.value 8 0) (sym a) ∙ sym b ∙ c in
       (λ i. outputs_j ns s t regions (k i) (d i))
-      ∙ sym (ap (λ y. cond y (outputs_j ns s t regions n (end_of (port_in ns s p))) (refused_by 4 (named (number_in s p).value) (state_called t (uncovered_t ns s t (number_in s p).value 8 0)))) (eq-eqb _ 0 o))
+      ∙ sym (ap (λ y. unless_missed t (number_in s p).value y (outputs_j ns s t regions n (end_of (port_in ns s p)))) o)
       ∙ e
 
-  pub outputs-stop : (regions n p : ℕ) (x : Number) (m : ℕ) (a b : NameRef) (r z : VerdictRow) → 0 < n → x ≡ number_in s p → m ≡ uncovered_t ns s t x.value 8 0 → (m ≡ 0 → ⊥) → a ≡ named x.value → b ≡ state_called t m → r ≡ refused_by 4 a b → outputs_j ns s t regions n p ≡ z → r ≡ z
-  unfolding outputs_j
-  outputs-stop regions zero p x m a b r z l c d e f g h k = absurd (omega arith)
-  outputs-stop regions (suc n) p x m a b r z l c d e f g h k =
-      let o : m ≡ uncovered_t ns s t (number_in s p).value 8 0 = d ∙ ap (λ (y : Number). uncovered_t ns s t y.value 8 0) c in
-      h ∙ (λ i. refused_by 4 ((f ∙ ap (λ (y : Number). named y.value) c) i) ((g ∙ ap (state_called t) o) i))
-      ∙ sym (ap (λ y. cond y (outputs_j ns s t regions n (end_of (port_in ns s p))) (refused_by 4 (named (number_in s p).value) (state_called t (uncovered_t ns s t (number_in s p).value 8 0)))) (ne_eqb _ 0 (λ y. e (o ∙ y))))
+  pub outputs-stop : (regions n p q : ℕ) (x : Number) (m : Option ℕ) (b : NameRef) (z : Judged) → 0 < n → x ≡ number_in s p → m ≡ uncovered_t ns s t x.value 8 0 → m ≡ Some q → b ≡ state_called t q → outputs_j ns s t regions n p ≡ z → Err (no.OutputUnassigned x.value b) ≡ z
+  unfolding outputs_j unless_missed
+  outputs-stop regions zero p q x m b z l c d e g k = absurd (omega arith)
+  outputs-stop regions (suc n) p q x m b z l c d e g k =
+      let o : uncovered_t ns s t (number_in s p).value 8 0 ≡ Some q = ap (λ (y : Number). uncovered_t ns s t y.value 8 0) (sym c) ∙ sym d ∙ e in
+      (λ i. Err (no.OutputUnassigned (c i).value (g i)))
+      ∙ sym (ap (λ y. unless_missed t (number_in s p).value y (outputs_j ns s t regions n (end_of (port_in ns s p)))) o)
       ∙ k
 
-  pub outputs-done : (regions n p : ℕ) (a b : NameRef) (z : VerdictRow) → n ≤ 0 → a ≡ no_name → b ≡ no_name → outputs_j ns s t regions n p ≡ z → ◌≡◌ {A = VerdictRow} (record { kind = 0; regions = regions; second = a; third = b }) z
+  pub outputs-done : (regions n p : ℕ) (z : Judged) → n ≤ 0 → outputs_j ns s t regions n p ≡ z → Ok regions ≡ z
   unfolding outputs_j
-  outputs-done regions zero p a b z l c d e = (λ i. record { kind = 0; regions = regions; second = c i; third = d i }) ∙ e
-  outputs-done regions (suc n) p a b z l c d e = absurd (omega arith)
+  outputs-done regions zero p z l e = e
+  outputs-done regions (suc n) p z l e = absurd (omega arith)
 
-  pub checked-fine : (c : Checked) (at regions : ℕ) (k : Number) (r : VerdictRow) → c ≡ ck.Fine → k ≡ number_in s at → r ≡ outputs_j ns s t regions k.value k.next → r ≡ checked_j ns s t c at regions
+  pub checked-fine : (c : Checked) (at regions : ℕ) (k : Number) (r : Judged) → c ≡ ck.Fine → k ≡ number_in s at → r ≡ outputs_j ns s t regions k.value k.next → r ≡ checked_j ns s t c at regions
   unfolding checked_j outputs_at
   checked-fine c at regions k r e f g = on k _ (λ n p. outputs_j ns s t regions n p) r f g ∙ ap (λ y. checked_j ns s t y at regions) (sym e)
 
-  pub checked-initial : (c : Checked) (at regions q x : ℕ) (a b : NameRef) (r : VerdictRow) → c ≡ ck.Initial q → x ≡ get_or t q 0 → a ≡ called_at t q x → b ≡ no_name → r ≡ refused_by 2 a b → r ≡ checked_j ns s t c at regions
+  pub checked-initial : (c : Checked) (at regions q x : ℕ) (a : NameRef) → c ≡ ck.Initial q → x ≡ get_or t q 0 → a ≡ called_at t q x → Err (no.UnknownInitialState a) ≡ checked_j ns s t c at regions
   unfolding checked_j
-  checked-initial c at regions q x a b r e f g h k = k ∙ (λ i. refused_by 2 ((g ∙ ap (called_at t q) f) i) (h i)) ∙ ap (λ y. checked_j ns s t y at regions) (sym e)
+  checked-initial c at regions q x a e f g = (λ i. Err (no.UnknownInitialState ((g ∙ ap (called_at t q) f) i))) ∙ ap (λ y. checked_j ns s t y at regions) (sym e)
 
-  pub checked-target : (c : Checked) (at regions p q x : ℕ) (a b : NameRef) (r : VerdictRow) → c ≡ ck.Target p q x → a ≡ state_called t p → b ≡ called_at t q x → r ≡ refused_by 3 a b → r ≡ checked_j ns s t c at regions
+  pub checked-target : (c : Checked) (at regions p q x : ℕ) (a b : NameRef) → c ≡ ck.Target p q x → a ≡ state_called t p → b ≡ called_at t q x → Err (no.UnknownTarget a b) ≡ checked_j ns s t c at regions
   unfolding checked_j
-  checked-target c at regions p q x a b r e g h k = k ∙ (λ i. refused_by 3 (g i) (h i)) ∙ ap (λ y. checked_j ns s t y at regions) (sym e)
+  checked-target c at regions p q x a b e g h = (λ i. Err (no.UnknownTarget (g i) (h i))) ∙ ap (λ y. checked_j ns s t y at regions) (sym e)
 
   module _ (qualified : List ℕ) (letters regions outputs : ℕ) where
-    abbrev rest : VerdictRow
+    abbrev rest : Judged
     rest = checked_j ns s t (checked_region ns s t 8 0) outputs regions
 
-    abbrev again : VerdictRow
-    again = cond (ltb (duplicate_at (take letters qualified)) letters) (refused_by 5 (again_called qualified (duplicate_at (take letters qualified))) no_name) rest
+    abbrev again : Judged
+    again = unless_again qualified (duplicate_at (take letters qualified)) rest
 
-    pub laid-empty : (e : ℕ) (a b : NameRef) (r : VerdictRow) → e ≡ get_or t 6 0 → e ≡ 0 → a ≡ no_name → b ≡ no_name → r ≡ refused_by 1 a b → r ≡ laid_j ns s t qualified letters regions outputs
+    pub laid-empty : (e : ℕ) → e ≡ get_or t 6 0 → e ≡ 0 → Err no.NoStates ≡ laid_j ns s t qualified letters regions outputs
     unfolding laid_j
-    laid-empty e a b r f g h k l = l ∙ (λ i. refused_by 1 (h i) (k i)) ∙ sym (ap (λ y. cond y (refused_by 1 no_name no_name) again) (eq-eqb (get_or t 6 0) 0 (sym f ∙ g)))
+    laid-empty e f g = sym (ap (λ y. cond y (Err no.NoStates) again) (eq-eqb (get_or t 6 0) 0 (sym f ∙ g)))
 
-    pub laid-again : (e d : ℕ) (a b : NameRef) (r : VerdictRow) → e ≡ get_or t 6 0 → (e ≡ 0 → ⊥) → d ≡ duplicate_at (take letters qualified) → d < letters → a ≡ again_called qualified d → b ≡ no_name → r ≡ refused_by 5 a b → r ≡ laid_j ns s t qualified letters regions outputs
-    unfolding laid_j
-    laid-again e d a b r f g h k m n o =
-        o ∙ (λ i. refused_by 5 ((m ∙ ap (again_called qualified) h) i) (n i))
-        ∙ sym (ap (λ y. cond y (refused_by 1 no_name no_name) again) (ne_eqb (get_or t 6 0) 0 (λ z. g (f ∙ z))) ∙ ap (λ y. cond y (refused_by 5 (again_called qualified (duplicate_at (take letters qualified))) no_name) rest) (ap (λ y. ltb y letters) (sym h) ∙ lt-ltb d letters k))
+    pub laid-again : (e d : ℕ) (o : Option ℕ) (a : NameRef) → e ≡ get_or t 6 0 → (e ≡ 0 → ⊥) → o ≡ duplicate_at (take letters qualified) → o ≡ Some d → a ≡ again_called qualified d → Err (no.DuplicateState a) ≡ laid_j ns s t qualified letters regions outputs
+    unfolding laid_j unless_again
+    laid-again e d o a f g h k m =
+        (λ i. Err (no.DuplicateState (m i)))
+        ∙ ap (λ y. unless_again qualified y rest) (sym k ∙ h) ∙ sym (ap (λ y. cond y (Err no.NoStates) again) (ne_eqb (get_or t 6 0) 0 (λ z. g (f ∙ z))))
 
-    pub laid-rest : (e d : ℕ) (c : Checked) (r : VerdictRow) → e ≡ get_or t 6 0 → (e ≡ 0 → ⊥) → d ≡ duplicate_at (take letters qualified) → letters ≤ d → c ≡ checked_region ns s t 8 0 → r ≡ checked_j ns s t c outputs regions → r ≡ laid_j ns s t qualified letters regions outputs
-    unfolding laid_j
-    laid-rest e d c r f g h k m n =
+    pub laid-rest : (e : ℕ) (o : Option ℕ) (c : Checked) (r : Judged) → e ≡ get_or t 6 0 → (e ≡ 0 → ⊥) → o ≡ duplicate_at (take letters qualified) → o ≡ None → c ≡ checked_region ns s t 8 0 → r ≡ checked_j ns s t c outputs regions → r ≡ laid_j ns s t qualified letters regions outputs
+    unfolding laid_j unless_again
+    laid-rest e o c r f g h k m n =
         n ∙ ap (λ y. checked_j ns s t y outputs regions) m
-        ∙ sym (ap (λ y. cond y (refused_by 1 no_name no_name) again) (ne_eqb (get_or t 6 0) 0 (λ z. g (f ∙ z))) ∙ ap (λ y. cond y (refused_by 5 (again_called qualified (duplicate_at (take letters qualified))) no_name) rest) (ap (λ y. ltb y letters) (sym h) ∙ le-ltb d letters k))
+        ∙ ap (λ y. unless_again qualified y rest) (sym k ∙ h) ∙ sym (ap (λ y. cond y (Err no.NoStates) again) (ne_eqb (get_or t 6 0) 0 (λ z. g (f ∙ z))))
 
 -- resolving, and then the machine as it is laid out
 module _ (ns : List Name) (s offsets to : List ℕ) where
@@ -115,27 +112,27 @@ module _ (ns : List Name) (s offsets to : List ℕ) where
   walked_at at i m w a b c = on m _ _ w a (c ∙ ap (machine_w ns s offsets to m.value) b)
 
   module _ (at i : ℕ) (m : Number) (w : Resolved) (t reg qualified : List ℕ) (a : m ≡ number_in s at) (b : i ≡ initial_in ns s m.next) (c : w ≡ machine_w ns s offsets to m.value i) where
-    judged-by : (v : Resolved) (r : VerdictRow) → w ≡ v → r ≡ walked_j ns s offsets to v (laid_at ns s offsets to at (lay_at ns s offsets to at t reg qualified)) → r ≡ judge_at ns s offsets to at t reg qualified
+    judged-by : (v : Resolved) (r : Judged) → w ≡ v → r ≡ walked_j ns s offsets to v (laid_at ns s offsets to at (lay_at ns s offsets to at t reg qualified)) → r ≡ judge_at ns s offsets to at t reg qualified
     unfolding judge_at
     judged-by v r e f = f ∙ ap (λ y. walked_j ns s offsets to y (laid_at ns s offsets to at (lay_at ns s offsets to at t reg qualified))) (sym e ∙ walked_at at i m w a b c)
 
-    pub judged-cycle : (n : ℕ) (x y : NameRef) (r : VerdictRow) → w ≡ wk.Cycle n → x ≡ named n → y ≡ no_name → r ≡ refused_by 7 x y → r ≡ judge_at ns s offsets to at t reg qualified
+    pub judged-cycle : (n : ℕ) → w ≡ wk.Cycle n → Err (no.RefineCycle n) ≡ judge_at ns s offsets to at t reg qualified
     unfolding walked_j
-    judged-cycle n x y r e f g h = judged-by (wk.Cycle n) r e (h ∙ λ j. refused_by 7 (f j) (g j))
+    judged-cycle n e = judged-by (wk.Cycle n) _ e refl
 
-    pub judged-unknown : (p n : ℕ) (x y : NameRef) (r : VerdictRow) → w ≡ wk.Unknown p n → x ≡ named p → y ≡ named n → r ≡ refused_by 6 x y → r ≡ judge_at ns s offsets to at t reg qualified
+    pub judged-unknown : (p n : ℕ) → w ≡ wk.Unknown p n → Err (no.UnknownRefine p n) ≡ judge_at ns s offsets to at t reg qualified
     unfolding walked_j
-    judged-unknown p n x y r e f g h = judged-by (wk.Unknown p n) r e (h ∙ λ j. refused_by 6 (f j) (g j))
+    judged-unknown p n e = judged-by (wk.Unknown p n) _ e refl
 
-    pub judged-large : (x y : NameRef) (r : VerdictRow) → w ≡ wk.Large → x ≡ no_name → y ≡ no_name → r ≡ refused_by 17 x y → r ≡ judge_at ns s offsets to at t reg qualified
+    pub judged-large : w ≡ wk.Large → Err no.TooLarge ≡ judge_at ns s offsets to at t reg qualified
     unfolding walked_j
-    judged-large x y r e f g h = judged-by wk.Large r e (h ∙ λ j. refused_by 17 (f j) (g j))
+    judged-large e = judged-by wk.Large _ e refl
 
     laid_from : layout_machine ns s offsets to i t reg qualified ≡ lay_at ns s offsets to at t reg qualified
     unfolding lay_at
     laid_from = ap (λ y. layout_machine ns s offsets to y t reg qualified) (b ∙ ap (λ (y : Number). initial_in ns s y.next) a)
 
-    pub judged-laid : (q k l o : ℕ) (t' reg' qualified' : List ℕ) (y : LayoutPos) (r : VerdictRow) → w ≡ wk.Went q k l → board t' reg' qualified' y ≡ layout_machine ns s offsets to i t reg qualified → o ≡ outputs_in ns s m.next → r ≡ laid_j ns s t' qualified' y.letters y.regions o → r ≡ judge_at ns s offsets to at t reg qualified
+    pub judged-laid : (q k l o : ℕ) (t' reg' qualified' : List ℕ) (y : LayoutPos) (r : Judged) → w ≡ wk.Went q k l → board t' reg' qualified' y ≡ layout_machine ns s offsets to i t reg qualified → o ≡ outputs_in ns s m.next → r ≡ laid_j ns s t' qualified' y.letters y.regions o → r ≡ judge_at ns s offsets to at t reg qualified
     unfolding walked_j laid_at
     judged-laid q k l o t' reg' qualified' y r e f g h =
         judged-by (wk.Went q k l) r e

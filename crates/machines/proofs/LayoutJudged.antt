@@ -7,11 +7,12 @@ use mathlib.Core.Option.{Option, none, some}
 use mathlib.Core.Logic.{inl, inr}
 use mathlib.Core.Path.{◌≡◌, refl, sym, ap, subst, ◌∙◌}
 use lib.ListN.{length, get_or, take, length-append}
-use lib.Dec.{eqb, ltb}
-use borrow.Author.Tests.{eq-eqb, le-ltb, lt-ltb, ne_eqb}
+use lib.Dec.{eqb}
+use borrow.Author.Tests.{eq-eqb, ne_eqb}
 use Rattle.wire.specs.Answer.{counted, many, u16, value}
 use Rattle.wire.specs.Lists.{All}
 use Rattle.wire.proofs.Answers.{bind-value, map-value}
+use Rattle.std.specs.Prelude.{Ok, Err, Option as Maybe, Some, None}
 use Rattle.pack_rules.specs.Names.{Name}
 use Rattle.pack_rules.specs.Syntax.{Port}
 use Rattle.machine_rules.specs.Resolved.{ResolvedMachine, ResolvedStates, r_cons, r_nil, s_cons, s_nil}
@@ -21,7 +22,7 @@ use Rattle.pack_rules.specs.Read.{name_in, port_in, ports_in, type_in}
 use Rattle.pack_rules.specs.Report.{Refusal, as_refusal, first_of}
 use Rattle.pack_rules.specs.Write.{enc}
 use Rattle.pack.proofs.Tables.{enc-append}
-use Rattle.machines.specs.declared.verdicts.VerdictRow.{VerdictRow}
+use Rattle.machines.specs.declared.verdicts.Refusal.TheVariants as no
 use Rattle.machines.specs.declared.validate.Checked.{Checked}
 use Rattle.machines.specs.declared.validate.Checked.TheVariants as ck
 use Rattle.machine_rules.specs.Refusals.{duplicate_state, no_states, unassigned, unknown_initial, unknown_target}
@@ -36,8 +37,8 @@ use Rattle.machines.specs.CoverAt.{missed, uncovered_t}
 use Rattle.machines.specs.EmitAt.{letters_at}
 use Rattle.machines.specs.Duplicates.{duplicate_at}
 use Rattle.machines.specs.ValidateAt.{checked_region}
-use Rattle.machines.specs.VerdictAt.{accepted_with, again_called, called_at, checked_j, laid_j, named, no_name, outputs_at, outputs_j, refused_by, state_called}
-use Rattle.machines.specs.VerdictMeaning.{RefusedAs}
+use Rattle.machines.specs.VerdictAt.{Judged, again_called, called_at, checked_j, laid_j, named, no_name, outputs_at, outputs_j, state_called, unless_again, unless_missed}
+use Rattle.machines.specs.VerdictMeaning.{RefusedFor}
 use Rattle.machines.proofs.Reading.{many-cut, many_more, many-over, name-number}
 use Rattle.machines.proofs.CheckedReadLaws.{end-to, number-num, number-to}
 use Rattle.machines.proofs.NamesPlaced.{SpotAt}
@@ -55,15 +56,15 @@ first-assoc (some x) b c = refl
 
 -- accepted with so many regions, or refused for this
 module _ (s offsets qualified : List ℕ) (m : ℕ) where
-  unfoldable pub Stood : ℕ → Option Refusal → VerdictRow → Type 0
-  Stood k none j = (j ≡ accepted_with k) × (k < 65536)
-  Stood k (some r) j = RefusedAs s offsets qualified m r j
+  unfoldable pub Stood : ℕ → Option Refusal → Judged → Type 0
+  Stood k none j = (j ≡ Ok k) × (k < 65536)
+  Stood k (some r) j = RefusedFor s offsets qualified m r j
 
-  stood-some : (k : ℕ) (a b : Option Refusal) (r : Refusal) (j : VerdictRow) → a ≡ some r → RefusedAs s offsets qualified m r j → Stood k (first_of a b) j
+  stood-some : (k : ℕ) (a b : Option Refusal) (r : Refusal) (j : Judged) → a ≡ some r → RefusedFor s offsets qualified m r j → Stood k (first_of a b) j
   unfolding Stood first_of
   stood-some k a b r j e h = subst (λ o. Stood k (first_of o b) j) (sym e) h
 
-  stood-none : (k : ℕ) (a b : Option Refusal) (j : VerdictRow) → a ≡ none → Stood k b j → Stood k (first_of a b) j
+  stood-none : (k : ℕ) (a b : Option Refusal) (j : Judged) → a ≡ none → Stood k b j → Stood k (first_of a b) j
   unfolding first_of
   stood-none k a b j e h = subst (λ o. Stood k (first_of o b) j) (sym e) h
 
@@ -73,22 +74,22 @@ module _ (s : List ℕ) (ns : List Name) (offsets qualified : List ℕ) (fresh :
   own-short : Short own
   own-short = subst Short is (short m small).1
 
-  abbrev Refuses : Refusal → VerdictRow → Type 0
-  Refuses = RefusedAs s offsets qualified m
+  abbrev Refuses : Refusal → Judged → Type 0
+  Refuses = RefusedFor s offsets qualified m
 
   -- the kinds of refusals
-  empty-as : Refuses (no_states own) (refused_by 1 no_name no_name)
-  unfolding no_states All
+  empty-as : Refuses (no_states own) (Err no.NoStates)
+  unfolding RefusedFor no_states All
   empty-as = refused_as s ns offsets qualified spot few m 1 no_name no_name own [] [] _ small is (omega arith) (omega arith) (called-no s offsets qualified) (called-no s offsets qualified) refl (own-short, tt)
 
-  again-as : (all : List Name) (k d : ℕ) (n : Name) → take k qualified ≡ enc all → d < 4294967296 → Again all d n → Lettered n → Refuses (duplicate_state own n) (refused_by 5 (again_called qualified d) no_name)
-  unfolding duplicate_state All
+  again-as : (all : List Name) (k d : ℕ) (n : Name) → take k qualified ≡ enc all → d < 4294967296 → Again all d n → Lettered n → Refuses (duplicate_state own n) (Err (no.DuplicateState (again_called qualified d)))
+  unfolding RefusedFor duplicate_state All
   again-as all k d n e h a l =
       refused_as s ns offsets qualified spot few m 5 (again_called qualified d) no_name own (n ∷ []) [] _ small is (omega arith) (omega arith) (called-again s offsets qualified all k d n e h a l.0) (called-no s offsets qualified) refl (own-short, (l.1, tt))
 
   -- an initial state or a target
   wrong-as : (t : List ℕ) (at k : ℕ) (c : Checked) (r : Refusal) → Says ns t qualified own c r → Fair r → Refuses r (checked_j ns s t c at k)
-  unfolding Says checked_j unknown_initial unknown_target
+  unfolding RefusedFor Says checked_j unknown_initial unknown_target
   wrong-as t at k ck.Fine r h f = absurd h
   wrong-as t at k (ck.Initial q) r h f =
       refused_as s ns offsets qualified spot few m 2 (called_at t q (get_or t q 0)) no_name own (called_in ns t qualified q (get_or t q 0) ∷ []) [] r small is (omega arith) (omega arith)
@@ -99,37 +100,28 @@ module _ (s : List ℕ) (ns : List Name) (offsets qualified : List ℕ) (fresh :
       (called-inside s ns offsets qualified spot few t q x h.0) h.1 f.short
 
   -- an output
-  unassigned-as : (t : List ℕ) (i p : ℕ) → i < length ns → Lettered (letters_at t qualified p) → Refuses (unassigned own (name_at ns i) (letters_at t qualified p)) (refused_by 4 (named i) (state_called t p))
-  unfolding unassigned All
+  unassigned-as : (t : List ℕ) (i p : ℕ) → i < length ns → Lettered (letters_at t qualified p) → Refuses (unassigned own (name_at ns i) (letters_at t qualified p)) (Err (no.OutputUnassigned i (state_called t p)))
+  unfolding RefusedFor unassigned All
   unassigned-as t i p h l =
       refused_as s ns offsets qualified spot few m 4 (named i) (state_called t p) own (name_at ns i ∷ []) (letters_at t qualified p ∷ []) _ small is (omega arith) (omega arith)
       (called-name s ns offsets qualified spot few i h) (called-state s offsets qualified t p l.0) refl (own-short, ((short i h).1, (l.1, tt)))
 
   -- the outputs of a machine x that is held
   module _ (t reg : List ℕ) (x : ResolvedMachine) (w v : ℕ) (held : HeldR ns s t reg qualified 0 0 8 1 0 0 (r_cons x.initial true x.states r_nil) w v) (fine : All Lettered (collect_state_names x.states)) (k : ℕ) (fits : k < 65536) where
-    output-step : (n p i y z : ℕ) → number_in s p ≡ num i y → end_of (port_in ns s p) ≡ z
-        → outputs_j ns s t k (suc n) p ≡ cond (eqb (uncovered_t ns s t i 8 0) 0) (outputs_j ns s t k n z) (refused_by 4 (named i) (state_called t (uncovered_t ns s t i 8 0)))
+    output-step : (n p i y z : ℕ) → number_in s p ≡ num i y → end_of (port_in ns s p) ≡ z → outputs_j ns s t k (suc n) p ≡ unless_missed t i (uncovered_t ns s t i 8 0) (outputs_j ns s t k n z)
     unfolding outputs_j
-    output-step n p i y z e f =
-        λ j. cond (eqb (uncovered_t ns s t (e j).value 8 0) 0) (outputs_j ns s t k n (f j)) (refused_by 4 (named (e j).value) (state_called t (uncovered_t ns s t (e j).value 8 0)))
+    output-step n p i y z e f = λ j. unless_missed t (e j).value (uncovered_t ns s t (e j).value 8 0) (outputs_j ns s t k n (f j))
 
     -- one output by its answer u, and those after it
-    output-as : (i u : ℕ) (ps : List Port) (p : Port) (j : VerdictRow) → i < length ns → name_at ns i ≡ p.name → missed t qualified u ≡ require_cover_states p.name x.states
+    output-as : (i : ℕ) (u : Maybe ℕ) (ps : List Port) (p : Port) (j : Judged) → i < length ns → name_at ns i ≡ p.name → missed t qualified u ≡ require_cover_states p.name x.states
         → Stood s offsets qualified m k (uncovered own x.states ps) j
-        → Stood s offsets qualified m k (uncovered own x.states (p ∷ ps)) (cond (eqb u 0) j (refused_by 4 (named i) (state_called t u)))
-    unfolding uncovered missed as_refusal
-    output-as i u ps p j h e f ih = go (eqb u 0) f
-      where
-        rest : Option Refusal
-        rest = uncovered own x.states ps
-
-        go : (b : Bool) → cond b none (some (letters_at t qualified u)) ≡ require_cover_states p.name x.states
-            → Stood s offsets qualified m k (first_of (as_refusal (λ n. unassigned own p.name n) (require_cover_states p.name x.states)) rest) (cond b j (refused_by 4 (named i) (state_called t u)))
-        go true g = stood-none s offsets qualified m k _ rest j (ap (as_refusal (λ n. unassigned own p.name n)) (sym g)) ih
-        go false g =
-            stood-some s offsets qualified m k _ rest (unassigned own p.name (letters_at t qualified u)) _ (ap (as_refusal (λ n. unassigned own p.name n)) (sym g))
-            (subst (λ (y : Name). Refuses (unassigned own y (letters_at t qualified u)) (refused_by 4 (named i) (state_called t u))) e
-            (unassigned-as t i u h (maybe-some Lettered (require_cover_states p.name x.states) (letters_at t qualified u) (sym g) (uncovered-told Lettered p.name x.states fine))))
+        → Stood s offsets qualified m k (uncovered own x.states (p ∷ ps)) (unless_missed t i u j)
+    unfolding uncovered missed as_refusal unless_missed
+    output-as i None ps p j h e f ih = stood-none s offsets qualified m k _ (uncovered own x.states ps) j (ap (as_refusal (λ n. unassigned own p.name n)) (sym f)) ih
+    output-as i (Some u) ps p j h e f ih =
+        stood-some s offsets qualified m k _ (uncovered own x.states ps) (unassigned own p.name (letters_at t qualified u)) _ (ap (as_refusal (λ n. unassigned own p.name n)) (sym f))
+        (subst (λ (y : Name). Refuses (unassigned own y (letters_at t qualified u)) (Err (no.OutputUnassigned i (state_called t u)))) e
+        (unassigned-as t i u h (maybe-some Lettered (require_cover_states p.name x.states) (letters_at t qualified u) (sym f) (uncovered-told Lettered p.name x.states fine))))
 
     outputs-as : (n p : ℕ) (ps : List Port) (q : ℕ) → many (port_in ns s) n p ≡ value ps q → Stood s offsets qualified m k (uncovered own x.states ps) (outputs_j ns s t k n p)
     unfolding outputs_j uncovered Stood port_in
@@ -165,7 +157,7 @@ module _ (s : List ℕ) (ns : List Name) (offsets qualified : List ℕ) (fresh :
 module _ (s : List ℕ) (ns : List Name) (offsets : List ℕ) (fresh : Fresh [] ns) (spot : (i : ℕ) → i < length ns → SpotAt s (get_or offsets i 0) (name_at ns i)) (few : length ns ≤ 65535)
     (short : (i : ℕ) → i < length ns → Lettered (name_at ns i)) (m : ℕ) (small : m < length ns) (x : ResolvedMachine) (is : name_at ns m ≡ x.name)
     (b : Board) (laid : LaidMachine ns s b x.initial x.states) (ok : short_s 0 x.states ≡ true) (starts : Short x.initial) (o z : ℕ) (ports : ports_in ns s o ≡ value x.outputs z) where
-  abbrev Stands : Option Refusal → VerdictRow → Type 0
+  abbrev Stands : Option Refusal → Judged → Type 0
   Stands = Stood s offsets b.qualified m (suc (size_s x.states))
 
   abbrev all : List Name
@@ -188,7 +180,7 @@ module _ (s : List ℕ) (ns : List Name) (offsets : List ℕ) (fresh : Fresh [] 
   refusal-parts = ap (λ r. first_of (check_no_states x.name x.states) (first_of twice r)) (first-assoc (bad_initial x.name x.initial (names_of x.states)) (validate_states x.name (names_of x.states) x.states) missing)
 
   -- initial states and targets, then outputs
-  abbrev rest : VerdictRow
+  abbrev rest : Judged
   rest = checked_j ns s b.t (checked_region ns s b.t 8 0) o b.c.regions
 
   valid-as : Stands (first_of invalid missing) rest
@@ -211,19 +203,17 @@ module _ (s : List ℕ) (ns : List Name) (offsets : List ℕ) (fresh : Fresh [] 
   unfolding enc
   before-end d n a = omega (arith, a.offset, ap (λ (y : List Name). length (enc y)) a.names, ap length (enc-append a.before (n ∷ a.after)), length-append (enc a.before) (enc (n ∷ a.after)))
 
-  abbrev second : ℕ → VerdictRow
-  second d = cond (ltb d b.c.letters) (refused_by 5 (again_called b.qualified d) no_name) rest
+  abbrev second : Maybe ℕ → Judged
+  second d = unless_again b.qualified d rest
 
-  again-said : (d : ℕ) → Said all (repeated [] all) d → Stands (first_of twice (first_of invalid missing)) (second d)
-  unfolding as_refusal
+  again-said : (d : Maybe ℕ) → Said all (repeated [] all) d → Stands (first_of twice (first_of invalid missing)) (second d)
+  unfolding as_refusal unless_again
   again-said d (inl (e, f)) =
-      let g : ltb d b.c.letters ≡ false = le-ltb d b.c.letters (omega (arith, f, laid.letters-end)) in
-      subst (λ y. Stands (first_of twice (first_of invalid missing)) (cond y (refused_by 5 (again_called b.qualified d) no_name) rest)) (sym g)
+      subst (λ y. Stands (first_of twice (first_of invalid missing)) (second y)) (sym f)
       (stood-none s offsets b.qualified m (suc (size_s x.states)) twice (first_of invalid missing) rest (ap (as_refusal (λ n. duplicate_state x.name n)) e) valid-as)
-  again-said d (inr (n, e, a)) =
+  again-said o (inr (n, d, e, f, a)) =
       let l = before-end d n a in
-      let g : ltb d b.c.letters ≡ true = lt-ltb d b.c.letters (omega (arith, laid.letters-end)) in
-      subst (λ y. Stands (first_of twice (first_of invalid missing)) (cond y (refused_by 5 (again_called b.qualified d) no_name) rest)) (sym g)
+      subst (λ y. Stands (first_of twice (first_of invalid missing)) (second y)) (sym f)
       (stood-some s offsets b.qualified m (suc (size_s x.states)) twice (first_of invalid missing) (duplicate_state x.name n) _ (ap (as_refusal (λ n. duplicate_state x.name n)) e)
       (again-as s ns offsets b.qualified fresh spot few short m small x.name is all b.c.letters d n laid.letters (omega (arith, laid.letters-end, laid.letters-few)) a
       (maybe-some Lettered (repeated [] all) n e (repeated-told Lettered [] all lettered))))
@@ -238,6 +228,6 @@ module _ (s : List ℕ) (ns : List Name) (offsets : List ℕ) (fresh : Fresh [] 
       more = subst (λ (y : List ℕ). Stands (first_of twice (first_of invalid missing)) (second (duplicate_at y))) (sym laid.letters) (again-said (duplicate_at (enc all)) (repeated-said all))
 
       go : (y : Bool) → check_no_states x.name x.states ≡ cond y (some (no_states x.name)) none
-          → Stands (first_of (check_no_states x.name x.states) (first_of twice (first_of invalid missing))) (cond y (refused_by 1 no_name no_name) (second (duplicate_at (take b.c.letters b.qualified))))
+          → Stands (first_of (check_no_states x.name x.states) (first_of twice (first_of invalid missing))) (cond y (Err no.NoStates) (second (duplicate_at (take b.c.letters b.qualified))))
       go true e = stood-some s offsets b.qualified m (suc (size_s x.states)) _ _ (no_states x.name) _ e (empty-as s ns offsets b.qualified fresh spot few short m small x.name is)
       go false e = stood-none s offsets b.qualified m (suc (size_s x.states)) _ _ _ e more

@@ -9,14 +9,18 @@ use lib.ListN.{length, get_or}
 use Rattle.wire.specs.Answer.{value}
 use Rattle.wire.specs.Lists.{All, Bytes}
 use Rattle.wire.proofs.Answers.{u16-value}
+use Rattle.std.specs.Prelude.{Ok, Err}
+use Rattle.std.specs.Result.{result_unwrap_or}
+use Rattle.machines.specs.Verdicts.{AcceptedAs}
 use Rattle.pack_rules.specs.Names.{Name}
 use Rattle.pack_rules.specs.Syntax.{MachineDef}
-use Rattle.machine_rules.specs.Resolved.{ResolvedStates}
+use Rattle.machine_rules.specs.Resolved.{ResolvedMachine, ResolvedStates}
 use Rattle.pack_rules.specs.Forms.{name_at}
 use Rattle.pack_rules.specs.Read.{machine_in}
 use Rattle.pack_rules.specs.Report.{Refusal}
 use Rattle.machines.specs.declared.verdicts.NameRef.{NameRef}
-use Rattle.machines.specs.declared.verdicts.VerdictRow.{VerdictRow}
+use Rattle.machines.specs.declared.verdicts.Refusal.{Refusal as Why}
+use Rattle.machines.specs.declared.verdicts.Refusal.TheVariants as no
 use Rattle.wire.specs.declared.answer.Number.{Number}
 use Rattle.machines.specs.declared.resolve.Resolved.{Resolved}
 use Rattle.machines.specs.declared.resolve.Resolved.TheVariants as wk
@@ -26,13 +30,13 @@ use Rattle.machines.specs.CheckedReads.{num, number_in}
 use Rattle.machines.specs.Tables.{initial_in, outputs_in}
 use Rattle.machine_rules.specs.Lower.{size_s}
 use Rattle.machine_rules.specs.Checks.{refusal_of}
-use Rattle.machine_rules.specs.Machines.{checked, judge, resolved}
+use Rattle.machine_rules.specs.Machines.{accept, checked, judge, resolved}
 use Rattle.machines.specs.ResolveAt.{machine_w}
 use Rattle.machines.specs.ResolveAgrees.{WithinNames, why_of}
 use Rattle.machines.specs.LayoutAt.{Board, board, layout_machine, layout_t}
 use Rattle.machines.specs.ReportEntries.{called_of}
-use Rattle.machines.specs.VerdictAt.{board_at, judge_at, laid_at, laid_j, lay_at, named, no_name, refused_by, walk_at, walked_b, walked_j}
-use Rattle.machines.specs.VerdictMeaning.{JudgedAs, RefusedAs}
+use Rattle.machines.specs.VerdictAt.{Judged, row_of, board_at, judge_at, laid_at, laid_j, lay_at, named, no_name, refused_by, walk_at, walked_b, walked_j}
+use Rattle.machines.specs.VerdictMeaning.{RefusedFor, JudgedAs, RefusedAs}
 use Rattle.machines.specs.EmitMachineAt.{Long}
 use Rattle.machines.proofs.Reading.{MachineRead, NumberIs, machine-value, name-number}
 use Rattle.machines.proofs.CheckedReadLaws.{number-num, number-to}
@@ -57,8 +61,8 @@ names-lettered s ns ms offsets to r bytes i h =
     (omega (arith, a.some), omega (arith, bytes (get_or offsets i 0)))
 
 -- what is judged by the definition, from what resolving came to
-module _ (s offsets qualified : List ℕ) (m : ℕ) (ms : List MachineDef) (d : MachineDef) (j : VerdictRow) where
-  stopped-as : (r : Refusal) → resolved_states ms d ≡ stop r → RefusedAs s offsets qualified m r j → JudgedAs s offsets qualified m ms d (judge ms d) j
+module _ (s offsets qualified : List ℕ) (m : ℕ) (ms : List MachineDef) (d : MachineDef) (j : Judged) where
+  stopped-as : (r : Refusal) → resolved_states ms d ≡ stop r → RefusedFor s offsets qualified m r j → JudgedAs s offsets qualified m ms d (judge ms d) j
   unfolding judge resolved JudgedAs
   stopped-as r e h = subst (λ w. JudgedAs s offsets qualified m ms d (resolved d w) j) (sym e) h
 
@@ -67,19 +71,28 @@ module _ (s offsets qualified : List ℕ) (m : ℕ) (ms : List MachineDef) (d : 
   went-as ss n e h = subst (λ w. JudgedAs s offsets qualified m ms d (resolved d w) j) (sym e) (by (refusal_of (as_machine d ss)) refl h)
     where
       by : (o : Option Refusal) → refusal_of (as_machine d ss) ≡ o → Stood s offsets qualified m (suc (size_s ss)) o j → JudgedAs s offsets qualified m ms d (checked (as_machine d ss) o) j
-      by none f g = (
-        ap (λ (y : VerdictRow). y.kind) g.0,
-        record {
-          states = ss;
-          count = n;
-          is = refl;
-          resolves = e;
-          accepted = f;
-          regions = ap (λ (y : VerdictRow). y.regions) g.0;
-          few = subst (λ (y : VerdictRow). y.regions < 65536) (sym g.0) g.1;
-        },
-      )
+      by none f g = subst (λ y. JudgedAs s offsets qualified m ms d (checked (as_machine d ss) none) y) (sym g.0)
+          (record {
+            states = ss;
+            count = n;
+            is = refl;
+            resolves = e;
+            accepted = f;
+            regions = refl;
+            few = g.1;
+          })
       by (some r) f g = g
+
+-- an accepted machine has as many regions as the definition gives it, a refused one none
+pub accepted-count : (s offsets qualified : List ℕ) (m : ℕ) (ms : List MachineDef) (d : MachineDef) (x : ResolvedMachine) (j : Judged) → JudgedAs s offsets qualified m ms d (accept x) j → AcceptedAs ms d x (result_unwrap_or j 0)
+unfolding JudgedAs
+accepted-count s offsets qualified m ms d x (Ok n) h = h
+accepted-count s offsets qualified m ms d x (Err w) h = absurd h
+
+pub refused-count : (s offsets qualified : List ℕ) (m : ℕ) (r : Refusal) (j : Judged) → RefusedFor s offsets qualified m r j → result_unwrap_or j 0 ≡ 0
+unfolding RefusedFor
+refused-count s offsets qualified m r (Ok n) h = absurd h
+refused-count s offsets qualified m r (Err w) h = refl
 
 module _ (s : List ℕ) (ns : List Name) (ms : List MachineDef) (offsets to : List ℕ) (r : Ready s ns ms offsets to) (bytes : Bytes s)
     (at : ℕ) (d : MachineDef) (q : ℕ) (m : MachineRead ns s at d q) (t reg qualified : List ℕ) (long : Long t reg qualified) where
@@ -109,12 +122,13 @@ module _ (s : List ℕ) (ns : List Name) (ms : List MachineDef) (offsets to : Li
 
   -- a walk that stopped
   module _ (l : List ℕ) (v : Resolved) (e : walk ≡ v) where
-    stop-as : (y : Refusal) (k : ℕ) (a b : NameRef) (xs ys : List Name) → why_of ns d.name v ≡ some y → 0 < k → k < 256 → called_of s offsets l a ≡ xs → called_of s offsets l b ≡ ys
-        → y ≡ record { kind = k; names = d.name ∷ (xs ++ ys) } → All Short y.names → JudgedAs s offsets l own.i ms d (judge ms d) (refused_by k a b)
-    stop-as y k a b xs ys w lo hi f g c h =
-        stopped-as s offsets l own.i ms d (refused_by k a b) y
+    stop-as : (y : Refusal) (u : Why) (k : ℕ) (a b : NameRef) (xs ys : List Name) → row_of u ≡ refused_by k a b → why_of ns d.name v ≡ some y → 0 < k → k < 256 → called_of s offsets l a ≡ xs → called_of s offsets l b ≡ ys
+        → y ≡ record { kind = k; names = d.name ∷ (xs ++ ys) } → All Short y.names → JudgedAs s offsets l own.i ms d (judge ms d) (Err u)
+    unfolding RefusedFor
+    stop-as y u k a b xs ys same w lo hi f g c h =
+        stopped-as s offsets l own.i ms d (Err u) y
         (walked-stops s ns ms offsets to r at d q m own.i own.small own.named y (ap (why_of ns d.name) e ∙ w))
-        (refused_as s ns offsets l r.spot (names-counted s ns r.names bytes) own.i k a b d.name xs ys y own.small own.named lo hi f g c h)
+        (subst (RefusedAs s offsets l own.i y) (sym same) (refused_as s ns offsets l r.spot (names-counted s ns r.names bytes) own.i k a b d.name xs ys y own.small own.named lo hi f g c h))
 
     within : (y : Refusal) → why_of ns d.name v ≡ some y → WithinNames ns v
     within y w = subst (WithinNames ns) e (walked-within s ns ms offsets to r at d q m own.i own.small own.named y (ap (why_of ns d.name) e ∙ w))
@@ -128,23 +142,23 @@ module _ (s : List ℕ) (ns : List Name) (ms : List MachineDef) (offsets to : Li
   name-as : (l : List ℕ) (i : ℕ) → i < length ns → called_of s offsets l (named i) ≡ name_at ns i ∷ []
   name-as l = called-name s ns offsets l r.spot (names-counted s ns r.names bytes)
 
-  cycle-as : (l : List ℕ) (n : ℕ) → walk ≡ wk.Cycle n → JudgedAs s offsets l own.i ms d (judge ms d) (refused_by 7 (named n) no_name)
+  cycle-as : (l : List ℕ) (n : ℕ) → walk ≡ wk.Cycle n → JudgedAs s offsets l own.i ms d (judge ms d) (Err (no.RefineCycle n))
   unfolding why_of WithinNames refine_cycle All
   cycle-as l n e =
       let w = within l (wk.Cycle n) e _ refl in
-      stop-as l (wk.Cycle n) e (refine_cycle d.name (name_at ns n)) 7 (named n) no_name (name_at ns n ∷ []) [] refl (omega arith) (omega arith) (name-as l n w) (called-no s offsets l) refl (own-short, (short-at n w, tt))
+      stop-as l (wk.Cycle n) e (refine_cycle d.name (name_at ns n)) (no.RefineCycle n) 7 (named n) no_name (name_at ns n ∷ []) [] refl refl (omega arith) (omega arith) (name-as l n w) (called-no s offsets l) refl (own-short, (short-at n w, tt))
 
-  unknown-as : (l : List ℕ) (i n : ℕ) → walk ≡ wk.Unknown i n → JudgedAs s offsets l own.i ms d (judge ms d) (refused_by 6 (named i) (named n))
+  unknown-as : (l : List ℕ) (i n : ℕ) → walk ≡ wk.Unknown i n → JudgedAs s offsets l own.i ms d (judge ms d) (Err (no.UnknownRefine i n))
   unfolding why_of WithinNames unknown_refine All
   unknown-as l i n e =
       let w = within l (wk.Unknown i n) e _ refl in
-      stop-as l (wk.Unknown i n) e (unknown_refine d.name (name_at ns i) (name_at ns n)) 6 (named i) (named n) (name_at ns i ∷ []) (name_at ns n ∷ []) refl (omega arith) (omega arith)
+      stop-as l (wk.Unknown i n) e (unknown_refine d.name (name_at ns i) (name_at ns n)) (no.UnknownRefine i n) 6 (named i) (named n) (name_at ns i ∷ []) (name_at ns n ∷ []) refl refl (omega arith) (omega arith)
       (name-as l i w.0) (name-as l n w.1) refl (own-short, (short-at i w.0, (short-at n w.1, tt)))
 
-  large-as : (l : List ℕ) → walk ≡ wk.Large → JudgedAs s offsets l own.i ms d (judge ms d) (refused_by 17 no_name no_name)
+  large-as : (l : List ℕ) → walk ≡ wk.Large → JudgedAs s offsets l own.i ms d (judge ms d) (Err no.TooLarge)
   unfolding why_of too_large All
   large-as l e =
-      stop-as l wk.Large e (too_large d.name) 17 no_name no_name [] [] refl (omega arith) (omega arith) (called-no s offsets l) (called-no s offsets l) refl (own-short, tt)
+      stop-as l wk.Large e (too_large d.name) no.TooLarge 17 no_name no_name [] [] refl refl (omega arith) (omega arith) (called-no s offsets l) (called-no s offsets l) refl (own-short, tt)
 
   -- a walk that went through, and the machine laid out
   laid_as : (z n a : ℕ) → walk ≡ wk.Went z n a → JudgedAs s offsets laid.qualified own.i ms d (judge ms d) (laid_j ns s laid.t laid.qualified laid.c.letters laid.c.regions m.to-outputs)
@@ -173,7 +187,7 @@ module _ (s : List ℕ) (ns : List Name) (ms : List MachineDef) (offsets to : Li
   read-judged =
       subst (λ (y : Number). JudgedAs s offsets (walked_b ns s offsets to (walk_at ns s offsets to at) (lay_at ns s offsets to at t reg qualified) before-it).qualified y.value ms d (judge ms d) (walked_j ns s offsets to (walk_at ns s offsets to at) (laid_at ns s offsets to at (lay_at ns s offsets to at t reg qualified)))) (sym number)
       (subst (λ (b : Board). JudgedAs s offsets (walked_b ns s offsets to (walk_at ns s offsets to at) b before-it).qualified own.i ms d (judge ms d) (walked_j ns s offsets to (walk_at ns s offsets to at) (laid_at ns s offsets to at b))) (sym lay-is)
-      (subst (λ (j : VerdictRow). JudgedAs s offsets (walked_b ns s offsets to (walk_at ns s offsets to at) laid before-it).qualified own.i ms d (judge ms d) (walked_j ns s offsets to (walk_at ns s offsets to at) j)) (sym (laid-is laid))
+      (subst (λ (j : Judged). JudgedAs s offsets (walked_b ns s offsets to (walk_at ns s offsets to at) laid before-it).qualified own.i ms d (judge ms d) (walked_j ns s offsets to (walk_at ns s offsets to at) j)) (sym (laid-is laid))
       (by-walk (walk_at ns s offsets to at) (sym walk_is))))
 
 pub judged : (s : List ℕ) (ns : List Name) (ms : List MachineDef) (offsets to : List ℕ) → Ready s ns ms offsets to → Bytes s → (at : ℕ) (d : MachineDef) (q : ℕ) → machine_in ns s at ≡ value d q → (t reg qualified : List ℕ) → Long t reg qualified

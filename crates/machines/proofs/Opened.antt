@@ -33,12 +33,13 @@ use Rattle.machine_rules.specs.Refusals.{unknown_owner}
 use Rattle.machine_rules.specs.Machines.{judge, machines_lowered, made_machines, refuse}
 use Rattle.machines.specs.Sections.{Share, node_names, shares_of}
 use Rattle.machines.specs.ReportEntries.{entry_bytes}
-use Rattle.machines.specs.VerdictAt.{board_at, judge_at, named, no_name, refused_by}
-use Rattle.machines.specs.VerdictMeaning.{JudgedAs}
+use Rattle.std.specs.Prelude.{Ok, Err}
+use Rattle.machines.specs.VerdictAt.{Judged, board_at, judge_at, named, no_name, refused_by}
+use Rattle.machines.specs.VerdictMeaning.{JudgedAs, RefusedFor}
 use Rattle.machines.specs.EmitMachineAt.{Long}
 use Rattle.machines.specs.WriteNodesAt.{sections_t}
 use Rattle.machines.specs.TableMeaning.{PackOf}
-use Rattle.machines.specs.ReportAt.{EntersAll, bytes_t, entry_t, letters_t, of_refused, refusal_t}
+use Rattle.machines.specs.ReportAt.{judged_bytes, EntersAll, bytes_t, entry_t, letters_t, of_refused, refusal_t}
 use Rattle.machines.specs.Verdicts.{SettledPack, Why, all_go, entry_at, judged as judged_so, unowned, verdicts, verdicts_of}
 use Rattle.machine_rules.specs.Call.{lower_package_machines, report_or_pack}
 use Rattle.machines.proofs.Reading.{machine-value, name-number, optional-some}
@@ -107,17 +108,22 @@ module _ (s : List ℕ) (k : Pack) (p : Package) (h : SectionsAt s k p) (bytes :
     unfolding entries
     one_entry x = ap (λ (l : List ℕ). x.kind ∷ l) (append-nil (enc x.names))
 
+    refused-bytes : (qualified : List ℕ) (m : ℕ) (x : Refusal) (j : Judged) → RefusedFor s offsets qualified m x j → judged_bytes s offsets qualified m j ≡ entries (x ∷ [])
+    unfolding RefusedFor judged_bytes
+    refused-bytes qualified m x (Ok n) h = absurd h
+    refused-bytes qualified m x (Err w) h = h.entry
+
     judged-entry : (i : ℕ) (d : MachineDef) (q : ℕ) (x : Refusal) → machine_in p.names s (get_or defs i 0) ≡ value d q → get_or regcounts i 0 ≡ 0 → judge p.machines d ≡ refuse x
         → (t reg qualified : List ℕ) → Long t reg qualified → entry_t p.names s offsets to defs regcounts i t reg qualified ≡ x.kind ∷ enc x.names
     unfolding entry_t letters_t refusal_t JudgedAs
     judged-entry i d q x e g f t reg qualified l =
         let j = subst (λ v. JudgedAs s offsets (board_at p.names s offsets to (get_or defs i 0) t reg qualified).qualified (number_in s (get_or defs i 0)).value p.machines d v (judge_at p.names s offsets to (get_or defs i 0) t reg qualified)) f
         (judged s p.names p.machines offsets to r bytes (get_or defs i 0) d q e t reg qualified l) in
-        rw (eq-eqb (get_or regcounts i 0) 0 g) (j.entry ∙ one_entry x)
+        rw (eq-eqb (get_or regcounts i 0) 0 g) (refused-bytes _ _ x _ j ∙ one_entry x)
 
     owner-entry : (i : ℕ) (d : MachineDef) (q : ℕ) (x : Refusal) (o : Name) → machine_in p.names s (get_or defs i 0) ≡ value d q → (get_or regcounts i 0 ≡ 0 → ⊥) → d.owner ≡ some o → x ≡ unknown_owner d.name o
         → (t reg qualified : List ℕ) → entry_t p.names s offsets to defs regcounts i t reg qualified ≡ x.kind ∷ enc x.names
-    unfolding entry_t letters_t refusal_t unknown_owner All
+    unfolding entry_t letters_t refusal_t judged_bytes unknown_owner All
     owner-entry i d q x o e g w f t reg qualified =
         let m = machine-value p.names s (get_or defs i 0) d q e in
         let a = name-number p.names s (get_or defs i 0) d.name m.to-owner m.name in

@@ -37,8 +37,9 @@ use Rattle.machine_rules.specs.Machines.{accept, judge, machines_lowered, made_m
 use Rattle.machines.specs.Sections.{node_names}
 use Rattle.machines.specs.RefusalsIn.{names_then, refusals, refused_in}
 use Rattle.machines.specs.ReportEntries.{entry_bytes}
-use Rattle.machines.specs.VerdictAt.{board_at, judge_at}
-use Rattle.machines.specs.VerdictMeaning.{JudgedAs}
+use Rattle.std.specs.Prelude.{Ok, Err}
+use Rattle.machines.specs.VerdictAt.{Judged, board_at, judge_at, row_of}
+use Rattle.machines.specs.VerdictMeaning.{JudgedAs, RefusedFor}
 use Rattle.machines.specs.EmitMachineAt.{Long}
 use Rattle.machine_rules.specs.Call.{lower_machines, lower_package_machines, report_or_pack}
 use Rattle.machines.proofs.Reading.{many-cut, many_more, machine-value, name-number, optional-some}
@@ -47,7 +48,7 @@ use Rattle.machines.proofs.Resolved.{Ready, ready}
 use Rattle.machines.proofs.RefusalNames.{Short}
 use Rattle.machines.proofs.EntryLaws.{entry-most}
 use Rattle.machines.proofs.Refused.{made-refusals}
-use Rattle.machines.proofs.MachineJudged.{judged, names-lettered}
+use Rattle.machines.proofs.MachineJudged.{accepted-count, judged, names-lettered}
 use Rattle.machines.proofs.PackCounts.{counted-many, pack-counts}
 use Rattle.machines.proofs.CallScratch.{scratch-empty, scratch-long}
 use Rattle.machines.proofs.LettersKept.{letters-kept}
@@ -75,12 +76,16 @@ module _ (s : List ℕ) (ns : List Name) (ms : List MachineDef) (offsets to : Li
     As v = JudgedAs s offsets (board_at ns s offsets to at t reg qualified).qualified (number_in s at).value ms d v (judge_at ns s offsets to at t reg qualified)
 
     judged-most : (x : Refusal) → As (refuse x) → length (entries (x ∷ [])) ≤ 458758
-    unfolding JudgedAs
-    judged-most x h = entry-small s offsets _ _ _ _ short (omega (arith, letters-kept ns s offsets to at t reg qualified)) h.entry
+    unfolding JudgedAs RefusedFor
+    judged-most x h = go (judge_at ns s offsets to at t reg qualified) h
+      where
+        go : (j : Judged) → RefusedFor s offsets (board_at ns s offsets to at t reg qualified).qualified (number_in s at).value x j → length (entries (x ∷ [])) ≤ 458758
+        go (Ok n) h = absurd h
+        go (Err w) h = entry-small s offsets _ _ (row_of w) _ short (omega (arith, letters-kept ns s offsets to at t reg qualified)) h.entry
 
     own_name : (m : ResolvedMachine) → As (accept m) → m.name ≡ d.name
-    unfolding JudgedAs as_machine
-    own_name m h = ap (λ (y : ResolvedMachine). y.name) h.1.is
+    unfolding as_machine
+    own_name m h = ap (λ (y : ResolvedMachine). y.name) (accepted-count s offsets _ _ ms d m _ h).is
 
     short-at : (i : ℕ) (n : Name) → i < length ns → name_at ns i ≡ n → Short n
     short-at i n l z = subst Short z (names-lettered s ns ms offsets to r bytes i l).1

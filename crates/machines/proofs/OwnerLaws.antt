@@ -10,13 +10,13 @@ use lib.Dec.{eqb}
 use borrow.Author.Tests.{eq-eqb, ne_eqb, lt-ltb, le-ltb}
 use Rattle.pack_rules.specs.Names.{Name}
 use Rattle.pack_rules.specs.Read.{equations_in}
-use Rattle.machines.specs.declared.verdicts.VerdictRow.{VerdictRow}
+use Rattle.std.specs.Result.{result_unwrap_or}
 use Rattle.wire.specs.declared.answer.Number.{Number}
 use Rattle.machines.specs.ResolvedIn.{end_of}
 use Rattle.machines.specs.CheckedReads.{number_in}
 use Rattle.machines.specs.Tables.{initial_in, states_end}
 use Rattle.machines.specs.AddedAt.{node_equations_in}
-use Rattle.machines.specs.VerdictAt.{judge_at}
+use Rattle.machines.specs.VerdictAt.{Judged, judge_at}
 use Rattle.machines.specs.EmitMachineAt.{Long}
 use Rattle.machines.specs.OwnersAt.{HasRegions, Nodes, fill_t, find_t, found_in, goes_to, joined, machine_end, node_end, node_name_t, nodes_of, nth, refused_t, settle_t, settled_t}
 use Rattle.machines.proofs.CheckedReadLaws.{on}
@@ -70,9 +70,9 @@ module _ (ns : List Name) (s : List ℕ) where
   node-name from i p m a b = ap (λ (y : Number). y.value) (b ∙ ap (number_in s) a)
 
   -- the regions of the machine where the loop stands
-  pub regions-here : (offsets to : List ℕ) (at p g : ℕ) (t reg qualified : List ℕ) (j : VerdictRow) → p ≡ at → j ≡ judge_at ns s offsets to p t reg qualified → HasRegions ns s offsets to at g → Long t reg qualified → j.regions ≡ g
+  pub regions-here : (offsets to : List ℕ) (at p g : ℕ) (t reg qualified : List ℕ) (j : Judged) (r : ℕ) → r ≡ result_unwrap_or j 0 → p ≡ at → j ≡ judge_at ns s offsets to p t reg qualified → HasRegions ns s offsets to at g → Long t reg qualified → r ≡ g
   unfolding HasRegions
-  regions-here offsets to at p g t reg qualified j a b h l = ap (λ (y : VerdictRow). y.regions) (b ∙ ap (λ y. judge_at ns s offsets to y t reg qualified) a) ∙ h t reg qualified l
+  regions-here offsets to at p g t reg qualified j r f a b h l = f ∙ ap (λ (y : Judged). result_unwrap_or y 0) (b ∙ ap (λ y. judge_at ns s offsets to y t reg qualified) a) ∙ h t reg qualified l
 
 -- a search for an entry: found, not here, not there
 module _ (t : List ℕ) (x : ℕ) where

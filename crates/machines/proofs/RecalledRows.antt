@@ -2,11 +2,12 @@
 use Prim.Native.Nat.{ℕ, zero, suc, ◌+◌, ◌-◌, ◌<◌, ◌≤◌}
 use native.Mathlib.Omega.{arith}
 use mathlib.Core.List.{List}
-use mathlib.Core.Bool.{Bool, true, false, cond, ◌&&◌, ◌||◌, and-eq-true_iff, false≢true}
+use mathlib.Core.Bool.{Bool, true, false, cond, ◌&&◌, ◌||◌, and-eq-true_iff}
 use mathlib.Core.Path.{◌≡◌, refl, sym, ap, subst, ◌∙◌}
 use lib.ListN.{get_or}
 use lib.Dec.{eqb}
 use borrow.Author.Tests.{eq-eqb, ne_eqb, eqb-true}
+use Rattle.std.specs.Prelude.{Option, Some, None, IfSome}
 use Rattle.pack_rules.specs.Names.{Name}
 use Rattle.pack_rules.specs.Read.{expr_in}
 use Rattle.machines.specs.declared.memo.Targets.{Targets}
@@ -19,7 +20,7 @@ use Rattle.machines.specs.ResolvedIn.{end_of, over_in}
 use Rattle.machines.specs.CheckedReads.{number_in, with}
 use Rattle.machines.specs.LayoutAt.{moves_at}
 use Rattle.machines.specs.UnknownTargets.{drawn_state, target_d, unknown_at, unknown_from, unknown_target_d, unknown_targets}
-use Rattle.machines.specs.ValidateAt.{AsRecalled, has_t, is_state_t, moves_checked, onward, recall_t, recalled, row_drawn, rows_drawn, targets_t, unknown}
+use Rattle.machines.specs.ValidateAt.{AsRecalled, has_t, is_state_t, moves_checked, onward, recall_t, recalled, row_drawn, rows_drawn, targets_t}
 use Rattle.machines.proofs.CheckedReadLaws.{no, yes}
 
 -- what is foreseen of one state, and of those after it
@@ -31,30 +32,22 @@ pub foretold-fine : (v : TargetMemo) (q p : ℕ) → (v.fine ≡ 0 → ⊥) → 
 unfolding recall_t
 foretold-fine v q p e = no v.fine 0 (ck.Target p q v.name) ck.Fine _ e refl
 
-pub onward-none : (v r : TargetMemo) → v.fine ≡ 0 → r ≡ unknown → r ≡ onward v
+pub onward-none : (v : TargetMemo) → v.fine ≡ 0 → None ≡ onward (Some v)
 unfolding onward
-onward-none v r e h = yes v.fine 0 unknown (recalled v.known (v.fine - 1) v.name) r e h
+onward-none v e = yes v.fine 0 None (Some (recalled (v.fine - 1) v.name)) _ e refl
 
-pub onward-some : (v : TargetMemo) → (v.fine ≡ 0 → ⊥) → recalled v.known (v.fine - 1) v.name ≡ onward v
+pub onward-some : (v : TargetMemo) → (v.fine ≡ 0 → ⊥) → Some (recalled (v.fine - 1) v.name) ≡ onward (Some v)
 unfolding onward
-onward-some v e = no v.fine 0 unknown (recalled v.known (v.fine - 1) v.name) _ e refl
+onward-some v e = no v.fine 0 None (Some (recalled (v.fine - 1) v.name)) _ e refl
 
-onward-known : (n x : ℕ) → recalled true n x ≡ onward (recalled true (suc n) x)
+onward-known : (n x : ℕ) → Some (recalled n x) ≡ onward (Some (recalled (suc n) x))
 onward-known n x =
     let m : n ≡ suc n - 1 = omega arith in
-    ap (λ (y : ℕ). recalled true y x) m ∙ onward-some (recalled true (suc n) x) (λ e. omega (arith, e))
-
-onward-unknown : (v : TargetMemo) → v.known ≡ false → (onward v).known ≡ false
-unfolding onward
-onward-unknown v e = go (eqb v.fine 0)
-  where
-    go : (b : Bool) → (cond b unknown (recalled v.known (v.fine - 1) v.name)).known ≡ false
-    go true = refl
-    go false = e
+    ap (λ (y : ℕ). Some (recalled y x)) m ∙ onward-some (recalled (suc n) x) (λ e. omega (arith, e))
 
 -- what is foreseen where it is known
 abbrev known_of : UnknownTarget → TargetMemo
-known_of r = recalled true r.fine r.name
+known_of r = recalled r.fine r.name
 
 -- what checking comes to, where transitions of the state at the word p of the region at the word q do so
 unfoldable aimed_checked : ℕ → ℕ → Targets → Checked
@@ -117,15 +110,12 @@ module _ (ns : List Name) (s t : List ℕ) where
       go false a x = refl
 
   -- where nothing is known, nothing is said
-  none-foreseen : (v : TargetMemo) → v.known ≡ false → (q n p : ℕ) → AsRecalled ns s t v q n p
-  unfolding AsRecalled
-  none-foreseen v e q zero p = tt
-  none-foreseen v e q (suc n) p = (λ x. absurd (false≢true (sym e ∙ x)), none-foreseen (onward v) (onward-unknown v e) q n (get_or t (p + 4) 0))
+  pub none-foreseen : (q n p : ℕ) → AsRecalled ns s t None q n p
+  unfolding AsRecalled onward
+  none-foreseen q zero p = tt
+  none-foreseen q (suc n) p = (tt, none-foreseen q n (get_or t (p + 4) 0))
 
-  pub unknown-foreseen : (v : TargetMemo) (q n p : ℕ) → v ≡ unknown → AsRecalled ns s t v q n p
-  unknown-foreseen v q n p e = none-foreseen v (ap (λ (x : TargetMemo). x.known) e) q n p
-
-  rows-foreseen : (q n f : ℕ) → ((x : ℕ) → has_t s t q x ≡ drawn_state ns s x n f) → (m p at : ℕ) → rows_drawn ns s t m p at ≡ true → AsRecalled ns s t (known_of (unknown_from ns s n f m at)) q m p
+  rows-foreseen : (q n f : ℕ) → ((x : ℕ) → has_t s t q x ≡ drawn_state ns s x n f) → (m p at : ℕ) → rows_drawn ns s t m p at ≡ true → AsRecalled ns s t (Some (known_of (unknown_from ns s n f m at))) q m p
   unfolding unknown_from unknown_at AsRecalled targets_t aimed_checked with
   rows-foreseen q n f h zero p at d = tt
   rows-foreseen q n f h (suc m) p at d =
@@ -135,28 +125,27 @@ module _ (ns : List Name) (s t : List ℕ) where
       (ap (λ (y : ℕ). moves_checked ns s t q p (number_in s y).value (number_in s y).next) a.1 ∙ moves-aimed q p n f h c.value c.next)
       (rows-foreseen q n f h m (get_or t (p + 4) 0) (over_in ns s at) a.2)
     where
-      go : (a : Targets) (r : UnknownTarget) → targets_t ns s t q p ≡ aimed_checked q p a → AsRecalled ns s t (known_of r) q m (get_or t (p + 4) 0)
-          → (true ≡ true → targets_t ns s t q p ≡ recall_t (known_of (unknown_at a r)) q p) × AsRecalled ns s t (onward (known_of (unknown_at a r))) q m (get_or t (p + 4) 0)
-      go aim.All r e w = (λ x. e ∙ foretold-fine (recalled true (suc r.fine) r.name) q p (λ z. omega (arith, z)), subst (λ (v : TargetMemo). AsRecalled ns s t v q m (get_or t (p + 4) 0)) (onward-known r.fine r.name) w)
-      go (aim.Stray y) r e w = (λ x. e ∙ foretold-stray (recalled true 0 y) q p refl, subst (λ (v : TargetMemo). AsRecalled ns s t v q m (get_or t (p + 4) 0)) (onward-none (recalled true 0 y) unknown refl refl) (none-foreseen unknown refl q m (get_or t (p + 4) 0)))
+      go : (a : Targets) (r : UnknownTarget) → targets_t ns s t q p ≡ aimed_checked q p a → AsRecalled ns s t (Some (known_of r)) q m (get_or t (p + 4) 0)
+          → (targets_t ns s t q p ≡ recall_t (known_of (unknown_at a r)) q p) × AsRecalled ns s t (onward (Some (known_of (unknown_at a r)))) q m (get_or t (p + 4) 0)
+      go aim.All r e w = (e ∙ foretold-fine (recalled (suc r.fine) r.name) q p (λ z. omega (arith, z)), subst (λ v. AsRecalled ns s t v q m (get_or t (p + 4) 0)) (onward-known r.fine r.name) w)
+      go (aim.Stray y) r e w = (e ∙ foretold-stray (recalled 0 y) q p refl, subst (λ v. AsRecalled ns s t v q m (get_or t (p + 4) 0)) (onward-none (recalled 0 y) refl) (none-foreseen q m (get_or t (p + 4) 0)))
 
-  pub all-foreseen : (q n p f x y : ℕ) (b : Bool) → n ≡ get_or t (q + 6) 0 → (0 < get_or t (q + 6) 0 → p ≡ q + 9) → unknown_target_d ns s n f ≡ unknown_targets x y → b ≡ rows_drawn ns s t n p f → AsRecalled ns s t (recalled b x y) q (get_or t (q + 6) 0) (q + 9)
+  pub all-foreseen : (q n p f x y : ℕ) → n ≡ get_or t (q + 6) 0 → (0 < get_or t (q + 6) 0 → p ≡ q + 9) → unknown_target_d ns s n f ≡ unknown_targets x y → true ≡ rows_drawn ns s t n p f → AsRecalled ns s t (Some (recalled x y)) q (get_or t (q + 6) 0) (q + 9)
   unfolding unknown_target_d has_t AsRecalled
-  all-foreseen q n p f x y false a g c d = none-foreseen (recalled false x y) refl q (get_or t (q + 6) 0) (q + 9)
-  all-foreseen q zero p f x y true a g c d = subst (λ (z : ℕ). AsRecalled ns s t (recalled true x y) q z (q + 9)) a tt
-  all-foreseen q (suc n) p f x y true a g c d =
+  all-foreseen q zero p f x y a g c d = subst (λ (z : ℕ). AsRecalled ns s t (Some (recalled x y)) q z (q + 9)) a tt
+  all-foreseen q (suc n) p f x y a g c d =
       let k : p ≡ q + 9 = g (omega (arith, a)) in
       let h : rows_drawn ns s t (suc n) (q + 9) f ≡ true = ap (λ (z : ℕ). rows_drawn ns s t (suc n) z f) (sym k) ∙ sym d in
       let w = rows-foreseen q (suc n) f (λ x. ap (λ (z : ℕ). is_state_t s t x z (q + 9)) (sym a) ∙ among-drawn x (suc n) (q + 9) f h) (suc n) (q + 9) f h in
-      subst (λ (z : ℕ). AsRecalled ns s t (recalled true x y) q z (q + 9)) a (subst (λ (v : TargetMemo). AsRecalled ns s t v q (suc n) (q + 9)) (ap known_of c) w)
+      subst (λ (z : ℕ). AsRecalled ns s t (Some (recalled x y)) q z (q + 9)) a (subst (λ (v : TargetMemo). AsRecalled ns s t (Some v) q (suc n) (q + 9)) (ap known_of c) w)
 
   -- rows one by one
-  pub foreseen-one : (v : TargetMemo) (q n p : ℕ) → 0 < n → AsRecalled ns s t v q n p → v.known ≡ true → targets_t ns s t q p ≡ recall_t v q p
+  pub foreseen-one : (v : Option TargetMemo) (q n p : ℕ) → 0 < n → AsRecalled ns s t v q n p → IfSome v (λ m. targets_t ns s t q p ≡ recall_t m q p)
   unfolding AsRecalled
   foreseen-one v q zero p l h = absurd (omega arith)
   foreseen-one v q (suc n) p l h = h.0
 
-  pub foreseen-went : (v w : TargetMemo) (q n p o : ℕ) → 0 < n → w ≡ onward v → o ≡ get_or t (p + 4) 0 → AsRecalled ns s t v q n p → AsRecalled ns s t w q (n - 1) o
+  pub foreseen-went : (v w : Option TargetMemo) (q n p o : ℕ) → 0 < n → w ≡ onward v → o ≡ get_or t (p + 4) 0 → AsRecalled ns s t v q n p → AsRecalled ns s t w q (n - 1) o
   unfolding AsRecalled
   foreseen-went v w q zero p o l e a h = absurd (omega arith)
   foreseen-went v w q (suc n) p o l e a h =
@@ -164,7 +153,7 @@ module _ (ns : List Name) (s t : List ℕ) where
       rw (m, a, e) h.1
 
   -- where there are none, it is the same from any word
-  pub foreseen-from : (v : TargetMemo) (q m n p o : ℕ) → n ≡ m → (0 < m → p ≡ o) → AsRecalled ns s t v q m o → AsRecalled ns s t v q n p
+  pub foreseen-from : (v : Option TargetMemo) (q m n p o : ℕ) → n ≡ m → (0 < m → p ≡ o) → AsRecalled ns s t v q m o → AsRecalled ns s t v q n p
   unfolding AsRecalled
   foreseen-from v q m zero p o a b h = tt
   foreseen-from v q m (suc n) p o a b h =

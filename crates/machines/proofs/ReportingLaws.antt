@@ -12,14 +12,16 @@ use Rattle.wire.specs.Bytes.{two}
 use Rattle.pack_rules.specs.Limits.{absent}
 use Rattle.pack_rules.specs.Names.{Name}
 use Rattle.wire.specs.Writer.{overwritten}
-use Rattle.machines.specs.declared.verdicts.NameRef.{NameRef}
+use Rattle.std.specs.Prelude.{Ok, Err}
+use Rattle.machines.specs.declared.verdicts.Refusal.{Refusal}
+use Rattle.machines.specs.declared.verdicts.Refusal.TheVariants as no
 use Rattle.machines.specs.declared.verdicts.VerdictRow.{VerdictRow}
 use Rattle.wire.specs.declared.answer.Number.{Number}
 use Rattle.machines.specs.CheckedReads.{number_in}
 use Rattle.machines.specs.ReportEntries.{entry_bytes}
-use Rattle.machines.specs.VerdictAt.{board_at, judge_at, named, no_name, refused_by}
+use Rattle.machines.specs.VerdictAt.{Judged, board_at, judge_at, row_of}
 use Rattle.machines.specs.EmitMachineAt.{Long}
-use Rattle.machines.specs.ReportAt.{Enters, EntersAll, RoomAt, RoomForAll, bytes_t, entry_t, letters_t, of_refused, refusal_t, refused_entry_t}
+use Rattle.machines.specs.ReportAt.{judged_bytes, Enters, EntersAll, RoomAt, RoomForAll, bytes_t, entry_t, letters_t, of_refused, refusal_t, refused_entry_t}
 use Rattle.machines.proofs.EntryLaws.{entry-most}
 use Rattle.machines.proofs.Overwriting.{over-more, over_none, over-then}
 
@@ -29,7 +31,7 @@ entry-fits s offsets qualified m k j a b e = let x = entry-most s offsets qualif
 
 module _ (ns : List Name) (s offsets to defs regcounts : List ℕ) (i : ℕ) (t reg qualified : List ℕ) where
   module _ (at g : ℕ) (a : at ≡ get_or defs i 0) (b : g ≡ get_or regcounts i 0) where
-    pub refusal-again : (j : VerdictRow) → g ≡ 0 → j ≡ judge_at ns s offsets to at t reg qualified → j ≡ refusal_t ns s offsets to defs regcounts i t reg qualified
+    pub refusal-again : (j : Judged) → g ≡ 0 → j ≡ judge_at ns s offsets to at t reg qualified → j ≡ refusal_t ns s offsets to defs regcounts i t reg qualified
     unfolding refusal_t
     refusal-again j e f = let h : get_or regcounts i 0 ≡ 0 = sym b ∙ e in rw (eq-eqb (get_or regcounts i 0) 0 h) (f ∙ ap (λ y. judge_at ns s offsets to y t reg qualified) a)
 
@@ -37,20 +39,29 @@ module _ (ns : List Name) (s offsets to defs regcounts : List ℕ) (i : ℕ) (t 
     unfolding letters_t
     letters-again l e f = let h : get_or regcounts i 0 ≡ 0 = sym b ∙ e in rw (eq-eqb (get_or regcounts i 0) 0 h) (f ∙ ap (λ y. (board_at ns s offsets to y t reg qualified).qualified) a)
 
-    pub refusal-owner : (m o : Number) (x y : NameRef) (j : VerdictRow) → (g ≡ 0 → ⊥) → m ≡ number_in s at → o ≡ number_in s m.next → x ≡ named o.value → y ≡ no_name → j ≡ refused_by 8 x y → j ≡ refusal_t ns s offsets to defs regcounts i t reg qualified
+    pub refusal-owner : (m o : Number) → (g ≡ 0 → ⊥) → m ≡ number_in s at → o ≡ number_in s m.next → Err (no.UnknownOwner o.value) ≡ refusal_t ns s offsets to defs regcounts i t reg qualified
     unfolding refusal_t
-    refusal-owner m o x y j e c d f h k =
+    refusal-owner m o e c d =
         let l : o ≡ number_in s (number_in s (get_or defs i 0)).next = d ∙ ap (λ (z : Number). number_in s z.next) (c ∙ ap (number_in s) a) in
-        rw (ne_eqb (get_or regcounts i 0) 0 (λ z. e (b ∙ z))) (k ∙ λ w. refused_by 8 ((f ∙ ap (λ (z : Number). named z.value) l) w) (h w))
+        rw (ne_eqb (get_or regcounts i 0) 0 (λ z. e (b ∙ z))) (λ w. Err (no.UnknownOwner (l w).value))
 
     pub letters-owner : (g ≡ 0 → ⊥) → qualified ≡ letters_t ns s offsets to defs regcounts i t reg qualified
     unfolding letters_t
     letters-owner e = rw (ne_eqb (get_or regcounts i 0) 0 (λ z. e (b ∙ z)))
 
-  pub entry_of : (at : ℕ) (m : Number) (j : VerdictRow) (l : List ℕ) → at ≡ get_or defs i 0 → m ≡ number_in s at → j ≡ refusal_t ns s offsets to defs regcounts i t reg qualified → l ≡ letters_t ns s offsets to defs regcounts i t reg qualified
-      → entry_bytes s offsets l m.value j ≡ entry_t ns s offsets to defs regcounts i t reg qualified
-  unfolding entry_t
-  entry_of at m j l a b c d = λ w. entry_bytes s offsets (d w) ((b ∙ ap (number_in s) a) w).value (c w)
+  -- its entry, of a refusal and of none
+  module _ (at : ℕ) (m : Number) (l : List ℕ) (a : at ≡ get_or defs i 0) (b : m ≡ number_in s at) (d : l ≡ letters_t ns s offsets to defs regcounts i t reg qualified) where
+    entry-as : (j : Judged) → j ≡ refusal_t ns s offsets to defs regcounts i t reg qualified → judged_bytes s offsets l m.value j ≡ entry_t ns s offsets to defs regcounts i t reg qualified
+    unfolding entry_t
+    entry-as j c = λ w. judged_bytes s offsets (d w) ((b ∙ ap (number_in s) a) w).value (c w)
+
+    pub entry_of : (w : Refusal) (j : Judged) (y : VerdictRow) → j ≡ Err w → j ≡ refusal_t ns s offsets to defs regcounts i t reg qualified → y ≡ row_of w → entry_bytes s offsets l m.value y ≡ entry_t ns s offsets to defs regcounts i t reg qualified
+    unfolding judged_bytes
+    entry_of w j y f c e = ap (entry_bytes s offsets l m.value) e ∙ entry-as (Err w) (sym f ∙ c)
+
+    pub none-of : (n : ℕ) (j : Judged) → j ≡ Ok n → j ≡ refusal_t ns s offsets to defs regcounts i t reg qualified → [] ≡ entry_t ns s offsets to defs regcounts i t reg qualified
+    unfolding judged_bytes
+    none-of n j f c = entry-as (Ok n) (sym f ∙ c)
 
   module _ (receivers : List ℕ) (e : ℕ) (a : e ≡ get_or receivers i 0) where
     pub refused-entry : e ≡ 65535 → entry_t ns s offsets to defs regcounts i t reg qualified ≡ refused_entry_t ns s offsets to defs regcounts receivers i t reg qualified

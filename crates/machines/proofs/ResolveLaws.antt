@@ -2,11 +2,10 @@
 use Prim.Native.Nat.{ℕ, zero, suc, ◌+◌, ◌-◌, ◌<◌, ◌≤◌, max}
 use native.Mathlib.Omega.{arith}
 use mathlib.Core.List.{List, [], ◌∷◌}
-use mathlib.Core.Bool.{Bool, true, false, ◌||◌}
+use mathlib.Core.Bool.{Bool, true, false}
 use mathlib.Core.Logic.{⊎_elim}
 use mathlib.Core.Path.{◌≡◌, refl, sym, ap, ◌∙◌}
 use lib.ListN.{get_or}
-use lib.Dec.{eqb}
 use types.Run.{OneOf}
 use denote.Enum.Declared.{tag_of}
 use borrow.Author.Tests.{eq-eqb, le-leb, le-ltb, lt-leb, lt-ltb, ne_eqb}
@@ -23,18 +22,6 @@ use Rattle.machines.specs.Tables.{len_of}
 use Rattle.machines.specs.RefineStack.{on_of, pushed_of, start_of}
 use Rattle.machines.specs.ResolveAt.{enter_w, go_on, head_t, len_at, machine_w, qualify_of, refine_w, region_w, rounds, state_w, target_t, walk}
 use Rattle.machines.proofs.CheckedReadLaws.{no, on, yes}
-
--- the path
-pub same-yes : (m a : ℕ) (b : Bool) → m ≡ a → true ≡ (eqb m a || b)
-same-yes m a b e = rw (eq-eqb m a e)
-
-pub same-no : (m a : ℕ) (b : Bool) → (m ≡ a → ⊥) → b ≡ (eqb m a || b)
-same-no m a b e = rw (ne_eqb m a e)
-
-pub on-is : (p : RefineStack) (m : ℕ) (h g f e d c b a : Bool) → h ≡ (eqb m p.h || false) → g ≡ (eqb m p.g || h) → f ≡ (eqb m p.f || g) → e ≡ (eqb m p.e || f) → d ≡ (eqb m p.d || e) → c ≡ (eqb m p.c || d) → b ≡ (eqb m p.b || c) → a ≡ (eqb m p.a || b) → a ≡ on_of p m
-unfolding on_of
-on-is p m h g f e d c b a x1 x2 x3 x4 x5 x6 x7 x8 =
-    x8 ∙ ap (◌||◌ (eqb m p.a)) (x7 ∙ ap (◌||◌ (eqb m p.b)) (x6 ∙ ap (◌||◌ (eqb m p.c)) (x5 ∙ ap (◌||◌ (eqb m p.d)) (x4 ∙ ap (◌||◌ (eqb m p.e)) (x3 ∙ ap (◌||◌ (eqb m p.f)) (x2 ∙ ap (◌||◌ (eqb m p.g)) x1))))))
 
 -- lengths
 pub len-at-is : (s offsets : List ℕ) (at x : ℕ) (i : Number) → i ≡ number_in s at → x ≡ len_of s offsets i.value → x ≡ len_at s offsets at

@@ -1,13 +1,18 @@
 -- Steps that a walk over bytes and the resolving of a tree make together.
-use Prim.Native.Nat.{ℕ, ◌+◌, ◌<◌, zero, suc, max}
+use Prim.Native.Nat.{ℕ, ◌+◌, ◌<◌, ◌≤◌, zero, suc, max}
 use native.Mathlib.Omega.{arith}
 use mathlib.Core.List.{List, [], ◌∷◌, ◌++◌}
-use mathlib.Core.Bool.{Bool, true, false, cond, ◌&&◌, ◌||◌, and-true, and_assoc}
+use mathlib.Core.Bool.{Bool, true, false, cond, ◌&&◌, ◌||◌, and-true, and_assoc, true≢false}
 use mathlib.Core.Option.{Option, none, some}
 use mathlib.Core.Path.{◌≡◌, refl, sym, ap, ◌∙◌}
-use lib.ListN.{length, length-append}
+use lib.ListN.{length, get_or, take, length-append}
+use lib.Seq.{length-take-le, take-length}
+use Rattle.std.specs.List.{list_any}
+use Rattle.std.proofs.lemmas.List.{get_or-replicate, get_or-take}
+use Rattle.std.proofs.lemmas.List.Folds.{list_any_more}
+use Rattle.std.proofs.Math.Bool.{or-false}
 use lib.Dec.{ltb, leb, eqb}
-use borrow.Author.Tests.{ne_eqb}
+use borrow.Author.Tests.{eq-eqb, eqb-true, ne_eqb}
 use Rattle.wire.specs.Answer.{counted, many, u16, value}
 use Rattle.wire.proofs.Answers.{bind-value, map-value}
 use Rattle.pack_rules.specs.Limits.{absent, max_name, max_states}
@@ -84,54 +89,58 @@ arrive_same {A} ns top refine sh q c k v j h = go (ltb c max_states)
     go true = h
     go false = stops refl (stays ns top wk.Large j (too_large top) (large-why ns top))
 
--- the path: the last places are free
-pub data Free : ℕ → List ℕ → Type 0 where
-  f_none : {xs : List ℕ} → Free zero xs
-  f_more : {l x : ℕ} {xs : List ℕ} → x ≡ absent → Free l xs → Free (suc l) (x ∷ xs)
-
-free_snoc : {l : ℕ} {xs : List ℕ} (m : ℕ) → Free l xs → Free l (xs ++ (m ∷ []))
-free_snoc m f_none = f_none
-free_snoc m (f_more e f) = f_more e (free_snoc m f)
-
-free-less : {l : ℕ} {xs : List ℕ} → Free (suc l) xs → Free l xs
-free-less (f_more {l = zero} e f) = f_none
-free-less (f_more {l = suc l} e f) = f_more e (free-less f)
-
-free-next : {l x : ℕ} {xs : List ℕ} → Free (suc l) (x ∷ xs) → (x ≡ absent) × Free l xs
-free-next (f_more e f) = (e, f)
-
-abbrev backward : RefineStack → List ℕ
-backward p = p.h ∷ p.g ∷ p.f ∷ p.e ∷ p.d ∷ p.c ∷ p.b ∷ p.a ∷ []
-
--- the code's path has the machines of the definition's, and room for l more
+-- the code's path has the machines of the definition's, and room for l more: its last places are free
 pub record Knows (ns : List Name) (l : ℕ) (path : List Name) (p : RefineStack) : Type 0 where
   pub same : (i : ℕ) → i < length ns → (i ≡ absent → ⊥) → on_of p i ≡ member (name_at ns i) path
-  pub free : Free l (backward p)
+  pub long : length p.names ≡ 8
+  pub room : l ≤ 7
+  pub free : (k : ℕ) → 7 ≤ k + l → k < 7 → get_or p.names (suc k) 0 ≡ absent
 
 pub less-known : (ns : List Name) (l : ℕ) (path : List Name) (p : RefineStack) → Knows ns (suc l) path p → Knows ns l path p
-less-known ns l path p k = record { same = k.same; free = free-less k.free }
+less-known ns l path p k = record { same = k.same; long = k.long; room = omega (arith, k.room); free = λ j a b. k.free j (omega (arith, a)) b }
 
-shifted : (p : RefineStack) (m i : ℕ) → (i ≡ absent → ⊥) → p.h ≡ absent → on_of (pushed_of p m) i ≡ (eqb i m || on_of p i)
+eqb-swap : (a b : ℕ) → eqb a b ≡ eqb b a
+eqb-swap a b = go (eqb a b) refl
+  where
+    go : (x : Bool) → eqb a b ≡ x → x ≡ eqb b a
+    go true e = sym (eq-eqb b a (sym (eqb-true a b e)))
+    go false e = sym (ne_eqb b a (λ h. absurd (true≢false (sym (eq-eqb a b (sym h)) ∙ e))))
+
+shifted : (p : RefineStack) (m i : ℕ) → (i ≡ absent → ⊥) → length p.names ≡ 8 → get_or p.names 7 0 ≡ absent → on_of (pushed_of p m) i ≡ (eqb i m || on_of p i)
 unfolding on_of pushed_of
-shifted p m i n e = rw (ne_eqb i p.h (λ x. n (x ∙ e)))
+shifted p m i n l e = λ j. eqb-swap m i j || kept j
+  where
+    kept : list_any (λ x. eqb x i) (take 7 p.names) ≡ list_any (λ x. eqb x i) p.names
+    kept =
+        sym (or-false (list_any (λ x. eqb x i) (take 7 p.names)))
+        ∙ ap (λ b. list_any (λ x. eqb x i) (take 7 p.names) || b) (sym (ap (λ x. eqb x i) e ∙ ne_eqb absent i (λ h. n (sym h))))
+        ∙ sym (list_any_more (λ x. eqb x i) p.names 7 0 (omega (arith, l)))
+        ∙ ap (list_any (λ x. eqb x i)) (ap (λ k. take k p.names) (sym l) ∙ take-length p.names)
 
 pub push : (ns : List Name) (l : ℕ) (path : List Name) (p : RefineStack) (m : ℕ) (d : Name) → Fresh [] ns → Knows ns (suc l) path p → m < length ns → d ≡ name_at ns m → Knows ns l (d ∷ path) (pushed_of p m)
 unfolding pushed_of member
 push ns l path p m d fresh k small e =
-    let f = free-next k.free in
     record {
       same = λ i h n.
-          shifted p m i n f.0 ∙ ap (λ y. eqb i m || y) (k.same i h n)
+          shifted p m i n k.long (k.free 6 (omega arith) (omega arith)) ∙ ap (λ y. eqb i m || y) (k.same i h n)
           ∙ ap (λ y. y || member (name_at ns i) path) (sym (alone ns fresh m i small h) ∙ ap (eq_name (name_at ns i)) (sym e));
-      free = free_snoc m f.1;
+      long = ap suc (length-take-le 7 p.names (omega (arith, k.long)));
+      room = omega (arith, k.room);
+      free = free;
     }
+  where
+    free : (j : ℕ) → 7 ≤ j + l → j < 7 → get_or (take 7 p.names) j 0 ≡ absent
+    free zero a b = absurd (omega (arith, k.room))
+    free (suc j) a b = get_or-take 7 p.names (suc j) 0 b ∙ k.free j (omega arith) (omega arith)
 
 pub start-known : (ns : List Name) (n : Name) (x : ℕ) → Fresh [] ns → x < length ns → n ≡ name_at ns x → Knows ns 7 (n ∷ []) (start_of x)
 unfolding start_of on_of member
 start-known ns n x fresh small e =
     record {
-      same = λ i h k. rw (ne_eqb i absent k) (ap (λ y. y || false) (sym (alone ns fresh x i small h) ∙ ap (eq_name (name_at ns i)) (sym e)));
-      free = f_more refl (f_more refl (f_more refl (f_more refl (f_more refl (f_more refl (f_more refl f_none))))));
+      same = λ i h k. rw (ne_eqb absent i (λ z. k (sym z))) (ap (λ y. y || false) (eqb-swap x i ∙ sym (alone ns fresh x i small h) ∙ ap (eq_name (name_at ns i)) (sym e)));
+      long = refl;
+      room = omega arith;
+      free = λ j a b. get_or-replicate 7 j absent 0 b;
     }
 
 pub machine-named : (ms : List MachineDef) (n : Name) (d : MachineDef) → machine_of ms n ≡ some d → d.name ≡ n

@@ -12,14 +12,14 @@ use Rattle.pack_rules.specs.Read.{machine_in, node_in}
 use Rattle.pack.specs.Verdict.{SectionsAt}
 use Rattle.pack.specs.declared.record.Pack.{Pack}
 use Rattle.wire.specs.declared.answer.Number.{Number}
-use Rattle.machines.specs.declared.verdicts.VerdictRow.{VerdictRow}
+use Rattle.std.specs.Result.{result_unwrap_or}
 use Rattle.machines.specs.CheckedReads.{num, number_in}
 use Rattle.machines.specs.Tables.{names_placed}
 use Rattle.machine_rules.specs.Resolve.{as_machine}
 use Rattle.machine_rules.specs.Lower.{size_s}
 use Rattle.machine_rules.specs.Machines as definition
 use Rattle.machine_rules.specs.Machines.{accept, judge, refuse}
-use Rattle.machines.specs.VerdictAt.{judge_at}
+use Rattle.machines.specs.VerdictAt.{Judged, judge_at}
 use Rattle.machines.specs.VerdictMeaning.{JudgedAs}
 use Rattle.machines.specs.AddedAt.{small_of}
 use Rattle.machines.specs.EmitMachineAt.{Long}
@@ -30,16 +30,16 @@ use Rattle.machines.proofs.CheckedReadLaws.{number-num}
 use Rattle.machines.proofs.NamesPlaced.{names-few, section-read}
 use Rattle.machines.proofs.Resolved.{Ready, ready}
 use Rattle.machines.proofs.AddedLaws.{small_is}
-use Rattle.machines.proofs.MachineJudged.{judged}
+use Rattle.machines.proofs.MachineJudged.{accepted-count, judged, refused-count}
 use Rattle.machines.proofs.TablesFilled.{machine-drawn}
 use Rattle.machines.proofs.PackCounts.{counted-many, pack-counts}
 use Rattle.machines.proofs.PackSettled.{pack-settled}
 
 -- what judging came to says how many regions there are, and nothing else does
-told_of : (s offsets qualified : List ℕ) (m : ℕ) (ms : List MachineDef) (d : MachineDef) (v : definition.MachineVerdict) (j : VerdictRow) → JudgedAs s offsets qualified m ms d v j → VerdictOf ms d v j.regions
+told_of : (s offsets qualified : List ℕ) (m : ℕ) (ms : List MachineDef) (d : MachineDef) (v : definition.MachineVerdict) (j : Judged) → JudgedAs s offsets qualified m ms d v j → VerdictOf ms d v (result_unwrap_or j 0)
 unfolding JudgedAs VerdictOf
-told_of s offsets qualified m ms d (refuse r) j h = h.regions
-told_of s offsets qualified m ms d (accept x) j h = h.1
+told_of s offsets qualified m ms d (refuse r) j h = refused-count s offsets qualified m r j h
+told_of s offsets qualified m ms d (accept x) j h = accepted-count s offsets qualified m ms d x j h
 
 one-count : (ms : List MachineDef) (d : MachineDef) (v : definition.MachineVerdict) (g h : ℕ) → VerdictOf ms d v g → VerdictOf ms d v h → g ≡ h
 unfolding VerdictOf as_machine
@@ -80,9 +80,9 @@ module _ (s : List ℕ) (k : Pack) (p : Package) (h : SectionsAt s k p) (bytes :
     module _ (t reg qualified : List ℕ) (long : Long t reg qualified) where
       -- the regions of each machine, as tables t, reg and lets give them
       abbrev regions_at : ℕ → ℕ
-      regions_at i = (judge_at p.names s offsets to (nth (machine_end p.names s) (k.machines + 2) i) t reg qualified).regions
+      regions_at i = result_unwrap_or (judge_at p.names s offsets to (nth (machine_end p.names s) (k.machines + 2) i) t reg qualified) 0
 
-      judged-told : (at : ℕ) (d : MachineDef) (q : ℕ) → machine_in p.names s at ≡ value d q → (t' reg' qualified' : List ℕ) → Long t' reg' qualified' → VerdictAs p.machines d (judge_at p.names s offsets to at t' reg' qualified').regions
+      judged-told : (at : ℕ) (d : MachineDef) (q : ℕ) → machine_in p.names s at ≡ value d q → (t' reg' qualified' : List ℕ) → Long t' reg' qualified' → VerdictAs p.machines d (result_unwrap_or (judge_at p.names s offsets to at t' reg' qualified') 0)
       unfolding VerdictAs
       judged-told at d q r t' reg' qualified' l = told_of s offsets _ _ p.machines d (judge p.machines d) _ (judged s p.names p.machines offsets to tables-ready bytes at d q r t' reg' qualified' l)
 

@@ -1,17 +1,18 @@
 -- Laws of the values of outputs as the code writes them.
 use Prim.Native.Nat.{ℕ, zero, suc, ◌+◌, ◌-◌, ◌<◌, ◌≤◌}
 use native.Mathlib.Omega.{arith}
-use mathlib.Core.List.{List}
-use mathlib.Core.Bool.{Bool, true, false, cond, ◌&&◌}
+use mathlib.Core.List.{List, [], ◌∷◌}
+use mathlib.Core.Bool.{Bool, true, false, cond, ◌&&◌, not}
 use mathlib.Core.Path.{◌≡◌, refl, sym, ap, ◌∙◌}
 use lib.ListN.{get_or}
 use lib.Dec.{eqb}
-use borrow.Author.Tests.{eq-eqb, ne_eqb}
 use Rattle.wire.specs.Bytes.{two}
 use Rattle.wire.specs.Writer.{State, puts}
+use Rattle.std.specs.Option.{is_none, is_some}
+use Rattle.std.specs.Prelude.{Option as Maybe, Some, None}
 use Rattle.pack_rules.specs.Names.{Name}
 use Rattle.pack_rules.specs.Read.{equation_in, expr_in, port_in}
-use Rattle.pack_rules.specs.Write.{Item}
+use Rattle.pack_rules.specs.Write.{Item, raw}
 use Rattle.pack.specs.Intern.{put_item, render}
 use Rattle.pack.proofs.Interns.{render-append}
 use Rattle.wire.specs.declared.answer.Number.{Number}
@@ -20,59 +21,63 @@ use Rattle.machines.specs.CheckedReads.{number_in}
 use Rattle.machines.specs.Layout.{slice_of}
 use Rattle.machines.specs.CoverAt.{uncovered_t}
 use Rattle.machines.specs.EmitAt.{last_or, test_t}
-use Rattle.machines.specs.ValueAt.{entered_t, giving_from, in_state_t, output_t, outputs_t, port_outputs_t, side_bytes, side_from, side_t, value_t, values_t}
+use Rattle.machines.specs.ValueAt.{into, entered_t, giving_from, in_state_t, output_t, outputs_t, port_outputs_t, side_bytes, side_from, side_of, side_t, value_t, values_t}
+use Rattle.machines.proofs.CoverLaws.{none-told}
 use Rattle.machines.proofs.CheckedReadLaws.{on}
 
 module _ (ns : List Name) (s : List ℕ) (out : ℕ) where
-  side-step : (n p : ℕ) (k l : Number) (b : Bool) → k ≡ number_in s p → l ≡ number_in s k.next → b ≡ (eqb k.value 1 && eqb l.value out) → cond b l.next (side_from ns s out n (end_of (equation_in ns s p))) ≡ side_from ns s out (suc n) p
+  side-step : (n p : ℕ) (k l : Number) (b : Bool) → k ≡ number_in s p → l ≡ number_in s k.next → b ≡ (eqb k.value 1 && eqb l.value out) → cond b (Some l.next) (side_from ns s out n (end_of (equation_in ns s p))) ≡ side_from ns s out (suc n) p
   unfolding side_from
   side-step n p k l b e f g =
-      on k _ _ _ e (on l _ _ _ f (ap (λ (x : Bool). cond x l.next (side_from ns s out n (end_of (equation_in ns s p)))) g))
+      on k _ _ _ e (on l _ _ _ f (ap (λ (x : Bool). cond x (Some l.next) (side_from ns s out n (end_of (equation_in ns s p)))) g))
 
   -- the loop over equations: one that does not give the output, one that does, and the end
-  pub side-went : (n p r z : ℕ) (k l : Number) (b : Bool) → 0 < n → k ≡ number_in s p → l ≡ number_in s k.next → b ≡ (eqb k.value 1 && eqb l.value out) → b ≡ false → r ≡ end_of (equation_in ns s p) → side_from ns s out n p ≡ z → side_from ns s out (n - 1) r ≡ z
+  pub side-went : (n p r : ℕ) (z : Maybe ℕ) (k l : Number) (b : Bool) → 0 < n → k ≡ number_in s p → l ≡ number_in s k.next → b ≡ (eqb k.value 1 && eqb l.value out) → b ≡ false → r ≡ end_of (equation_in ns s p) → side_from ns s out n p ≡ z → side_from ns s out (n - 1) r ≡ z
   side-went zero p r z k l b h e f g a c d = absurd (omega arith)
   side-went (suc n) p r z k l b h e f g a c d =
       let i : suc n - 1 ≡ n = omega arith in
-      (λ j. side_from ns s out (i j) (c j)) ∙ ap (λ (x : Bool). cond x l.next (side_from ns s out n (end_of (equation_in ns s p)))) (sym a) ∙ side-step n p k l b e f g ∙ d
+      (λ j. side_from ns s out (i j) (c j)) ∙ ap (λ (x : Bool). cond x (Some l.next) (side_from ns s out n (end_of (equation_in ns s p)))) (sym a) ∙ side-step n p k l b e f g ∙ d
 
-  pub side-found : (n p z : ℕ) (k l : Number) (b : Bool) → 0 < n → k ≡ number_in s p → l ≡ number_in s k.next → b ≡ (eqb k.value 1 && eqb l.value out) → b ≡ true → side_from ns s out n p ≡ z → l.next ≡ z
+  pub side-found : (n p : ℕ) (z : Maybe ℕ) (k l : Number) (b : Bool) → 0 < n → k ≡ number_in s p → l ≡ number_in s k.next → b ≡ (eqb k.value 1 && eqb l.value out) → b ≡ true → side_from ns s out n p ≡ z → Some l.next ≡ z
   side-found zero p z k l b h e f g a d = absurd (omega arith)
   side-found (suc n) p z k l b h e f g a d =
-      ap (λ (x : Bool). cond x l.next (side_from ns s out n (end_of (equation_in ns s p)))) (sym a) ∙ side-step n p k l b e f g ∙ d
+      ap (λ (x : Bool). cond x (Some l.next) (side_from ns s out n (end_of (equation_in ns s p)))) (sym a) ∙ side-step n p k l b e f g ∙ d
 
-  pub side-done : (n p z : ℕ) → n ≤ 0 → side_from ns s out n p ≡ z → 0 ≡ z
+  pub side-done : (n p : ℕ) (z : Maybe ℕ) → n ≤ 0 → side_from ns s out n p ≡ z → None ≡ z
   unfolding side_from
   side-done zero p z l d = d
   side-done (suc n) p z l d = absurd (omega arith)
 
-  pub side-is : (at r : ℕ) (i c : Number) → i ≡ number_in s at → c ≡ number_in s i.next → r ≡ side_from ns s out c.value c.next → r ≡ side_t ns s out at
+  pub side-is : (at : ℕ) (r : Maybe ℕ) (i c : Number) → i ≡ number_in s at → c ≡ number_in s i.next → r ≡ side_from ns s out c.value c.next → r ≡ side_t ns s out at
   unfolding side_t
   side-is at r i c e f g = on i _ _ _ e (on c _ _ _ f g)
 
   -- the bytes that are copied
-  pub side-copied : (b : List ℕ) (p at a e : ℕ) (z : State) → at ≡ p → a ≡ side_t ns s out at → e ≡ end_of (expr_in ns s a) → b ≡ slice_of s a (e - a) → puts b z ≡ puts (side_bytes ns s out p) z
-  unfolding side_bytes
-  side-copied b p at a e z f g h k =
-      let i = g ∙ ap (side_t ns s out) f in
-      ap (λ (x : List ℕ). puts x z) (k ∙ ap (λ (y : ℕ). slice_of s a (y - a)) h ∙ ap (λ (y : ℕ). slice_of s y (end_of (expr_in ns s y) - y)) i)
+  pub side-copied : (b : List ℕ) (p at a e : ℕ) (g : Maybe ℕ) (z : State) → at ≡ p → g ≡ side_t ns s out at → g ≡ Some a → e ≡ end_of (expr_in ns s a) → b ≡ slice_of s a (e - a) → puts b z ≡ puts (side_bytes ns s out p) z
+  unfolding side_bytes side_of
+  side-copied b p at a e g z f d i h k =
+      ap (λ (x : List ℕ). puts x z) (k ∙ ap (λ (y : ℕ). slice_of s a (y - a)) h ∙ ap (side_of ns s out) (sym i ∙ d ∙ ap (side_t ns s out) f))
+
+  pub side-none : (p at : ℕ) (g : Maybe ℕ) (z : State) → at ≡ p → g ≡ side_t ns s out at → g ≡ None → z ≡ puts (side_bytes ns s out p) z
+  unfolding side_bytes side_of puts
+  side-none p at g z f d i = ap (λ (x : Maybe ℕ). puts (side_of ns s out x) z) (sym i ∙ d ∙ ap (side_t ns s out) f)
 
 -- the loop over a state's regions: one that does not give the output, one that does, and the end
-module _ (t : List ℕ) (f : ℕ → ℕ) where
-  pub giving-went : (n g m r z : ℕ) → 0 < n → m ≡ f g → (m ≡ 0 → ⊥) → r ≡ get_or t (g + 4) 0 → giving_from t f n g ≡ z → giving_from t f (n - 1) r ≡ z
+module _ (t : List ℕ) (f : ℕ → Maybe ℕ) where
+  pub giving-went : (n g : ℕ) (m : Maybe ℕ) (b : Bool) (r : ℕ) (z : Maybe ℕ) → 0 < n → m ≡ f g → is_some m ≡ not b → b ≡ false → r ≡ get_or t (g + 4) 0 → giving_from t f n g ≡ z → giving_from t f (n - 1) r ≡ z
   unfolding giving_from
-  giving-went zero g m r z l e h a d = absurd (omega arith)
-  giving-went (suc n) g m r z l e h a d =
+  giving-went zero g m b r z l e c h a d = absurd (omega arith)
+  giving-went (suc n) g m b r z l e c h a d =
       let i : suc n - 1 ≡ n = omega arith in
-      (λ j. giving_from t f (i j) (a j)) ∙ sym (ap (λ (x : Bool). cond x g (giving_from t f n (get_or t (g + 4) 0))) (ne_eqb (f g) 0 (λ y. h (e ∙ y)))) ∙ d
+      (λ j. giving_from t f (i j) (a j)) ∙ sym (ap (λ (x : Bool). cond x (Some g) (giving_from t f n (get_or t (g + 4) 0))) (ap is_none (sym e) ∙ none-told m _ _ c h)) ∙ d
 
-  pub giving-found : (n g m z : ℕ) → 0 < n → m ≡ f g → m ≡ 0 → giving_from t f n g ≡ z → g ≡ z
+  pub giving-found : (n g : ℕ) (m : Maybe ℕ) (b : Bool) (z : Maybe ℕ) → 0 < n → m ≡ f g → is_some m ≡ not b → b ≡ true → giving_from t f n g ≡ z → Some g ≡ z
   unfolding giving_from
-  giving-found zero g m z l e h d = absurd (omega arith)
-  giving-found (suc n) g m z l e h d =
-      sym (ap (λ (x : Bool). cond x g (giving_from t f n (get_or t (g + 4) 0))) (eq-eqb (f g) 0 (sym e ∙ h))) ∙ d
+  giving-found zero g m b z l e c h d = absurd (omega arith)
+  giving-found (suc n) g m b z l e c h d =
+      sym (ap (λ (x : Bool). cond x (Some g) (giving_from t f n (get_or t (g + 4) 0))) (ap is_none (sym e) ∙ none-told m _ _ c h)) ∙ d
 
-  pub giving-done : (n g z : ℕ) → n ≤ 0 → giving_from t f n g ≡ z → 0 ≡ z
+  pub giving-done : (n g : ℕ) (z : Maybe ℕ) → n ≤ 0 → giving_from t f n g ≡ z → None ≡ z
   unfolding giving_from
   giving-done zero g z l d = d
   giving-done (suc n) g z l d = absurd (omega arith)
@@ -119,13 +124,13 @@ module _ (old t qualified : List ℕ) where
 module _ (old sb t qualified : List ℕ) (ns : List Name) where
   module _ (out : ℕ) where
     -- in a state: its own right side, or the value of the region that is entered
-    pub in-own : (v : ℕ → List Item) (f : ℕ → ℕ) (p g : ℕ) (x s : State) → g ≡ entered_t t f p → g ≡ 0 → x ≡ puts (side_bytes ns sb out (get_or t p 0)) s → x ≡ render old (in_state_t sb t qualified ns out v f p) s
+    pub in-own : (v : ℕ → List Item) (f : ℕ → Maybe ℕ) (p : ℕ) (g : Maybe ℕ) (x s : State) → g ≡ entered_t t f p → g ≡ None → x ≡ puts (side_bytes ns sb out (get_or t p 0)) s → x ≡ render old (in_state_t sb t qualified ns out v f p) s
     unfolding in_state_t render put_item
-    in-own v f p g x s e h d = rw (eq-eqb (entered_t t f p) 0 (sym e ∙ h)) d
+    in-own v f p g x s e h d = d ∙ ap (λ y. render old (into (raw (side_bytes ns sb out (get_or t p 0)) ∷ []) v y) s) (sym h ∙ e)
 
-    pub in-entered : (v : ℕ → List Item) (f : ℕ → ℕ) (p g : ℕ) (x s : State) → g ≡ entered_t t f p → (g ≡ 0 → ⊥) → x ≡ render old (v g) s → x ≡ render old (in_state_t sb t qualified ns out v f p) s
+    pub in-entered : (v : ℕ → List Item) (f : ℕ → Maybe ℕ) (p q : ℕ) (g : Maybe ℕ) (x s : State) → g ≡ entered_t t f p → g ≡ Some q → x ≡ render old (v q) s → x ≡ render old (in_state_t sb t qualified ns out v f p) s
     unfolding in_state_t
-    in-entered v f p g x s e h d = rw (ne_eqb (entered_t t f p) 0 (λ y. h (e ∙ y))) (d ∙ ap (λ (y : ℕ). render old (v y) s) e)
+    in-entered v f p q g x s e h d = d ∙ ap (λ y. render old (into (raw (side_bytes ns sb out (get_or t p 0)) ∷ []) v y) s) (sym h ∙ e)
 
     pub value_none : (l q : ℕ) (s : State) → l ≡ 0 → s ≡ render old (value_t sb t qualified ns out l q) s
     unfolding value_t render

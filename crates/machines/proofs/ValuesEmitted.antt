@@ -7,10 +7,11 @@ use mathlib.Core.Option.{Option, none, some, none-ne-some, some-injective}
 use mathlib.Core.Path.{◌≡◌, refl, sym, ap, ◌∙◌}
 use lib.ListN.{length, get_or}
 use lib.Dec.{eqb}
-use borrow.Author.Tests.{ne_eqb}
 use Rattle.wire.specs.Answer.{counted, many, u16, value}
 use Rattle.wire.specs.Writer.{State}
 use Rattle.wire.proofs.Answers.{bind-value, map-value}
+use Rattle.std.specs.Option.{is_none as nothing}
+use Rattle.std.specs.Prelude.{Option as Maybe, Some}
 use Rattle.pack_rules.specs.Names.{Name}
 use Rattle.pack_rules.specs.Syntax.{Equation, Expr, Transition}
 use Rattle.machine_rules.specs.Resolved.{ResolvedRegions, ResolvedStates, r_cons, r_nil, s_cons, s_nil}
@@ -26,7 +27,7 @@ use Rattle.machines.specs.Layout.{HeldR, HeldS, RegionRow, StateRow, g_end, g_mo
 use Rattle.machine_rules.specs.Lower.{all_states_cover, chain_step, from_option, is_name, is_only, is_some, own_value, size_r, size_s, some_region_covers, value_r, value_s}
 use Rattle.machines.specs.CoverAt.{uncovered_t}
 use Rattle.machines.specs.EmitAt.{last_or, pack_name, test_t}
-use Rattle.machines.specs.ValueAt.{Peopled, WholeR, WholeS, entered_t, giving_from, in_state_t, side_bytes, side_from, side_t, value_t, values_t}
+use Rattle.machines.specs.ValueAt.{Peopled, WholeR, WholeS, entered_t, into, giving_from, in_state_t, side_bytes, side_from, side_of, side_t, value_t, values_t}
 use Rattle.machines.proofs.Reading.{many-cut, many-end, many_more, many-over, name-number}
 use Rattle.machines.proofs.CheckedReadLaws.{end-to, number-num, number-to}
 use Rattle.machines.proofs.EnumsEmitted.{id_r, id_s}
@@ -56,7 +57,7 @@ module _ (ns : List Name) (s : List ℕ) (fresh : Fresh [] ns) (out : ℕ) (low 
   only_next n p (x ∷ y ∷ l) q m e = absurd (false≢true e)
 
   -- where the right side of an equation stands, if the output is its only left name
-  side-step : (n at : ℕ) (x : Equation) (q : ℕ) → equation_in ns s at ≡ value x q → (p : ℕ) × (expr_in ns s p ≡ value x.rhs q) × (side_from ns s out (suc n) at ≡ cond (is_only o x.lhs) p (side_from ns s out n q))
+  side-step : (n at : ℕ) (x : Equation) (q : ℕ) → equation_in ns s at ≡ value x q → (p : ℕ) × (expr_in ns s p ≡ value x.rhs q) × (side_from ns s out (suc n) at ≡ cond (is_only o x.lhs) (Some p) (side_from ns s out n q))
   unfolding side_from equation_in names_in counted with
   side-step n at x q r =
       let b = bind-value (names_in ns s at) _ x q r in
@@ -65,18 +66,18 @@ module _ (ns : List Name) (s : List ℕ) (fresh : Fresh [] ns) (out : ℕ) (low 
       let l = ap (λ (y : Equation). y.lhs) m.2 in (
         b.1,
         m.1 ∙ ap (λ (y : Equation). value y.rhs q) m.2,
-        number-to s at d.0 d.1 (λ k p. cond (eqb k 1 && eqb (number_in s p).value out) (number_in s p).next (side_from ns s out n (end_of (equation_in ns s at)))) d.2
-            ∙ ap (λ (c : Bool). cond c (number_in s d.1).next (side_from ns s out n (end_of (equation_in ns s at)))) (lhs-link ns s fresh out low d.0 d.1 b.0 b.1 d.3 ∙ ap (is_only o) l)
-            ∙ ap (λ (y : ℕ). cond (is_only o x.lhs) (number_in s d.1).next (side_from ns s out n y)) (end-to (equation_in ns s at) x q r)
+        number-to s at d.0 d.1 (λ k p. cond (eqb k 1 && eqb (number_in s p).value out) (Some (number_in s p).next) (side_from ns s out n (end_of (equation_in ns s at)))) d.2
+            ∙ ap (λ (c : Bool). cond c (Some (number_in s d.1).next) (side_from ns s out n (end_of (equation_in ns s at)))) (lhs-link ns s fresh out low d.0 d.1 b.0 b.1 d.3 ∙ ap (is_only o) l)
+            ∙ ap (λ (y : ℕ). cond (is_only o x.lhs) (Some (number_in s d.1).next) (side_from ns s out n y)) (end-to (equation_in ns s at) x q r)
             ∙ go (is_only o x.lhs) _ _ _ (λ e. only_next d.0 d.1 b.0 b.1 d.3 (ap (is_only o) l ∙ e)),
       )
     where
-      go : (c : Bool) (u v w : ℕ) → (c ≡ true → u ≡ v) → cond c u w ≡ cond c v w
-      go true u v w h = h refl
+      go : (c : Bool) (u v : ℕ) (w : Maybe ℕ) → (c ≡ true → u ≡ v) → cond c (Some u) w ≡ cond c (Some v) w
+      go true u v w h = ap Some (h refl)
       go false u v w h = refl
 
   -- the first equation that gives the output
-  side-from : (n at : ℕ) (es : List Equation) (q : ℕ) (e : Expr) → many (equation_in ns s) n at ≡ value es q → own_value o es ≡ some e → (b : ℕ) × (expr_in ns s (side_from ns s out n at) ≡ value e b)
+  side-from : (n at : ℕ) (es : List Equation) (q : ℕ) (e : Expr) → many (equation_in ns s) n at ≡ value es q → own_value o es ≡ some e → (a : ℕ) × (b : ℕ) × (side_from ns s out n at ≡ Some a) × (expr_in ns s a ≡ value e b)
   unfolding own_value
   side-from n at [] q e m h = absurd (none-ne-some e h)
   side-from zero at (x ∷ es) q e m h = absurd (many-cut (equation_in ns s) at x es q m)
@@ -84,21 +85,21 @@ module _ (ns : List Name) (s : List ℕ) (fresh : Fresh [] ns) (out : ℕ) (low 
       let a = many_more (equation_in ns s) n at x es q m in
       let d = side-step n at x a.0 a.1 in
       let r = go (is_only o x.lhs) refl d.0 a.0 d.1 (λ g. side-from n a.0 es q e a.2 g) h in
-      (r.0, ap (expr_in ns s) d.2 ∙ r.1)
+      (r.0, r.1, d.2 ∙ r.2, r.3)
     where
-      go : (c : Bool) → is_only o x.lhs ≡ c → (p u : ℕ) → expr_in ns s p ≡ value x.rhs u → (own_value o es ≡ some e → (b : ℕ) × (expr_in ns s (side_from ns s out n u) ≡ value e b))
-          → cond (is_only o x.lhs) (some x.rhs) (own_value o es) ≡ some e → (b : ℕ) × (expr_in ns s (cond (is_only o x.lhs) p (side_from ns s out n u)) ≡ value e b)
-      go true f p u r k g = rw f (u, r ∙ ap (λ (y : Expr). value y u) (some-injective x.rhs e (ap (λ (b : Bool). cond b (some x.rhs) (own_value o es)) (sym f) ∙ g)))
+      go : (c : Bool) → is_only o x.lhs ≡ c → (p u : ℕ) → expr_in ns s p ≡ value x.rhs u → (own_value o es ≡ some e → (a : ℕ) × (b : ℕ) × (side_from ns s out n u ≡ Some a) × (expr_in ns s a ≡ value e b))
+          → cond (is_only o x.lhs) (some x.rhs) (own_value o es) ≡ some e → (a : ℕ) × (b : ℕ) × (cond (is_only o x.lhs) (Some p) (side_from ns s out n u) ≡ Some a) × (expr_in ns s a ≡ value e b)
+      go true f p u r k g = rw f (p, u, refl, r ∙ ap (λ (y : Expr). value y u) (some-injective x.rhs e (ap (λ (b : Bool). cond b (some x.rhs) (own_value o es)) (sym f) ∙ g)))
       go false f p u r k g = rw f (k (ap (λ (b : Bool). cond b (some x.rhs) (own_value o es)) (sym f) ∙ g))
 
   -- a state's own right side
-  side-at : {nm : Name} {ts : List Transition} {k w : ℕ} (at : ℕ) (es : List Equation) (e : Expr) → StateAt ns s at nm es ts k w → own_value o es ≡ some e → (b : ℕ) × (expr_in ns s (side_t ns s out at) ≡ value e b)
+  side-at : {nm : Name} {ts : List Transition} {k w : ℕ} (at : ℕ) (es : List Equation) (e : Expr) → StateAt ns s at nm es ts k w → own_value o es ≡ some e → (a : ℕ) × (b : ℕ) × (side_t ns s out at ≡ Some a) × (expr_in ns s a ≡ value e b)
   unfolding side_t equations_in counted
   side-at {nm = nm} at es e d h =
       let i = name-number ns s at nm d.to-equations d.name in
       let c = bind-value (u16 s d.to-equations) _ es d.to-transitions d.equations in
       let r = side-from c.0 c.1 es d.to-transitions e c.3 h in
-      (r.0, ap (expr_in ns s) (number-to s at i.i d.to-equations _ i.is ∙ number-to s d.to-equations c.0 c.1 _ c.2) ∙ r.1)
+      (r.0, r.1, number-to s at i.i d.to-equations _ i.is ∙ number-to s d.to-equations c.0 c.1 _ c.2 ∙ r.2, r.3)
 
 module _ (ns : List Name) (s offsets t reg qualified old : List ℕ)
     (named : (x : ℕ) → x < length ns → pack_name s offsets x ≡ name_at ns x)
@@ -106,35 +107,31 @@ module _ (ns : List Name) (s offsets t reg qualified old : List ℕ)
     (fresh : Fresh [] ns) (out : ℕ) (low : out < length ns) where
   own-alike : {at tr a m u k v w : ℕ} {nm : Name} {ts : List Transition} (p : ℕ) (es : List Equation) (e : Expr) → StateRow t p at tr a m u k → StateAt ns s at nm es ts v w → own_value (name_at ns out) es ≡ some e
       → Alike old (raw (side_bytes ns s out (get_or t p 0)) ∷ []) (expr_items e)
-  unfolding side_bytes
+  unfolding side_bytes side_of
   own-alike {at = at} p es e row d h = λ z.
       let r = side-at ns s fresh out low at es e d h in
-      ap (λ (y : ℕ). render old (raw (slice_of s (side_t ns s out y) (end_of (expr_in ns s (side_t ns s out y)) - side_t ns s out y)) ∷ []) z) row.drawn
-      ∙ ap (λ (y : ℕ). render old (raw (slice_of s (side_t ns s out at) (y - side_t ns s out at)) ∷ []) z) (end-to (expr_in ns s (side_t ns s out at)) e r.0 r.1)
-      ∙ copied (side_t ns s out at) r.0 e r.1 z
+      ap (λ (y : Maybe ℕ). render old (raw (side_of ns s out y) ∷ []) z) (ap (side_t ns s out) row.drawn ∙ r.2)
+      ∙ ap (λ (y : ℕ). render old (raw (slice_of s r.0 (y - r.0)) ∷ []) z) (end-to (expr_in ns s r.0) e r.1 r.3)
+      ∙ copied r.0 r.1 e r.3 z
 
-  -- the own right side, or the value of the region that is entered
-  abbrev into : List Item → (ℕ → List Item) → ℕ → List Item
-  into own v m = cond (eqb m 0) own (v m)
-
-  in-state : {at tr a m u k : ℕ} (v : ℕ → List Item) (f : ℕ → ℕ) (p : ℕ) → StateRow t p at tr a m u k → in_state_t s t qualified ns out v f p ≡ into (raw (side_bytes ns s out (get_or t p 0)) ∷ []) v (giving_from t f k (p + 6))
+  in-state : {at tr a m u k : ℕ} (v : ℕ → List Item) (f : ℕ → Maybe ℕ) (p : ℕ) → StateRow t p at tr a m u k → in_state_t s t qualified ns out v f p ≡ into (raw (side_bytes ns s out (get_or t p 0)) ∷ []) v (giving_from t f k (p + 6))
   unfolding in_state_t entered_t
   in-state v f p row = λ i. into (raw (side_bytes ns s out (get_or t p 0)) ∷ []) v (giving_from t f (row.regions i) (p + 6))
 
   -- no region is left
-  value-own : (d : Expr) (i g : ℕ) (f : ℕ → ℕ) (own : Option Expr) (is : List Item) (v : ℕ → List Item) → (is_some own || some_region_covers (name_at ns out) r_nil) ≡ true → ((e : Expr) → own ≡ some e → Alike old is (expr_items e))
+  value-own : (d : Expr) (i g : ℕ) (f : ℕ → Maybe ℕ) (own : Option Expr) (is : List Item) (v : ℕ → List Item) → (is_some own || some_region_covers (name_at ns out) r_nil) ≡ true → ((e : Expr) → own ≡ some e → Alike old is (expr_items e))
       → Alike old (into is v (giving_from t f 0 g)) (expr_items (value_r (name_at ns out) d own i r_nil))
   unfolding giving_from value_r from_option is_some some_region_covers
   value-own d i g f none is v h a = absurd (false≢true h)
   value-own d i g f (some e) is v h a = a e refl
 
   -- the first of the regions that are left, or those after it
-  value-choice : (f : ℕ → ℕ) (v : ℕ → List Item) (k g e : ℕ) (is : List Item) (c : Bool) (a b : Expr) → get_or t (g + 4) 0 ≡ e → eqb (f g) 0 ≡ c → 0 < g
+  value-choice : (f : ℕ → Maybe ℕ) (v : ℕ → List Item) (k g e : ℕ) (is : List Item) (c : Bool) (a b : Expr) → get_or t (g + 4) 0 ≡ e → nothing (f g) ≡ c
       → (c ≡ true → Alike old (v g) (expr_items a)) → (c ≡ false → Alike old (into is v (giving_from t f k e)) (expr_items b))
       → Alike old (into is v (giving_from t f (suc k) g)) (expr_items (cond c a b))
   unfolding giving_from
-  value-choice f v k g e is true a b h l z x y = rw (l, ne_eqb g 0 (λ w. omega arith)) (x refl)
-  value-choice f v k g e is false a b h l z x y = rw (l, h) (y refl)
+  value-choice f v k g e is true a b h l x y = rw l (x refl)
+  value-choice f v k g e is false a b h l x y = rw (l, h) (y refl)
 
   value-regions : (d : Expr) (own : Option Expr) (i j : ℕ) (full : Name) (h : Bool) (ss : ResolvedStates) (rest : ResolvedRegions) → j ≡ suc i + size_s ss → cond (all_states_cover (name_at ns out) ss) (value_s (name_at ns out) d i (suc i) ss) (value_r (name_at ns out) d own j rest) ≡ value_r (name_at ns out) d own i (r_cons full h ss rest)
   unfolding value_r
@@ -201,7 +198,7 @@ module _ (ns : List Name) (s offsets t reg qualified old : List ℕ)
     link_r d i own is r_nil (g_end a b) h w c x = value-own d i _ _ own is (value_t s t qualified ns out _) c x
     link_r d i own is (r_cons full b ss rest) (g_more row rg lt f pr fu st mo) h w c x = λ z.
         let y = whole-regions full b ss rest w in
-        value-choice _ (value_t s t qualified ns out _) _ _ _ is (all_states_cover (name_at ns out) ss) (value_s (name_at ns out) d i (suc i) ss) (value_r (name_at ns out) d own _ rest) row.after (covers-held ns s t reg qualified fresh out low _ ss row st) h
+        value-choice _ (value_t s t qualified ns out _) _ _ _ is (all_states_cover (name_at ns out) ss) (value_s (name_at ns out) d i (suc i) ss) (value_r (name_at ns out) d own _ rest) row.after (covers-held ns s t reg qualified fresh out low _ ss row st)
         (λ g z. ap (λ (is : List Item). render old is z) (value-parts _ _ _ row.states) ∙ link_s d _ i (suc i) ss st row.number (more _ 9 h) (peopled ss y.0 st) y.1 g z)
         (λ g. link_r d _ own is rest mo (later _ 9 _ h (end_s ns s t reg qualified ss st)) y.2 (past-false (is_some own) (all_states_cover (name_at ns out) ss) (some_region_covers (name_at ns out) rest) (ap (λ (x : Bool). is_some own || x) (sym (covers-regions full b ss rest)) ∙ c) g) x) z
         ∙ ap (λ (x : Expr). render old (expr_items x) z) (value-regions d own i _ full b ss rest (id_s ns s t reg qualified ss st))

@@ -2,7 +2,7 @@
 -- Which outputs drawn states were found to give or not to give: a table of 16-bit cells, a mark for each row of the states that are
 -- kept (specs/Memo), for the output that was asked last, and before the marks, for some states, the equations after the one that was
 -- found last. And which outputs each state was found to give: a table of bytes by the index of the output's name.
-use Rattle.std.specs.Prelude.{ℕ, ◌+◌, ◌*◌, ◌/◌, ◌%◌, ◌<◌, List, Bool, false, true, cond, ◌&&◌, ◌||◌, ◌≡◌, length, get_or, set, ltb}
+use Rattle.std.specs.Prelude.{None, ℕ, ◌+◌, ◌*◌, ◌/◌, ◌%◌, ◌<◌, List, Bool, false, true, cond, ◌&&◌, ◌||◌, ◌≡◌, length, get_or, set, ltb}
 use Rattle.wire.specs.Bytes.{word_range}
 use Rattle.pack_rules.specs.Names.{Name}
 use Rattle.pack_rules.specs.Limits.{max_level}
@@ -37,7 +37,7 @@ pub record AssignsSound (s : List ℕ) (names : ℕ) (memo hints : List ℕ) : T
 
 -- each state of the layout t gives the output x
 unfoldable pub Given : List ℕ → ℕ → List ℕ → ℕ → Type 0
-Given s names t x = (ns : List Name) → length ns ≡ names → uncovered_t ns s t x max_level 0 ≡ 0
+Given s names t x = (ns : List Name) → length ns ≡ names → uncovered_t ns s t x max_level 0 ≡ None
 
 -- of the pack s with so many names and the layout t: what a cell says of the output whose name has its index
 pub record AssignmentSound (s : List ℕ) (names : ℕ) (t given : List ℕ) : Type 0 where

@@ -1,13 +1,14 @@
 -- Internal: nothing here has to be believed; laws tie it to what docs/TRUSTED.md lists.
 -- Coverage of an output: whether a state's own equations give it, on bytes; and which state of the layout does not give it,
 -- structural on the levels left.
-use Rattle.std.specs.Prelude.{ℕ, zero, suc, ◌+◌, List, Bool, false, cond, ◌&&◌, ◌||◌, get_or, eqb}
+use Rattle.std.specs.Option.{option_and, option_or}
+use Rattle.std.specs.Prelude.{Option as Maybe, Some, None, ℕ, zero, suc, ◌+◌, List, Bool, false, cond, ◌&&◌, ◌||◌, get_or, eqb}
 use Rattle.std.proofs.Math.Option.{Option, none, some}
 use Rattle.pack_rules.specs.Names.{Name}
 use Rattle.pack_rules.specs.Read.{equation_in}
 use Rattle.machines.specs.declared.cover.OnlyLeft.{OnlyLeft}
 use Rattle.machines.specs.ResolvedIn.{end_of}
-use Rattle.machines.specs.CheckedReads.{first_some, number_in, with}
+use Rattle.machines.specs.CheckedReads.{number_in, with}
 use Rattle.machines.specs.EmitAt.{letters_at}
 
 -- an answer, yes or no, and the offset after what was asked
@@ -33,28 +34,29 @@ module _ (ns : List Name) (s : List ℕ) where
   own_t out at = with (number_in s at) λ i p. with (number_in s p) λ n q. (tells (gives_t out) ◌||◌ n q false).yes
 
 module _ (t : List ℕ) where
-  -- the answer of n states from the word p on: the first that is not 0
-  unfoldable pub first_miss : (ℕ → ℕ) → ℕ → ℕ → ℕ
-  first_miss f zero p = 0
-  first_miss f (suc n) p = first_some (f p) (first_miss f n (get_or t (p + 4) 0))
+  -- the answer of n states from the word p on: the first that there is
+  unfoldable pub first_miss : (ℕ → Maybe ℕ) → ℕ → ℕ → Maybe ℕ
+  first_miss f zero p = None
+  first_miss f (suc n) p = option_or (f p) (first_miss f n (get_or t (p + 4) 0))
 
-  -- the answer of a state by n regions from the word g on, after others with the answer `miss`: 0 where one of them is 0,
+  -- the answer of a state by n regions from the word g on, after others with the answer `miss`: none where one of them has none,
   -- else the first
-  unfoldable pub all_miss : (ℕ → ℕ) → ℕ → ℕ → ℕ → ℕ
+  unfoldable pub all_miss : (ℕ → Maybe ℕ) → ℕ → ℕ → Maybe ℕ → Maybe ℕ
   all_miss f zero g miss = miss
-  all_miss f (suc n) g miss = cond (eqb (f g) 0) 0 (all_miss f n (get_or t (g + 4) 0) (first_some miss (f g)))
+  all_miss f (suc n) g miss = option_and (f g) (all_miss f n (get_or t (g + 4) 0) (option_or miss (f g)))
 
--- names, the pack's bytes, words, an output by its name's index: the answer is 0, or the word of a state that does not give it
+-- names, the pack's bytes, words, an output by its name's index: the answer is the word of a state that does not give it, if there is one
 module _ (ns : List Name) (s t : List ℕ) (out : ℕ) where
   -- of the state at the word p, by the answers of its regions
-  unfoldable pub miss_t : (ℕ → ℕ) → ℕ → ℕ
-  miss_t f p = cond (own_t ns s out (get_or t p 0)) 0 (cond (eqb (get_or t (p + 5) 0) 0) p (all_miss t f (get_or t (p + 5) 0) (p + 6) 0))
+  unfoldable pub miss_t : (ℕ → Maybe ℕ) → ℕ → Maybe ℕ
+  miss_t f p = cond (own_t ns s out (get_or t p 0)) None (cond (eqb (get_or t (p + 5) 0) 0) (Some p) (all_miss t f (get_or t (p + 5) 0) (p + 6) None))
 
   -- of the region at the word q, with so many levels left
-  unfoldable pub uncovered_t : ℕ → ℕ → ℕ
-  uncovered_t zero q = 0
+  unfoldable pub uncovered_t : ℕ → ℕ → Maybe ℕ
+  uncovered_t zero q = None
   uncovered_t (suc l) q = first_miss t (miss_t (uncovered_t l)) (get_or t (q + 6) 0) (q + 9)
 
 -- the state that an answer names: none, or the one at that word
-unfoldable pub missed : List ℕ → List ℕ → ℕ → Option Name
-missed t qualified m = cond (eqb m 0) none (some (letters_at t qualified m))
+unfoldable pub missed : List ℕ → List ℕ → Maybe ℕ → Option Name
+missed t qualified None = none
+missed t qualified (Some p) = some (letters_at t qualified p)

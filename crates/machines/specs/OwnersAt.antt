@@ -1,6 +1,7 @@
 -- Internal: nothing here has to be believed; laws tie it to what docs/TRUSTED.md lists.
 -- All machines in order, as the code settles them by tables: where each is drawn, its regions, the node it goes to.
 use Rattle.std.specs.Prelude.{ℕ, zero, suc, ◌+◌, List, cond, ◌≡◌, get_or, set, eqb, ltb}
+use Rattle.std.specs.Result.{result_unwrap_or}
 use Rattle.pack_rules.specs.Limits.{absent}
 use Rattle.pack_rules.specs.Names.{Name}
 use Rattle.pack_rules.specs.Read.{equations_in}
@@ -35,7 +36,7 @@ module _ (ns : List Name) (s : List ℕ) where
 
   -- the machine drawn at `at` has so many regions, 0 where it is refused, whatever long tables held before
   unfoldable pub HasRegions : List ℕ → List ℕ → ℕ → ℕ → Type 0
-  HasRegions offsets to at g = (t reg qualified : List ℕ) → Long t reg qualified → (judge_at ns s offsets to at t reg qualified).regions ≡ g
+  HasRegions offsets to at g = (t reg qualified : List ℕ) → Long t reg qualified → result_unwrap_or (judge_at ns s offsets to at t reg qualified) 0 ≡ g
 
 -- the index of the first of n entries from i on that is x, i + n where there is none
 unfoldable pub find_t : List ℕ → ℕ → ℕ → ℕ → ℕ

@@ -1,12 +1,12 @@
 -- Internal: nothing here has to be believed; laws tie it to what docs/TRUSTED.md lists.
 -- The report of all machines, as the code writes it: a refused machine is judged again for its entry.
-use Rattle.std.specs.Prelude.{ℕ, zero, suc, ◌+◌, ◌<◌, ◌≤◌, List, [], ◌++◌, cond, ◌≡◌, length, get_or, eqb}
+use Rattle.std.specs.Prelude.{ℕ, zero, suc, ◌+◌, ◌<◌, ◌≤◌, List, [], ◌++◌, cond, ◌≡◌, length, get_or, eqb, Ok, Err}
 use Rattle.pack_rules.specs.Limits.{absent}
 use Rattle.pack_rules.specs.Names.{Name}
-use Rattle.machines.specs.declared.verdicts.VerdictRow.{VerdictRow}
+use Rattle.machines.specs.declared.verdicts.Refusal.TheVariants as no
 use Rattle.machines.specs.CheckedReads.{number_in}
 use Rattle.machines.specs.ReportEntries.{entry_bytes}
-use Rattle.machines.specs.VerdictAt.{board_at, judge_at, named, no_name, refused_by}
+use Rattle.machines.specs.VerdictAt.{Judged, board_at, judge_at, row_of}
 use Rattle.machines.specs.EmitMachineAt.{Long}
 
 -- bytes of n indexes from i on
@@ -18,19 +18,24 @@ bytes_t f (suc n) i = f i ++ bytes_t f n (suc i)
 unfoldable pub of_refused : List ℕ → (ℕ → List ℕ) → ℕ → List ℕ
 of_refused receivers f i = cond (eqb (get_or receivers i 0) absent) (f i) []
 
+-- the entry of a machine of the name m, by what is judged of it: none where it has so many regions
+unfoldable pub judged_bytes : List ℕ → List ℕ → List ℕ → ℕ → Judged → List ℕ
+judged_bytes s offsets qualified m (Ok n) = []
+judged_bytes s offsets qualified m (Err w) = entry_bytes s offsets qualified m (row_of w)
+
 module _ (ns : List Name) (s offsets to defs regcounts : List ℕ) where
   -- why the machine i is refused, with the letters of its names: where it has regions, its owner is not there
-  unfoldable pub refusal_t : ℕ → List ℕ → List ℕ → List ℕ → VerdictRow
+  unfoldable pub refusal_t : ℕ → List ℕ → List ℕ → List ℕ → Judged
   refusal_t i t reg qualified =
       cond (eqb (get_or regcounts i 0) 0) (judge_at ns s offsets to (get_or defs i 0) t reg qualified)
-      (refused_by 8 (named (number_in s (number_in s (get_or defs i 0)).next).value) no_name)
+      (Err (no.UnknownOwner (number_in s (number_in s (get_or defs i 0)).next).value))
 
   unfoldable pub letters_t : ℕ → List ℕ → List ℕ → List ℕ → List ℕ
   letters_t i t reg qualified = cond (eqb (get_or regcounts i 0) 0) (board_at ns s offsets to (get_or defs i 0) t reg qualified).qualified qualified
 
   -- its entry
   unfoldable pub entry_t : ℕ → List ℕ → List ℕ → List ℕ → List ℕ
-  entry_t i t reg qualified = entry_bytes s offsets (letters_t i t reg qualified) (number_in s (get_or defs i 0)).value (refusal_t i t reg qualified)
+  entry_t i t reg qualified = judged_bytes s offsets (letters_t i t reg qualified) (number_in s (get_or defs i 0)).value (refusal_t i t reg qualified)
 
   -- the same, and nothing where the machine is not refused
   unfoldable pub refused_entry_t : List ℕ → ℕ → List ℕ → List ℕ → List ℕ → List ℕ

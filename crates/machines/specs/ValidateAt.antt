@@ -1,6 +1,6 @@
 -- Internal: nothing here has to be believed; laws tie it to what docs/TRUSTED.md lists.
 -- The checks of initial states and targets on the layout: what the code does, structural on the levels left.
-use Rattle.std.specs.Prelude.{ℕ, zero, suc, ◌+◌, ◌-◌, List, Bool, true, false, cond, ◌&&◌, ◌||◌, ◌≡◌, length, get_or, eqb}
+use Rattle.std.specs.Prelude.{ℕ, zero, suc, ◌+◌, ◌-◌, List, Bool, true, false, cond, ◌&&◌, ◌||◌, ◌≡◌, length, get_or, eqb, Option, Some, None, IfSome}
 use Rattle.pack_rules.specs.Names.{Name}
 use Rattle.pack_rules.specs.Read.{expr_in}
 use Rattle.machines.specs.declared.validate.Checked.{Checked}
@@ -18,16 +18,13 @@ or_then (ck.Target p q x) c = ck.Target p q x
 
 -- what is foreseen of the targets of a region's states from one on: the next `fine` ones have none that is wrong, the one after
 -- them has one, with this name. Where nothing is known, this says nothing.
-abbrev pub recalled : Bool → ℕ → ℕ → TargetMemo
-recalled k n x = record { known = k; fine = n; name = x }
+abbrev pub recalled : ℕ → ℕ → TargetMemo
+recalled n x = record { fine = n; name = x }
 
--- nothing is known
-abbrev pub unknown : TargetMemo
-unknown = recalled false 0 0
-
--- of the states after that one
-unfoldable pub onward : TargetMemo → TargetMemo
-onward v = cond (eqb v.fine 0) unknown (recalled v.known (v.fine - 1) v.name)
+-- after one state less is known, after the one with a wrong target nothing
+unfoldable pub onward : Option TargetMemo → Option TargetMemo
+onward None = None
+onward (Some v) = cond (eqb v.fine 0) None (Some (recalled (v.fine - 1) v.name))
 
 -- what checking the targets of that one comes to, if it is at the word p in the region at the word q
 unfoldable pub recall_t : TargetMemo → ℕ → ℕ → Checked
@@ -84,13 +81,13 @@ module _ (ns : List Name) (s t : List ℕ) where
   rows_drawn (suc n) p at = row_drawn p at && rows_drawn n (get_or t (p + 4) 0) (over_in ns s at)
 
   -- what is foreseen of the targets of n states from the word p on, in the region at the word q, is so
-  unfoldable pub AsRecalled : TargetMemo → ℕ → ℕ → ℕ → Type 0
+  unfoldable pub AsRecalled : Option TargetMemo → ℕ → ℕ → ℕ → Type 0
   AsRecalled v q zero p = Unit {0}
-  AsRecalled v q (suc n) p = (v.known ≡ true → targets_t q p ≡ recall_t v q p) × AsRecalled (onward v) q n (get_or t (p + 4) 0)
+  AsRecalled v q (suc n) p = IfSome v (λ m. targets_t q p ≡ recall_t m q p) × AsRecalled (onward v) q n (get_or t (p + 4) 0)
 
 -- the same of one state, and of n states, whatever the names are
-abbrev pub OneRecalled : List ℕ → ℕ → List ℕ → TargetMemo → ℕ → ℕ → Type 0
-OneRecalled s names t v q p = (ns : List Name) → length ns ≡ names → v.known ≡ true → targets_t ns s t q p ≡ recall_t v q p
+abbrev pub OneRecalled : List ℕ → ℕ → List ℕ → Option TargetMemo → ℕ → ℕ → Type 0
+OneRecalled s names t v q p = (ns : List Name) → length ns ≡ names → IfSome v (λ m. targets_t ns s t q p ≡ recall_t m q p)
 
-abbrev pub AllRecalled : List ℕ → ℕ → List ℕ → TargetMemo → ℕ → ℕ → ℕ → Type 0
+abbrev pub AllRecalled : List ℕ → ℕ → List ℕ → Option TargetMemo → ℕ → ℕ → ℕ → Type 0
 AllRecalled s names t v q n p = (ns : List Name) → length ns ≡ names → AsRecalled ns s t v q n p

@@ -1,7 +1,8 @@
 -- Internal: nothing here has to be believed; laws tie it to what docs/TRUSTED.md lists.
 -- The value of each output, read from the layout: a chain over the states of a region, in which a state's first covering region
 -- goes before its own equation. A right side is copied as it stands in the pack.
-use Rattle.std.specs.Prelude.{ℕ, zero, suc, ◌+◌, ◌-◌, List, [], ◌∷◌, ◌++◌, cond, ◌&&◌, get_or, eqb}
+use Rattle.std.specs.Option.{is_none}
+use Rattle.std.specs.Prelude.{Option, Some, None, ℕ, zero, suc, ◌+◌, ◌-◌, List, [], ◌∷◌, ◌++◌, cond, ◌&&◌, get_or, eqb}
 use Rattle.wire.specs.Bytes.{two}
 use Rattle.pack_rules.specs.Limits.{max_level}
 use Rattle.pack_rules.specs.Names.{Name}
@@ -16,28 +17,33 @@ use Rattle.machines.specs.EmitAt.{last_or, test_t}
 
 -- names, the pack's bytes, an output by its name's index
 module _ (ns : List Name) (s : List ℕ) (out : ℕ) where
-  -- where the right side stands of the first of n equations from p on that has the output as its only left name; 0 where there is none
-  unfoldable pub side_from : ℕ → ℕ → ℕ
-  side_from zero p = 0
-  side_from (suc n) p = with (number_in s p) λ k o. with (number_in s o) λ i r. cond (eqb k 1 && eqb i out) r (side_from n (end_of (equation_in ns s p)))
+  -- where the right side stands of the first of n equations from p on that has the output as its only left name
+  unfoldable pub side_from : ℕ → ℕ → Option ℕ
+  side_from zero p = None
+  side_from (suc n) p = with (number_in s p) λ k o. with (number_in s o) λ i r. cond (eqb k 1 && eqb i out) (Some r) (side_from n (end_of (equation_in ns s p)))
 
   -- of the equations of the state at the offset `at`
-  unfoldable pub side_t : ℕ → ℕ
+  unfoldable pub side_t : ℕ → Option ℕ
   side_t at = with (number_in s at) λ i p. with (number_in s p) λ n q. side_from n q
 
-  -- its bytes
+  -- the bytes of a right side that stands there
+  unfoldable pub side_of : Option ℕ → List ℕ
+  side_of None = []
+  side_of (Some a) = slice_of s a (end_of (expr_in ns s a) - a)
+
+  -- of the state at the offset `at`
   unfoldable pub side_bytes : ℕ → List ℕ
-  side_bytes at = slice_of s (side_t at) (end_of (expr_in ns s (side_t at)) - side_t at)
+  side_bytes at = side_of (side_t at)
 
 -- words
 module _ (t : List ℕ) where
-  -- the first of n regions from the word g on with the answer 0; 0 where there is none
-  unfoldable pub giving_from : (ℕ → ℕ) → ℕ → ℕ → ℕ
-  giving_from f zero g = 0
-  giving_from f (suc n) g = cond (eqb (f g) 0) g (giving_from f n (get_or t (g + 4) 0))
+  -- the first of n regions from the word g on that has no answer
+  unfoldable pub giving_from : (ℕ → Option ℕ) → ℕ → ℕ → Option ℕ
+  giving_from f zero g = None
+  giving_from f (suc n) g = cond (is_none (f g)) (Some g) (giving_from f n (get_or t (g + 4) 0))
 
   -- the region of the state at the word p that is entered for the output
-  unfoldable pub entered_t : (ℕ → ℕ) → ℕ → ℕ
+  unfoldable pub entered_t : (ℕ → Option ℕ) → ℕ → Option ℕ
   entered_t f p = giving_from f (get_or t (p + 5) 0) (p + 6)
 
   -- by the n states from the word p on of the region at the word q; the last has no test
@@ -45,12 +51,17 @@ module _ (t : List ℕ) where
   values_t qualified f q zero p = []
   values_t qualified f q (suc n) p = last_or n (test_t t qualified q p) (f p) (values_t qualified f q n (get_or t (p + 4) 0))
 
+-- a state's own value, or that of the region that is entered
+abbrev pub into : List Item → (ℕ → List Item) → Option ℕ → List Item
+into own v None = own
+into own v (Some g) = v g
+
 -- the pack's bytes, words, letters, names
 module _ (s t qualified : List ℕ) (ns : List Name) where
   module _ (out : ℕ) where
     -- in the state at the word p, by the values and the answers of its regions
-    unfoldable pub in_state_t : (ℕ → List Item) → (ℕ → ℕ) → ℕ → List Item
-    in_state_t v f p = cond (eqb (entered_t t f p) 0) (raw (side_bytes ns s out (get_or t p 0)) ∷ []) (v (entered_t t f p))
+    unfoldable pub in_state_t : (ℕ → List Item) → (ℕ → Option ℕ) → ℕ → List Item
+    in_state_t v f p = into (raw (side_bytes ns s out (get_or t p 0)) ∷ []) v (entered_t t f p)
 
     -- in the region at the word q, with so many levels left
     unfoldable pub value_t : ℕ → ℕ → List Item

@@ -1,11 +1,13 @@
 -- Internal: nothing here has to be believed; laws tie it to what docs/TRUSTED.md lists.
 -- What the code judges of a machine, from its answers on the way: a kind and where the names stand.
-use Rattle.std.specs.Prelude.{ℕ, zero, suc, ◌+◌, List, false, cond, get_or, take, eqb, leb, ltb}
+use Rattle.std.specs.Prelude.{ℕ, zero, suc, ◌+◌, List, false, cond, get_or, take, eqb, leb, Result, Ok, Err, Option, Some, None}
 use Rattle.pack_rules.specs.Names.{Name}
 use Rattle.pack_rules.specs.Read.{port_in}
 use Rattle.pack_rules.specs.Limits.{absent, max_level}
 use Rattle.machines.specs.declared.verdicts.NameRef.{NameRef}
 use Rattle.machines.specs.declared.verdicts.VerdictRow.{VerdictRow}
+use Rattle.machines.specs.declared.verdicts.Refusal.{Refusal}
+use Rattle.machines.specs.declared.verdicts.Refusal.TheVariants as no
 use Rattle.machines.specs.declared.validate.Checked.{Checked}
 use Rattle.machines.specs.declared.validate.Checked.TheVariants as ck
 use Rattle.machines.specs.declared.resolve.Resolved.{Resolved}
@@ -36,46 +38,66 @@ called_at t q x = record { letter = get_or t (q + 2) 0; letters = get_or t (q + 
 unfoldable pub again_called : List ℕ → ℕ → NameRef
 again_called qualified d = cond (leb 4294967296 d) no_name (record { letter = d + 1; letters = get_or qualified d 0; name = absent })
 
--- a machine refused for the kind k, with the names a and b after its own
+-- the entry of a refusal of the kind k, with the names a and b after the machine's own
 abbrev pub refused_by : ℕ → NameRef → NameRef → VerdictRow
-refused_by k a b = record { kind = k; regions = 0; second = a; third = b }
+refused_by k a b = record { kind = k; second = a; third = b }
 
--- a machine accepted with n regions
-abbrev pub accepted_with : ℕ → VerdictRow
-accepted_with n = record { kind = 0; regions = n; second = no_name; third = no_name }
+-- the entry of each refusal
+abbrev pub row_of : Refusal → VerdictRow
+row_of no.NoStates = refused_by 1 no_name no_name
+row_of (no.UnknownInitialState n) = refused_by 2 n no_name
+row_of (no.UnknownTarget p n) = refused_by 3 p n
+row_of (no.OutputUnassigned o p) = refused_by 4 (named o) p
+row_of (no.DuplicateState n) = refused_by 5 n no_name
+row_of (no.UnknownRefine p m) = refused_by 6 (named p) (named m)
+row_of (no.RefineCycle m) = refused_by 7 (named m) no_name
+row_of (no.UnknownOwner o) = refused_by 8 (named o) no_name
+row_of no.TooLarge = refused_by 17 no_name no_name
+
+-- what is judged of a machine: how many regions it has, or why it is refused
+abbrev pub Judged : Type 0
+Judged = Result ℕ Refusal
+
+-- the output x, which the state at a word does not give, or else j
+unfoldable pub unless_missed : List ℕ → ℕ → Option ℕ → Judged → Judged
+unless_missed t x (Some p) j = Err (no.OutputUnassigned x (state_called t p))
+unless_missed t x None j = j
+
+-- a name that stands twice, or else j
+unfoldable pub unless_again : List ℕ → Option ℕ → Judged → Judged
+unless_again qualified (Some d) j = Err (no.DuplicateState (again_called qualified d))
+unless_again qualified None j = j
 
 module _ (ns : List Name) (s t : List ℕ) where
   -- n outputs from the offset p on: the first that a state does not give
-  unfoldable pub outputs_j : ℕ → ℕ → ℕ → VerdictRow
-  outputs_j regions zero p = accepted_with regions
+  unfoldable pub outputs_j : ℕ → ℕ → ℕ → Judged
+  outputs_j regions zero p = Ok regions
   outputs_j regions (suc n) p =
-      cond (eqb (uncovered_t ns s t (number_in s p).value max_level 0) 0) (outputs_j regions n (end_of (port_in ns s p)))
-      (refused_by 4 (named (number_in s p).value) (state_called t (uncovered_t ns s t (number_in s p).value max_level 0)))
+      unless_missed t (number_in s p).value (uncovered_t ns s t (number_in s p).value max_level 0) (outputs_j regions n (end_of (port_in ns s p)))
 
   -- the outputs whose count stands at `at`
-  unfoldable pub outputs_at : ℕ → ℕ → VerdictRow
+  unfoldable pub outputs_at : ℕ → ℕ → Judged
   outputs_at at regions = with (number_in s at) λ n p. outputs_j regions n p
 
   -- initial states and targets, then the outputs
-  unfoldable pub checked_j : Checked → ℕ → ℕ → VerdictRow
+  unfoldable pub checked_j : Checked → ℕ → ℕ → Judged
   checked_j ck.Fine at regions = outputs_at at regions
-  checked_j (ck.Initial q) at regions = refused_by 2 (called_at t q (get_or t q 0)) no_name
-  checked_j (ck.Target p q x) at regions = refused_by 3 (state_called t p) (called_at t q x)
+  checked_j (ck.Initial q) at regions = Err (no.UnknownInitialState (called_at t q (get_or t q 0)))
+  checked_j (ck.Target p q x) at regions = Err (no.UnknownTarget (state_called t p) (called_at t q x))
 
   -- a machine that is laid out: no states, then a name that stands twice, then the rest
-  unfoldable pub laid_j : List ℕ → ℕ → ℕ → ℕ → VerdictRow
+  unfoldable pub laid_j : List ℕ → ℕ → ℕ → ℕ → Judged
   laid_j qualified letters regions outputs =
-      cond (eqb (get_or t 6 0) 0) (refused_by 1 no_name no_name)
-      (cond (ltb (duplicate_at (take letters qualified)) letters) (refused_by 5 (again_called qualified (duplicate_at (take letters qualified))) no_name)
-      (checked_j (checked_region ns s t max_level 0) outputs regions))
+      cond (eqb (get_or t 6 0) 0) (Err no.NoStates)
+      (unless_again qualified (duplicate_at (take letters qualified)) (checked_j (checked_region ns s t max_level 0) outputs regions))
 
 module _ (ns : List Name) (s offsets to : List ℕ) where
   -- resolving comes first
-  unfoldable pub walked_j : Resolved → VerdictRow → VerdictRow
+  unfoldable pub walked_j : Resolved → Judged → Judged
   walked_j (wk.Went q c a) j = j
-  walked_j (wk.Cycle n) j = refused_by 7 (named n) no_name
-  walked_j (wk.Unknown i m) j = refused_by 6 (named i) (named m)
-  walked_j wk.Large j = refused_by 17 no_name no_name
+  walked_j (wk.Cycle n) j = Err (no.RefineCycle n)
+  walked_j (wk.Unknown i m) j = Err (no.UnknownRefine i m)
+  walked_j wk.Large j = Err no.TooLarge
 
   -- and the tables: b where resolving came through, d where it stopped
   unfoldable pub walked_b : Resolved → Board → Board → Board
@@ -91,10 +113,10 @@ module _ (ns : List Name) (s offsets to : List ℕ) where
   unfoldable pub lay_at : ℕ → List ℕ → List ℕ → List ℕ → Board
   lay_at at t reg qualified = layout_machine ns s offsets to (initial_in ns s (number_in s at).next) t reg qualified
 
-  unfoldable pub laid_at : ℕ → Board → VerdictRow
+  unfoldable pub laid_at : ℕ → Board → Judged
   laid_at at b = laid_j ns s b.t b.qualified b.c.letters b.c.regions (outputs_in ns s (number_in s at).next)
 
-  unfoldable pub judge_at : ℕ → List ℕ → List ℕ → List ℕ → VerdictRow
+  unfoldable pub judge_at : ℕ → List ℕ → List ℕ → List ℕ → Judged
   judge_at at t reg qualified = walked_j (walk_at at) (laid_at at (lay_at at t reg qualified))
 
   unfoldable pub board_at : ℕ → List ℕ → List ℕ → List ℕ → Board

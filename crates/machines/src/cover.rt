@@ -10,7 +10,7 @@ ghost use Rattle.machines.specs.Memo.{regions_in};
 ghost use Rattle.machines.specs.CoverAt.{gives_t, miss_t, own_t, uncovered_t};
 ghost use Rattle.machines.specs.AssignsMemo.{AssignsSound, HintOf, assigns_mark, hint_put};
 
-use crate::checked_read::{first_some, number};
+use crate::checked_read::number;
 use crate::drawing::Drawing;
 use crate::layout::{first, inner, layout_word};
 use crate::memo::memo_regions;
@@ -159,8 +159,8 @@ pub fn assigns_with_memo(drawing: &Drawing, hints: &mut [u16], out: usize, at: u
     assigns_by_mark(drawing, hints, out, at)
 }
 
-// 0 where the state at the word p gives `out`, by an equation or by a region; else the word of a state that does not:
-// its first region's, or its own where it has none.
+// Where the state at the word p does not give `out`, by an equation or by a region, the word of a state that does not: its first
+// region's, or its own where it has none.
 #[cycle(require_cover_region_require_cover_state)]
 fn require_cover_state(
     drawing: &Drawing,
@@ -169,32 +169,32 @@ fn require_cover_state(
     out: usize,
     levels: usize,
     p: usize,
-) -> usize
+) -> Option<usize>
     requires { AssignsSound drawing.now.pack.bytes.now drawing.now.pack.names drawing.now.memo.now hints.old }
     ensures value { (ns : List Name) → length ns ≡ drawing.now.pack.names → result ≡ miss_t ns drawing.now.pack.bytes.now layout.now out (uncovered_t ns drawing.now.pack.bytes.now layout.now out levels) p }
     ensures assigns_sound { AssignsSound drawing.now.pack.bytes.now drawing.now.pack.names drawing.now.memo.now hints.new }
 {
     if assigns_with_memo(drawing, hints, out, entry(layout, p)) {
-        return 0;
+        return None;
     }
     let n = layout_word(layout, p, 5);
     if n == 0 {
-        return p;
+        return Some(p);
     }
     let mut g = inner(layout, p);
-    let mut miss = 0;
+    let mut miss = None;
     for _ in 0..n {
         let m = require_cover_region(drawing, layout, hints, out, levels, g);
-        if m == 0 {
-            return 0;
+        if m.is_none() {
+            return None;
         }
-        miss = first_some(miss, m);
+        miss = miss.or(m);
         g = layout_word(layout, g, 4);
     }
     miss
 }
 
-// 0 where each state of the region at the word q gives `out`; else the word of a state that does not.
+// Where not each state of the region at the word q gives `out`, the word of one that does not.
 #[cycle(require_cover_region_require_cover_state)]
 pub fn require_cover_region(
     drawing: &Drawing,
@@ -203,21 +203,21 @@ pub fn require_cover_region(
     out: usize,
     levels: usize,
     q: usize,
-) -> usize
+) -> Option<usize>
     requires { AssignsSound drawing.now.pack.bytes.now drawing.now.pack.names drawing.now.memo.now hints.old }
     ensures value { (ns : List Name) → length ns ≡ drawing.now.pack.names → result ≡ uncovered_t ns drawing.now.pack.bytes.now layout.now out levels q }
     ensures assigns_sound { AssignsSound drawing.now.pack.bytes.now drawing.now.pack.names drawing.now.memo.now hints.new }
 {
     if levels == 0 {
-        return 0;
+        return None;
     }
     let mut p = first(layout, q);
     for _ in 0..layout_word(layout, q, 6) {
         let m = require_cover_state(drawing, layout, hints, out, levels - 1, p);
-        if m != 0 {
+        if m.is_some() {
             return m;
         }
         p = layout_word(layout, p, 4);
     }
-    0
+    None
 }

@@ -99,9 +99,8 @@ fn contains_marked(
     false
 }
 
-// Where the first name stands that stood before; the table's length where there is none. The marks of names are kept, as many as
-// there is room for.
-fn first_duplicate(t: &[u8], lows: &mut [u32], highs: &mut [u32]) -> usize
+// Where the first name stands that stood before. The marks of names are kept, as many as there is room for.
+fn first_duplicate(t: &[u8], lows: &mut [u32], highs: &mut [u32]) -> Option<usize>
     ensures { result ≡ duplicate_at t.now }
 {
     let mut at = 0;
@@ -112,18 +111,18 @@ fn first_duplicate(t: &[u8], lows: &mut [u32], highs: &mut [u32]) -> usize
         let e = capped(t.len(), b, l);
         let m = fingerprint_of(&t[b..e]);
         if contains_marked(&t[..at], &t[b..e], lows, highs, k, m) {
-            return at;
+            return Some(at);
         }
         put_half(lows, k, m.low);
         put_half(highs, k, m.high);
         at = e;
         k += 1;
     }
-    at
+    None
 }
 
 // The same in the first `end` bytes of a buffer.
-pub fn duplicate_name(qualified: &[u8], end: usize) -> usize
+pub fn duplicate_name(qualified: &[u8], end: usize) -> Option<usize>
     ensures { result ≡ duplicate_at (take end qualified.now) }
 {
     let e = end.min(qualified.len());

@@ -6,7 +6,7 @@
 //   rows       by a region's id the word of its row
 //   qualified  the full names of states one after the other: a length byte, then the letters
 // Of regions without states, which are refused in the end, only the first is laid out.
-ghost use Rattle.std.specs.Prelude.{◌≡◌, ◌+◌, ◌-◌, ◌<◌, ◌≤◌, suc, ℕ, get_or, length, set, List, cond, true, eqb};
+ghost use Rattle.std.specs.Prelude.{◌≡◌, ◌+◌, ◌-◌, ◌<◌, ◌≤◌, suc, ℕ, get_or, length, set, List, cond, true};
 ghost use Rattle.machines.specs.LayoutAt.{board, close_state, entered_of, fits_at, layout_machine, layout_region, layout_state, layout_t as laid, machine_as, moved_to, open_region, open_state, prefix_len, qualified_at, qualified_len, region_from, region_words, state_ends, state_words, sum as sum_of, tally as tally_of, under, values};
 ghost use Rattle.std.proofs.lemmas.List.Edits.{sets};
 ghost use Rattle.machines.specs.Tables.{len_of};
@@ -128,6 +128,8 @@ fn put_name(pack: &[u8], offsets: &[u16], i: usize, qualified: &mut [u8], at: us
 }
 
 // The full name of the name i: a prefix, m letters from a on and `_`, where m is not 0; then the name. How many letters it has.
+// Not inlined: what its loops hold would stand on the stack once for each level of regions.
+#[inline(never)]
 pub fn qualify(
     pack: &[u8],
     offsets: &[u16],
@@ -509,13 +511,6 @@ pub fn inner(layout: &[usize], p: usize) -> usize
     ensures { 0 < get_or layout.now (p + 5) 0 → result ≡ p + 6 }
 {
     if p < layout.len() { p + 6 } else { 0 }
-}
-
-// Whether two numbers are one.
-pub fn is(a: usize, b: usize) -> bool
-    ensures { result ≡ eqb a b }
-{
-    a == b
 }
 
 // n bytes from a on.

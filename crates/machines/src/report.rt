@@ -16,7 +16,7 @@ use crate::checked_read::number;
 use crate::drawing::NameTables;
 use crate::layout::{pack_name, part};
 use crate::table::entry;
-use crate::verdicts::{NameRef, VerdictRow, judge, named, no_name, refused};
+use crate::verdicts::{NameRef, Refusal, VerdictRow, judge};
 use pack::record::Pack;
 use wire::writer::append;
 
@@ -173,7 +173,7 @@ fn refusal_of(
     defs: &[usize],
     regcounts: &[usize],
     i: usize,
-) -> VerdictRow
+) -> Result<usize, Refusal>
     ensures value { (ns : List Name) → length ns ≡ tables.now.drawing.pack.names → result ≡ refusal_t ns tables.now.drawing.pack.bytes.now tables.now.offsets.now tables.now.machines.now defs.now regcounts.now i layout.old rows.old qualified.old }
     ensures qualified_after { (ns : List Name) → length ns ≡ tables.now.drawing.pack.names → qualified.new ≡ letters_t ns tables.now.drawing.pack.bytes.now tables.now.offsets.now tables.now.machines.now defs.now regcounts.now i layout.old rows.old qualified.old }
 {
@@ -184,7 +184,7 @@ fn refusal_of(
     }
     let m = number(tables.drawing.pack.bytes, at);
     let o = number(tables.drawing.pack.bytes, m.next);
-    refused(VerdictRow::UNKNOWN_OWNER, named(o.value), no_name())
+    Err(Refusal::UnknownOwner(o.value))
 }
 
 // How many bytes its entry takes: none where it is not refused.
@@ -208,13 +208,16 @@ fn refusal_len(
     let at = entry(defs, i);
     let m = number(tables.drawing.pack.bytes, at);
     let j = refusal_of(tables, layout, rows, qualified, defs, regcounts, i);
-    entry_len(
-        tables.drawing.pack.bytes,
-        tables.offsets,
-        qualified,
-        m.value,
-        j,
-    )
+    match j {
+        Ok(_) => 0,
+        Err(r) => entry_len(
+            tables.drawing.pack.bytes,
+            tables.offsets,
+            qualified,
+            m.value,
+            r.row(),
+        ),
+    }
 }
 
 // How many bytes the report of the first n machines takes.
@@ -263,15 +266,18 @@ fn put_refusal(
     let p = entry(defs, i);
     let m = number(tables.drawing.pack.bytes, p);
     let j = refusal_of(tables, layout, rows, qualified, defs, regcounts, i);
-    put_entry(
-        tables.drawing.pack.bytes,
-        tables.offsets,
-        qualified,
-        m.value,
-        j,
-        report,
-        at,
-    )
+    match j {
+        Ok(_) => at,
+        Err(r) => put_entry(
+            tables.drawing.pack.bytes,
+            tables.offsets,
+            qualified,
+            m.value,
+            r.row(),
+            report,
+            at,
+        ),
+    }
 }
 
 // The report of the first n machines, of which so many are refused.

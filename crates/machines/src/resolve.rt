@@ -4,7 +4,7 @@
 //   read_state_head, state_head    a state's longest name and where its regions are, read, or looked up in `memo`
 //   EmptyRegions, SkippedRegions   regions without states that follow one another, passed in one step
 //   resolve_machine                the walk: where it ended, or why it stopped (`Resolved`)
-ghost use Rattle.std.specs.Prelude.{◌≡◌, ◌||◌, eqb, List, ◌<◌, length};
+ghost use Rattle.std.specs.Prelude.{◌≡◌, List, ◌<◌, length};
 ghost use Rattle.machines.specs.RefineStack.{on_of, pushed_of, start_of};
 ghost use Rattle.pack_rules.specs.Names.{Name};
 ghost use Rattle.machines.specs.ResolveAt.{enter_w, head_t, len_at, machine_w, qualify_of, state_w, target_t, walk as walk_in};
@@ -27,67 +27,36 @@ use wire::number::WORD_RANGE;
 // Name indexes, the machine entered last first; `Pack::ABSENT` where there is none.
 #[derive(Clone, Copy)]
 pub struct RefineStack {
-    pub a: usize,
-    pub b: usize,
-    pub c: usize,
-    pub d: usize,
-    pub e: usize,
-    pub f: usize,
-    pub g: usize,
-    pub h: usize,
+    pub names: [usize; Pack::LEVELS],
 }
 
 // The path with nothing but the top machine m.
+#[tactic(auto, unfolding(crate::specs::RefineStack::start_of))]
 pub fn start_stack(m: usize) -> RefineStack
     ensures { result ≡ start_of m }
 {
-    RefineStack {
-        a: m,
-        b: Pack::ABSENT,
-        c: Pack::ABSENT,
-        d: Pack::ABSENT,
-        e: Pack::ABSENT,
-        f: Pack::ABSENT,
-        g: Pack::ABSENT,
-        h: Pack::ABSENT,
-    }
+    let mut names = [Pack::ABSENT; Pack::LEVELS];
+    names[0] = m;
+    RefineStack { names }
 }
 
 // The machine m is entered.
-pub fn push(p: RefineStack, m: usize) -> RefineStack
-    ensures { result ≡ pushed_of p m }
+#[tactic(auto, unfolding(crate::specs::RefineStack::pushed_of))]
+pub fn push(p: &RefineStack, m: usize) -> RefineStack
+    ensures { result ≡ pushed_of p.now m }
 {
-    RefineStack {
-        a: m,
-        b: p.a,
-        c: p.b,
-        d: p.c,
-        e: p.d,
-        f: p.e,
-        g: p.f,
-        h: p.g,
-    }
-}
-
-// Whether m is a, or the rest says so.
-fn same_or(m: usize, a: usize, rest: bool) -> bool
-    ensures { result ≡ (eqb m a || rest) }
-{
-    if m == a { true } else { rest }
+    let mut names = p.names;
+    names.copy_within(..Pack::LEVELS - 1, 1);
+    names[0] = m;
+    RefineStack { names }
 }
 
 // Whether the machine m is on the path.
-pub fn contains(p: RefineStack, m: usize) -> bool
-    ensures { result ≡ on_of p m }
+#[tactic(auto, unfolding(crate::specs::RefineStack::on_of))]
+pub fn contains(p: &RefineStack, m: usize) -> bool
+    ensures { result ≡ on_of p.now m }
 {
-    let h = same_or(m, p.h, false);
-    let g = same_or(m, p.g, h);
-    let f = same_or(m, p.f, g);
-    let e = same_or(m, p.e, f);
-    let d = same_or(m, p.d, e);
-    let c = same_or(m, p.c, d);
-    let b = same_or(m, p.b, c);
-    same_or(m, p.a, b)
+    p.names.contains(&m)
 }
 
 // --- What resolving needs of a state's head: its longest name, and where its regions are.
@@ -260,11 +229,11 @@ fn refinement(
     pack: &[u8],
     offsets: &[u16],
     machines: &[u16],
-    p: RefineStack,
+    p: &RefineStack,
     i: usize,
     m: usize,
 ) -> Resolved
-    ensures { result ≡ enter_w pack.now offsets.now machines.now p i m }
+    ensures { result ≡ enter_w pack.now offsets.now machines.now p.now i m }
 {
     if contains(p, m) {
         return Resolved::Cycle(m);
@@ -295,11 +264,11 @@ fn qualified_len(i: usize, w: usize, a: usize, next: usize, states: usize) -> Re
 fn resolve_state(
     tables: &NameTables,
     levels: usize,
-    p: RefineStack,
+    p: &RefineStack,
     at: usize,
     count: usize,
 ) -> Resolved
-    ensures { (ns : List Name) → length ns ≡ tables.now.drawing.pack.names → result ≡ state_w ns tables.now.drawing.pack.bytes.now tables.now.offsets.now tables.now.machines.now (walk_in ns tables.now.drawing.pack.bytes.now tables.now.offsets.now tables.now.machines.now levels) p at count }
+    ensures { (ns : List Name) → length ns ≡ tables.now.drawing.pack.names → result ≡ state_w ns tables.now.drawing.pack.bytes.now tables.now.offsets.now tables.now.machines.now (walk_in ns tables.now.drawing.pack.bytes.now tables.now.offsets.now tables.now.machines.now levels) p.now at count }
 {
     if Pack::STATES <= count {
         return Resolved::Large;
@@ -345,7 +314,7 @@ fn resolve_state(
         return d;
     };
     let q = push(p, f.value);
-    let y = resolve_states(tables, levels, q, k, b, c);
+    let y = resolve_states(tables, levels, &q, k, b, c);
     let Resolved::Went(_, j, w) = y else {
         return y;
     };
@@ -363,12 +332,12 @@ fn resolve_state(
 fn resolve_states(
     tables: &NameTables,
     levels: usize,
-    p: RefineStack,
+    p: &RefineStack,
     count: usize,
     at: usize,
     done: usize,
 ) -> Resolved
-    ensures { (ns : List Name) → length ns ≡ tables.now.drawing.pack.names → result ≡ walk_in ns tables.now.drawing.pack.bytes.now tables.now.offsets.now tables.now.machines.now levels p count at done }
+    ensures { (ns : List Name) → length ns ≡ tables.now.drawing.pack.names → result ≡ walk_in ns tables.now.drawing.pack.bytes.now tables.now.offsets.now tables.now.machines.now levels p.now count at done }
 {
     if levels == 0 {
         return Resolved::Large;
@@ -393,5 +362,5 @@ pub fn resolve_machine(tables: &NameTables, m: usize, at: usize) -> Resolved
     ensures { (ns : List Name) → length ns ≡ tables.now.drawing.pack.names → result ≡ machine_w ns tables.now.drawing.pack.bytes.now tables.now.offsets.now tables.now.machines.now m at }
 {
     let k = machine(tables.drawing.pack.bytes, at);
-    resolve_states(tables, Pack::LEVELS, start_stack(m), k.value, k.next, 0)
+    resolve_states(tables, Pack::LEVELS, &start_stack(m), k.value, k.next, 0)
 }

@@ -4,7 +4,7 @@
 // those of that region, which is tested, its transitions are not looked at again (`TargetMemo`).
 ghost use Rattle.std.specs.Prelude.{List, ◌≡◌, ◌+◌, get_or, length, IfSome};
 ghost use Rattle.pack_rules.specs.Names.{Name};
-ghost use Rattle.machines.specs.ValidateAt.{AllRecalled, Has, OneRecalled, checked_region, checked_state, has_t, is_state_t, onward as onward_of, recall_t as foretold_of, row_drawn, rows_drawn, targets_t, unknown};
+ghost use Rattle.machines.specs.ValidateAt.{AllRecalled, Has, OneRecalled, checked_region, checked_state, has_t, is_state_t, onward as onward_of, recall_t as foretold_of, row_drawn, rows_drawn, targets_t};
 
 use crate::checked_read::number;
 use crate::drawing::Drawing;
@@ -15,11 +15,10 @@ use crate::table::entry;
 // --- What is known of the targets of a region's states before they are looked at: `memo` has of a drawn region which state is the
 // first with an unknown target.
 
-// What is known of the targets of a region's states from one on: the next `fine` ones have none that is wrong, the one after
-// them has one, with this name. Where nothing is known, this says nothing.
+// What may be known of the targets of a region's states from one on: the next `fine` ones have none that is wrong, the one after
+// them has one, with this name.
 #[derive(Clone, Copy)]
 pub struct TargetMemo {
-    pub known: bool,
     pub fine: usize,
     pub name: usize,
 }
@@ -47,54 +46,43 @@ fn rows_drawn(drawing: &Drawing, layout: &[usize], count: usize, from: usize, f:
     true
 }
 
-// Where nothing is known.
-fn empty_memo() -> TargetMemo
-    ensures { result ≡ unknown }
-{
-    TargetMemo {
-        known: false,
-        fine: 0,
-        name: 0,
-    }
-}
-
 // What is kept of the states of the region at the word q, where they are those of a drawn region.
-pub fn recall_targets(drawing: &Drawing, layout: &[usize], q: usize) -> TargetMemo
+pub fn recall_targets(drawing: &Drawing, layout: &[usize], q: usize) -> Option<TargetMemo>
     ensures { AllRecalled drawing.now.pack.bytes.now drawing.now.pack.names layout.now result q (get_or layout.now (q + 6) 0) (q + 9) }
 {
     let n = layout_word(layout, q, 6);
     let p = first(layout, q);
     let f = entry(layout, p);
     if f < 5 {
-        return empty_memo();
+        return None;
     }
     let x = memo_at(drawing.memo, f - 5, UNKNOWN_TARGET);
     if x == 0 {
-        return empty_memo();
+        return None;
     }
     let c = number(drawing.pack.bytes, f - 2);
-    if c.value == n {
-        return TargetMemo {
-            known: rows_drawn(drawing, layout, n, p, f),
+    if c.value == n && rows_drawn(drawing, layout, n, p, f) {
+        return Some(TargetMemo {
             fine: memo_beside(drawing.memo, f - 5),
             name: x - 1,
-        };
+        });
     }
-    empty_memo()
+    None
 }
 
 // What is known of the states after one.
-pub fn onward(v: TargetMemo) -> TargetMemo
+#[tactic(auto, unfolding(crate::specs::ValidateAt::onward))]
+pub fn onward(v: Option<TargetMemo>) -> Option<TargetMemo>
     ensures { result ≡ onward_of v }
 {
-    if v.fine == 0 {
-        return empty_memo();
+    let m = v?;
+    if m.fine == 0 {
+        return None;
     }
-    TargetMemo {
-        known: v.known,
-        fine: v.fine - 1,
-        name: v.name,
-    }
+    Some(TargetMemo {
+        fine: m.fine - 1,
+        ..m
+    })
 }
 
 // What checking came to: nothing wrong, a region (by its word) whose initial state is not among its states,
@@ -168,6 +156,7 @@ fn check_targets(drawing: &Drawing, layout: &[usize], q: usize, p: usize) -> Che
 }
 
 // What is known of the state at the word p, in the region at the word q.
+#[tactic(auto, unfolding(crate::specs::ValidateAt::recall_t))]
 fn recall(v: TargetMemo, q: usize, p: usize) -> Checked
     ensures { result ≡ foretold_of v q p }
 {
@@ -185,17 +174,17 @@ fn recall(v: TargetMemo, q: usize, p: usize) -> Checked
 fn check_transitions(
     drawing: &Drawing,
     layout: &[usize],
-    v: TargetMemo,
+    v: Option<TargetMemo>,
     q: usize,
     p: usize,
 ) -> Checked
     requires { OneRecalled drawing.now.pack.bytes.now drawing.now.pack.names layout.now v q p }
     ensures { (ns : List Name) → length ns ≡ drawing.now.pack.names → result ≡ targets_t ns drawing.now.pack.bytes.now layout.now q p }
 {
-    if v.known {
-        return recall(v, q, p);
+    match v {
+        Some(m) => recall(m, q, p),
+        None => check_targets(drawing, layout, q, p),
     }
-    check_targets(drawing, layout, q, p)
 }
 
 // A state: its targets, then its regions.
@@ -204,7 +193,7 @@ fn validate_state(
     drawing: &Drawing,
     layout: &[usize],
     levels: usize,
-    v: TargetMemo,
+    v: Option<TargetMemo>,
     q: usize,
     p: usize,
 ) -> Checked

@@ -17,8 +17,8 @@ use crate::table::entry;
 use pack::record::Pack;
 use wire::writer::{Writer, put_bytes, put_u16};
 
-// Where the right side stands of the first equation of the state at `at` that has x as its only left name; 0 where there is none.
-fn own_rhs(drawing: &Drawing, x: usize, at: usize) -> usize
+// Where the right side stands of the first equation of the state at `at` that has x as its only left name.
+fn own_rhs(drawing: &Drawing, x: usize, at: usize) -> Option<usize>
     ensures { (ns : List Name) → length ns ≡ drawing.now.pack.names → result ≡ side_t ns drawing.now.pack.bytes.now x at }
 {
     let i = number(drawing.pack.bytes, at);
@@ -28,11 +28,11 @@ fn own_rhs(drawing: &Drawing, x: usize, at: usize) -> usize
         let k = number(drawing.pack.bytes, p);
         let l = number(drawing.pack.bytes, k.next);
         if k.value == 1 && l.value == x {
-            return l.next;
+            return Some(l.next);
         }
         p = drawing.end_of(p);
     }
-    0
+    None
 }
 
 // That right side of the state at the word p.
@@ -46,12 +46,21 @@ fn put_own(
 ) -> Writer
     ensures { (ns : List Name) → length ns ≡ drawing.now.pack.names → (m : List ℕ) → state_of out.new m result ≡ puts (side_bytes ns drawing.now.pack.bytes.now x (get_or layout.now p 0)) (state_of out.old m writer) }
 {
-    let a = own_rhs(drawing, x, entry(layout, p));
-    let e = after_expr(drawing.pack.bytes, drawing.pack.names, a);
-    put_bytes(between(drawing.pack.bytes, a, e), out, writer)
+    match own_rhs(drawing, x, entry(layout, p)) {
+        None => writer,
+        Some(a) => put_bytes(
+            between(
+                drawing.pack.bytes,
+                a,
+                after_expr(drawing.pack.bytes, drawing.pack.names, a),
+            ),
+            out,
+            writer,
+        ),
+    }
 }
 
-// The first region of the state at the word p that gives x in all its states; 0 where there is none.
+// The first region of the state at the word p that gives x in all its states.
 fn entered(
     drawing: &Drawing,
     layout: &[usize],
@@ -59,7 +68,7 @@ fn entered(
     x: usize,
     levels: usize,
     p: usize,
-) -> usize
+) -> Option<usize>
     requires { AssignsSound drawing.now.pack.bytes.now drawing.now.pack.names drawing.now.memo.now hints.old }
     ensures value { (ns : List Name) → length ns ≡ drawing.now.pack.names → result ≡ entered_t layout.now (uncovered_t ns drawing.now.pack.bytes.now layout.now x levels) p }
     ensures assigns_sound { AssignsSound drawing.now.pack.bytes.now drawing.now.pack.names drawing.now.memo.now hints.new }
@@ -67,12 +76,12 @@ fn entered(
     let mut g = inner(layout, p);
     for _ in 0..layout_word(layout, p, 5) {
         let m = require_cover_region(drawing, layout, hints, x, levels, g);
-        if m == 0 {
-            return g;
+        if m.is_none() {
+            return Some(g);
         }
         g = layout_word(layout, g, 4);
     }
-    0
+    None
 }
 
 // The value of x in the state at the word p.
@@ -94,13 +103,12 @@ fn value_in_state(
     ensures result_after { (ns : List Name) → length ns ≡ drawing.now.pack.names → state_of out.new made.new result ≡ render old.now (in_state_t drawing.now.pack.bytes.now layout.now qualified.now ns x (value_t drawing.now.pack.bytes.now layout.now qualified.now ns x levels) (uncovered_t ns drawing.now.pack.bytes.now layout.now x levels) p) (state_of out.old made.old writer) }
     ensures assigns_sound { AssignsSound drawing.now.pack.bytes.now drawing.now.pack.names drawing.now.memo.now hints.new }
 {
-    let g = entered(drawing, layout, hints, x, levels, p);
-    if g == 0 {
-        return put_own(drawing, layout, x, p, out, writer);
+    match entered(drawing, layout, hints, x, levels, p) {
+        None => put_own(drawing, layout, x, p, out, writer),
+        Some(g) => value_of(
+            old, drawing, layout, qualified, hints, x, levels, g, out, made, writer,
+        ),
     }
-    value_of(
-        old, drawing, layout, qualified, hints, x, levels, g, out, made, writer,
-    )
 }
 
 // The value of x by the states of the region at the word q; the last has no test.

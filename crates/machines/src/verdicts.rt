@@ -4,13 +4,13 @@
 //   regions            UnknownInitialState, UnknownTarget (`validate`)
 //   outputs            OutputUnassigned (`cover`)
 // Of all machines two tables are kept: `defs`, where each is drawn, and `regcounts`, how many regions it has, 0 where it is refused. A
-// refusal (`VerdictRow`) is not kept: the report judges the machine again.
+// refusal (`Refusal`) is not kept: the report judges the machine again.
 ghost use Rattle.std.specs.Prelude.{List, ◌≡◌, ◌<◌, ℕ, length};
 ghost use Rattle.pack_rules.specs.Names.{Name};
 ghost use Rattle.pack_rules.specs.Limits.{max_level};
 ghost use Rattle.machines.specs.CoverAt.{uncovered_t};
 ghost use Rattle.machines.specs.AssignsMemo.{AssignmentSound, AssignsSound};
-ghost use Rattle.machines.specs.VerdictAt.{again_called, board_at, called_at, checked_j, judge_at, laid_j, named as named_of, no_name, outputs_j, refused_by, state_called};
+ghost use Rattle.machines.specs.VerdictAt.{again_called, board_at, called_at, checked_j, judge_at, laid_j, named as named_of, no_name, outputs_j, refused_by, row_of, state_called};
 ghost use Rattle.machines.specs.EmitMachineAt.{Long};
 ghost use Rattle.machines.specs.OwnersAt.{HasRegions, fill_t, machine_end, nth};
 
@@ -25,7 +25,7 @@ use crate::validate::{Checked, validate_region};
 use pack::cells::{byte_at, set_byte};
 use pack::record::Pack;
 
-// --- A machine that was judged.
+// --- What is judged of a machine: how many regions it has, or why it is refused.
 
 // A name in a refusal: `letters` letters of the layout from `letter` on; or the pack's name, in a region whose names
 // have these letters and `_` in front. The name is `Pack::ABSENT` where there is none.
@@ -36,37 +36,45 @@ pub struct NameRef {
     pub name: usize,
 }
 
-// What is judged of a machine: accepted (kind 0) with so many regions; or refused, with the names after the machine's
-// own. A name of no letters is none.
+// What the report's entry says of a refusal: its kind, and the names after the machine's own. A name of no letters is none.
 #[derive(Clone, Copy)]
 pub struct VerdictRow {
     pub kind: usize,
-    pub regions: usize,
     pub second: NameRef,
     pub third: NameRef,
 }
 
-// The kinds: accepted, and of refusals as the report numbers them.
-impl VerdictRow {
-    pub const ACCEPTED: usize = 0;
+// Why a machine is refused. Names of the pack are known by their indexes.
+#[derive(Clone, Copy)]
+pub enum Refusal {
+    NoStates,
+    UnknownInitialState(NameRef),
+    UnknownTarget { state: NameRef, target: NameRef },
+    OutputUnassigned { output: usize, state: NameRef },
+    DuplicateState(NameRef),
+    UnknownRefine { state: usize, machine: usize },
+    RefineCycle(usize),
+    UnknownOwner(usize),
+    TooLarge,
+}
 
-    pub const NO_STATES: usize = 1;
-
-    pub const UNKNOWN_INITIAL_STATE: usize = 2;
-
-    pub const UNKNOWN_TARGET: usize = 3;
-
-    pub const OUTPUT_UNASSIGNED: usize = 4;
-
-    pub const DUPLICATE_STATE: usize = 5;
-
-    pub const UNKNOWN_REFINE: usize = 6;
-
-    pub const REFINE_CYCLE: usize = 7;
-
-    pub const UNKNOWN_OWNER: usize = 8;
-
-    pub const TOO_LARGE: usize = 17;
+impl Refusal {
+    // Its entry, under the report's number for its kind.
+    pub fn row(self) -> VerdictRow
+        ensures { result ≡ row_of self }
+    {
+        match self {
+            Refusal::NoStates => refused(1, no_name(), no_name()),
+            Refusal::UnknownInitialState(name) => refused(2, name, no_name()),
+            Refusal::UnknownTarget { state, target } => refused(3, state, target),
+            Refusal::OutputUnassigned { output, state } => refused(4, named(output), state),
+            Refusal::DuplicateState(name) => refused(5, name, no_name()),
+            Refusal::UnknownRefine { state, machine } => refused(6, named(state), named(machine)),
+            Refusal::RefineCycle(machine) => refused(7, named(machine), no_name()),
+            Refusal::UnknownOwner(owner) => refused(8, named(owner), no_name()),
+            Refusal::TooLarge => refused(17, no_name(), no_name()),
+        }
+    }
 }
 
 // --- Whether a machine is accepted, or why it is refused: resolving, then its states' names, initial states and targets,
@@ -94,13 +102,12 @@ pub fn named(x: usize) -> NameRef
     }
 }
 
-// A refused machine, with the names after its own.
+// The entry of a refusal of this kind, with these names after the machine's own.
 pub fn refused(kind: usize, second: NameRef, third: NameRef) -> VerdictRow
     ensures { result ≡ refused_by kind second third }
 {
     VerdictRow {
         kind,
-        regions: 0,
         second,
         third,
     }
@@ -143,7 +150,7 @@ fn again_called(qualified: &[u8], d: usize) -> NameRef
     }
 }
 
-// 0 where each state gives the output x, else the word of a state that does not. Where an output was asked for and is given, it need
+// Where not each state gives the output x, the word of one that does not. Where an output was asked for and is given, it need
 // not be asked for again: a machine may have it thousands of times.
 fn uncovered_output(
     drawing: &Drawing,
@@ -151,21 +158,21 @@ fn uncovered_output(
     hints: &mut [u16],
     given: &mut [u8],
     x: usize,
-) -> usize
+) -> Option<usize>
     requires { AssignsSound drawing.now.pack.bytes.now drawing.now.pack.names drawing.now.memo.now hints.old × AssignmentSound drawing.now.pack.bytes.now drawing.now.pack.names layout.now given.old }
     ensures value { (ns : List Name) → length ns ≡ drawing.now.pack.names → result ≡ uncovered_t ns drawing.now.pack.bytes.now layout.now x max_level 0 }
     ensures assigns_sound { AssignsSound drawing.now.pack.bytes.now drawing.now.pack.names drawing.now.memo.now hints.new }
     ensures assignment_sound { AssignmentSound drawing.now.pack.bytes.now drawing.now.pack.names layout.now given.new }
 {
     if 0 < byte_at(given, x) {
-        return 0;
+        return None;
     }
     let m = require_cover_region(drawing, layout, hints, x, Pack::LEVELS, 0);
-    if m != 0 {
+    if m.is_some() {
         return m;
     }
     set_byte(given, x, 1);
-    0
+    None
 }
 
 // The outputs of a machine that is laid out, `count` from the offset `from` on: the first that a state does not give. What drawn
@@ -177,7 +184,7 @@ fn judge_outputs(
     count: usize,
     from: usize,
     regions: usize,
-) -> VerdictRow
+) -> Result<usize, Refusal>
     ensures { (ns : List Name) → length ns ≡ drawing.now.pack.names → result ≡ outputs_j ns drawing.now.pack.bytes.now layout.now regions count from }
 {
     let mut told = [0u16; ASSIGNS_MEMO];
@@ -186,21 +193,15 @@ fn judge_outputs(
     for _ in 0..count {
         let x = number(drawing.pack.bytes, p);
         let m = uncovered_output(drawing, layout, &mut told, &mut given, x.value);
-        if m != 0 {
-            return refused(
-                VerdictRow::OUTPUT_UNASSIGNED,
-                named(x.value),
-                state_called(layout, m),
-            );
+        if let Some(p) = m {
+            return Err(Refusal::OutputUnassigned {
+                output: x.value,
+                state: state_called(layout, p),
+            });
         }
         p = after_port(drawing.pack.bytes, drawing.pack.names, p);
     }
-    VerdictRow {
-        kind: VerdictRow::ACCEPTED,
-        regions,
-        second: no_name(),
-        third: no_name(),
-    }
+    Ok(regions)
 }
 
 // What checking came to, and then the outputs, whose count stands at `outputs`.
@@ -210,7 +211,7 @@ fn judge_checked(
     c: Checked,
     outputs: usize,
     regions: usize,
-) -> VerdictRow
+) -> Result<usize, Refusal>
     ensures { (ns : List Name) → length ns ≡ drawing.now.pack.names → result ≡ checked_j ns drawing.now.pack.bytes.now layout.now c outputs regions }
 {
     match c {
@@ -218,20 +219,19 @@ fn judge_checked(
             let k = number(drawing.pack.bytes, outputs);
             judge_outputs(drawing, layout, k.value, k.next, regions)
         }
-        Checked::Initial(q) => refused(
-            VerdictRow::UNKNOWN_INITIAL_STATE,
-            called_in(layout, q, entry(layout, q)),
-            no_name(),
-        ),
+        Checked::Initial(q) => Err(Refusal::UnknownInitialState(called_in(
+            layout,
+            q,
+            entry(layout, q),
+        ))),
         Checked::Target {
             state,
             region,
             name,
-        } => refused(
-            VerdictRow::UNKNOWN_TARGET,
-            state_called(layout, state),
-            called_in(layout, region, name),
-        ),
+        } => Err(Refusal::UnknownTarget {
+            state: state_called(layout, state),
+            target: called_in(layout, region, name),
+        }),
     }
 }
 
@@ -243,32 +243,27 @@ fn judge_laid(
     letters: usize,
     regions: usize,
     outputs: usize,
-) -> VerdictRow
+) -> Result<usize, Refusal>
     ensures { (ns : List Name) → length ns ≡ drawing.now.pack.names → result ≡ laid_j ns drawing.now.pack.bytes.now layout.now qualified.now letters regions outputs }
 {
     if entry(layout, 6) == 0 {
-        return refused(VerdictRow::NO_STATES, no_name(), no_name());
+        return Err(Refusal::NoStates);
     }
-    let d = duplicate_name(qualified, letters);
-    if d < letters {
-        return refused(
-            VerdictRow::DUPLICATE_STATE,
-            again_called(qualified, d),
-            no_name(),
-        );
+    if let Some(d) = duplicate_name(qualified, letters) {
+        return Err(Refusal::DuplicateState(again_called(qualified, d)));
     }
     let c = validate_region(drawing, layout, Pack::LEVELS, 0);
     judge_checked(drawing, layout, c, outputs, regions)
 }
 
-// The machine at the offset `at`. Where it resolves, it is then laid out in the tables.
+// How many regions the machine at the offset `at` has, or why it is refused. Where it resolves, it is then laid out in the tables.
 pub fn judge(
     tables: &NameTables,
     layout: &mut [usize],
     rows: &mut [usize],
     qualified: &mut [u8],
     at: usize,
-) -> VerdictRow
+) -> Result<usize, Refusal>
     ensures value { (ns : List Name) → length ns ≡ tables.now.drawing.pack.names → result ≡ judge_at ns tables.now.drawing.pack.bytes.now tables.now.offsets.now tables.now.machines.now at layout.old rows.old qualified.old }
     ensures qualified_after { (ns : List Name) → length ns ≡ tables.now.drawing.pack.names → qualified.new ≡ (board_at ns tables.now.drawing.pack.bytes.now tables.now.offsets.now tables.now.machines.now at layout.old rows.old qualified.old).qualified }
 {
@@ -276,13 +271,12 @@ pub fn judge(
     let i = to_initial(&tables.drawing.pack, m.next);
     let w = resolve_machine(tables, m.value, i);
     match w {
-        Resolved::Cycle(n) => refused(VerdictRow::REFINE_CYCLE, named(n), no_name()),
-        Resolved::Unknown { state, name } => refused(
-            VerdictRow::UNKNOWN_REFINE,
-            named(state),
-            named(name),
-        ),
-        Resolved::Large => refused(VerdictRow::TOO_LARGE, no_name(), no_name()),
+        Resolved::Cycle(n) => Err(Refusal::RefineCycle(n)),
+        Resolved::Unknown { state, name } => Err(Refusal::UnknownRefine {
+            state,
+            machine: name,
+        }),
+        Resolved::Large => Err(Refusal::TooLarge),
         Resolved::Went(_, _, _) => {
             let l = layout_machine(
                 &tables.drawing,
@@ -327,7 +321,7 @@ pub fn judge_all(
     for i in 0..count {
         let j = judge(tables, layout, rows, qualified, p);
         put(defs, i, p);
-        put(regcounts, i, j.regions);
+        put(regcounts, i, j.unwrap_or(0));
         p = after_machine(&tables.drawing, p);
     }
 }

@@ -1,3 +1,4 @@
+use Rattle.std.specs.Prelude.{None}
 use Prim.Native.Nat.{◌+◌, ◌-◌}
 use mathlib.Core.List.{List}
 use mathlib.Core.Path.{◌≡◌}
@@ -17,4 +18,4 @@ abbrev pub invariant-require_cover_region-loop : goal.invariant-require_cover_re
 invariant-require_cover_region-loop l = ((ns : List Name) → length ns ≡ l.drawing.pack.names → first_miss l.layout (miss_t ns l.drawing.pack.bytes.now l.layout l.out (uncovered_t ns l.drawing.pack.bytes.now l.layout l.out (l.levels - 1))) (l.end - l.counter) l.p ≡ first_miss l.layout (miss_t ns l.drawing.pack.bytes.now l.layout l.out (uncovered_t ns l.drawing.pack.bytes.now l.layout l.out (l.levels - 1))) l.end l.initial.p) × AssignsSound l.drawing.pack.bytes.now l.drawing.pack.names l.drawing.memo.now l.hints
 
 abbrev pub invariant-require_cover_state-loop : goal.invariant-require_cover_state-loop
-invariant-require_cover_state-loop l = ((ns : List Name) → length ns ≡ l.drawing.pack.names → all_miss l.layout (uncovered_t ns l.drawing.pack.bytes.now l.layout l.out l.levels) (l.n - l.counter) l.g l.miss ≡ all_miss l.layout (uncovered_t ns l.drawing.pack.bytes.now l.layout l.out l.levels) l.n l.initial.g 0) × AssignsSound l.drawing.pack.bytes.now l.drawing.pack.names l.drawing.memo.now l.hints
+invariant-require_cover_state-loop l = ((ns : List Name) → length ns ≡ l.drawing.pack.names → all_miss l.layout (uncovered_t ns l.drawing.pack.bytes.now l.layout l.out l.levels) (l.n - l.counter) l.g l.miss ≡ all_miss l.layout (uncovered_t ns l.drawing.pack.bytes.now l.layout l.out l.levels) l.n l.initial.g None) × AssignsSound l.drawing.pack.bytes.now l.drawing.pack.names l.drawing.memo.now l.hints

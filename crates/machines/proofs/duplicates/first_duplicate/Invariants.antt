@@ -7,7 +7,7 @@ use Rattle.machines.proofs.FingerprintLaws.{Kept}
 use Rattle.machines.proofs.duplicates.first_duplicate.Given as goal
 
 abbrev pub invariant-loop-at : goal.invariant-loop-at
-invariant-loop-at l = (l.at ≤ length l.t) × (l.k ≤ l.at) × (first_again (length l.t - l.at) l.t l.at ≡ duplicate_at l.t) × Kept low_of l.t l.at l.k l.lows × Kept high_of l.t l.at l.k l.highs × (length l.lows ≡ length l.initial.lows) × (length l.highs ≡ length l.initial.highs)
+invariant-loop-at l = (l.at ≤ length l.t) × (l.k ≤ l.at) × (first_again (length l.t - l.at) l.t l.at ≡ duplicate_at l.t) × Kept low_of l.t l.at l.k l.lows × Kept high_of l.t l.at l.k l.highs
 
 abbrev pub decreases-loop-at : goal.decreases-loop-at
 decreases-loop-at l = length l.t - l.at

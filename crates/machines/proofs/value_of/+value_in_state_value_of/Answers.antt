@@ -4,11 +4,11 @@ use Rattle.machines.proofs.RowLaws.{stays-full}
 use Rattle.machines.proofs.ValueLaws.{in-entered, in-own, value_none, value-some, values-last, values-more, values-none}
 use Rattle.machines.proofs.value_of.+value_in_state_value_of.Goals as goal
 
-pub value_in_state-returns-then-g-eq0 : goal.value_in_state-returns-then-g-eq0
-value_in_state-returns-then-g-eq0 t c = record { result_after = λ ns e. in-own _ _ _ _ ns _ _ _ _ _ _ _ (c.entered-g.ensures.value ns e) c.if-g-eq0.true (c.put_own.ensures ns e _); assigns_sound = c.entered-g.ensures.assigns_sound }
+pub value_in_state-returns-in-None : goal.value_in_state-returns-in-None
+value_in_state-returns-in-None t c = record { result_after = λ ns e. in-own _ _ _ _ ns _ _ _ _ _ _ _ (c.entered.ensures.value ns e) c.in-None.is (c.put_own.ensures ns e _); assigns_sound = c.entered.ensures.assigns_sound }
 
-pub value_in_state-returns : goal.value_in_state-returns
-value_in_state-returns t c = record { result_after = λ ns e. in-entered _ _ _ _ ns _ _ _ _ _ _ _ (c.entered-g.ensures.value ns e) c.if-g-eq0.false (c.value_of.ensures.result_after ns e); assigns_sound = c.value_of.ensures.assigns_sound }
+pub value_in_state-returns-in-Some : goal.value_in_state-returns-in-Some
+value_in_state-returns-in-Some t c = record { result_after = λ ns e. in-entered _ _ _ _ ns _ _ _ _ _ _ _ _ (c.entered.ensures.value ns e) c.in-Some.is (c.value_of.ensures.result_after ns e); assigns_sound = c.value_of.ensures.assigns_sound }
 
 pub value_of-returns-then-levels-eq0 : goal.value_of-returns-then-levels-eq0
 value_of-returns-then-levels-eq0 t c = record { result_after = λ ns e. value_none _ _ _ _ ns _ _ _ _ c.if-levels-eq0.true; assigns_sound = c.requires }

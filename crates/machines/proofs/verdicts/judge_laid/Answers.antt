@@ -2,10 +2,10 @@ use Rattle.machines.proofs.JudgeLaws.{laid-again, laid-empty, laid-rest}
 use Rattle.machines.proofs.verdicts.judge_laid.Goals as goal
 
 pub returns-then-entry-eq0 : goal.returns-then-entry-eq0
-returns-then-entry-eq0 c = λ ns e. laid-empty ns _ _ _ _ _ _ _ _ _ _ c.entry.ensures c.if-entry-eq0.true c.no_name.ensures c.no_name-then-entry-eq0.ensures c.refused.ensures
+returns-then-entry-eq0 c = λ ns e. laid-empty ns _ _ _ _ _ _ _ c.entry.ensures c.if-entry-eq0.true
 
-pub returns-then-d-letters : goal.returns-then-d-letters
-returns-then-d-letters c = λ ns e. laid-again ns _ _ _ _ _ _ _ _ _ _ _ c.entry.ensures c.if-entry-eq0.false c.duplicate_name-d.ensures c.if-d-letters.true c.again_called.ensures c.no_name-then-d-letters.ensures c.refused-then-d-letters.ensures
+pub returns-in-Some : goal.returns-in-Some
+returns-in-Some c = λ ns e. laid-again ns _ _ _ _ _ _ _ _ _ _ c.entry.ensures c.if-entry-eq0.false c.duplicate_name.ensures c.in-Some.is c.again_called.ensures
 
 pub returns : goal.returns
-returns c = λ ns e. laid-rest ns _ _ _ _ _ _ _ _ _ _ c.entry.ensures c.if-entry-eq0.false c.duplicate_name-d.ensures c.if-d-letters.false (c.validate_region-c.ensures ns e) (c.judge_checked.ensures ns e)
+returns c = λ ns e. laid-rest ns _ _ _ _ _ _ _ _ _ _ c.entry.ensures c.if-entry-eq0.false c.duplicate_name.ensures c.in_default.is (c.validate_region-c.ensures ns e) (c.judge_checked.ensures ns e)
