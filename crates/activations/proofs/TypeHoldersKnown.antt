@@ -207,7 +207,7 @@ module _ (ns : List Name) (fresh : Fresh [] ns) (legal : All LegalName ns) (few 
     goes : (c ≡ 0 → ⊥) → needs_t ns s b offsets (word_t d h 1) c ≡ false → result ≡ hold_from ns (tabled ns) s b offsets a outs n (suc h) (put_t e (holder_id ns a v) c) (put_t d (3 * h + 2) (holder_id ns a v))
     unfolding result c v known_t
     goes z w =
-        step-to n h e d (hold_of (put_t e (holder_t (tabled ns) s b offsets a v) c) (put_t d (3 * h + 2) (holder_t (tabled ns) s b offsets a v)) 0 0) (row-known ns (tabled ns) s b offsets a outs h v c (word_t d h 1) false e d _ refl refl z refl (sym w) refl refl)
+        step-to n h e d (hold_of (put_t e (holder_t (tabled ns) s b offsets a v) c) (put_t d (3 * h + 2) (holder_t (tabled ns) s b offsets a v)) 0 v) (row-known ns (tabled ns) s b offsets a outs h v c (word_t d h 1) false e d _ refl refl z refl (sym w) refl refl)
         ∙ (λ j. hold_from ns (tabled ns) s b offsets a outs n (suc h) (put_t e (holder_known ns legal s offsets placed b names M a v small j) c) (put_t d (3 * h + 2) (holder_known ns legal s offsets placed b names M a v small j)))
 
     words : (w : ℕ) → word_t (put_t d (3 * h + 2) (holder_id ns a v)) w 0 ≡ word_t d w 0

@@ -24,7 +24,7 @@ rows_or n (Err r) = n
 
 -- the same from the tables and the answer of the code
 abbrev pub PreparedAs : ℕ → List ℕ → List ℕ → List ℕ → Result ℕ Refusal → Preparation → Type 0
-PreparedAs names env outs lasts r z = record { outs = outs; hold = hold_with names env lasts r; rows = rows_or z.rows r } ≡ z
+PreparedAs names env outs lasts r z = record { outs = outs; hold = hold_with names 0 env lasts r; rows = rows_or z.rows r } ≡ z
 
 module _ (ns : List Name) (old s : List ℕ) (b : PackInfo) (offsets : List ℕ) (a : Name) where
   -- with the rows and the outputs' types

@@ -41,17 +41,17 @@ unfoldable pub checked_as : ℕ → Result (Unit {0}) Refusal → Refused
 checked_as names (Ok u) = refused_t 0 names names
 checked_as names (Err r) = numbers_of names r
 
--- what is answered of holders: nothing, or the kind of a refusal and its variable
+-- what is answered of holders: 0 and v, or the kind of a refusal and its variable
 unfoldable pub held_kind : {T : Type 0} → ℕ → Result T Refusal → ℕ
 held_kind names (Ok u) = 0
 held_kind names (Err r) = (numbers_of names r).kind
 
-unfoldable pub held_var : {T : Type 0} → ℕ → Result T Refusal → ℕ
-held_var names (Ok u) = 0
-held_var names (Err r) = (numbers_of names r).second
+unfoldable pub held_var : {T : Type 0} → ℕ → ℕ → Result T Refusal → ℕ
+held_var names v (Ok u) = v
+held_var names v (Err r) = (numbers_of names r).second
 
-abbrev pub hold_with : {T : Type 0} → ℕ → List ℕ → List ℕ → Result T Refusal → Hold
-hold_with names e d r = hold_of e d (held_kind names r) (held_var names r)
+abbrev pub hold_with : {T : Type 0} → ℕ → ℕ → List ℕ → List ℕ → Result T Refusal → Hold
+hold_with names v e d r = hold_of e d (held_kind names r) (held_var names v r)
 
 -- a refusal with one name only
 unfoldable pub OfVariable : {T : Type 0} → Result T Refusal → Type 0

@@ -39,7 +39,7 @@ needs_t ns s b offsets init c = cond (eqb init 0) (is_missing (default_t ns s b.
 
 -- the row h of the variable v, of a type of code c, is known by the number id
 unfoldable pub known_t : ℕ → ℕ → ℕ → ℕ → List ℕ → List ℕ → Hold
-known_t h v c id e d = hold_of (put_t e id c) (put_t d (3 * h + 2) id) 0 0
+known_t h v c id e d = hold_of (put_t e id c) (put_t d (3 * h + 2) id) 0 v
 
 module _ (ns : List Name) (old s : List ℕ) (b : PackInfo) (offsets : List ℕ) (a : Name) (outs : List ℕ) where
   -- Report, kinds 15 (LastUnknown) and 16 (LastNeedsInit), or known

@@ -7,6 +7,7 @@ ghost use Rattle.std.specs.Prelude.{List, ◌∷◌, ◌≡◌, ◌≤◌, ℕ, 
 ghost use Rattle.wire.specs.Bytes.{word_range};
 ghost use Rattle.pack_rules.specs.Names.{Name};
 ghost use Rattle.activations.specs.Refusing.{OfVariable, hold_with};
+ghost use Rattle.activations.specs.LastsAt.{word_t};
 ghost use Rattle.activations.specs.TypeHoldersAt.{hold_from, hold_of, hold_row, holder_t, known_t, needs_t};
 ghost use Rattle.wire.specs.Writer.{puts, state_of};
 ghost use Rattle.pack_rules.specs.Write.{lit_bytes};
@@ -52,7 +53,7 @@ fn known(
     c: usize,
 )
     requires { (info.names ≤ word_range) × (v ≤ word_range) × (h ≤ 8192) }
-    ensures { hold_of types.new lasts.new 0 0 ≡ known_t h v c (holder_t old.now pack.now info offsets.now a.now v) types.old lasts.old }
+    ensures { hold_of types.new lasts.new 0 v ≡ known_t h v c (holder_t old.now pack.now info offsets.now a.now v) types.old lasts.old }
 {
     let id = holder_id(old, pack, info, offsets, a, v);
     put_word(lasts, 3 * h, 2, id);
@@ -74,7 +75,7 @@ fn type_holder(
 ) -> Result<(), Refusal>
     requires { (info.names ≤ word_range) × (h ≤ 8192) }
     ensures alone { OfVariable result }
-    ensures held { (ns : List Name) → length ns ≡ info.names → hold_with info.names types.new lasts.new result ≡ hold_row ns old.now pack.now info offsets.now a.now outs.now h types.old lasts.old }
+    ensures held { (ns : List Name) → length ns ≡ info.names → hold_with info.names (word_t lasts.old h 0) types.new lasts.new result ≡ hold_row ns old.now pack.now info offsets.now a.now outs.now h types.old lasts.old }
 {
     let v = word(lasts, 3 * h, 0);
     let c = typed(types, outs, info.names, v);
@@ -104,7 +105,7 @@ pub fn type_holders(
 ) -> Result<(), Refusal>
     requires { (info.names ≤ word_range) × (n ≤ 8192) }
     ensures alone { OfVariable result }
-    ensures held { (ns : List Name) → length ns ≡ info.names → hold_with info.names types.new lasts.new result ≡ hold_from ns old.now pack.now info offsets.now a.now outs.now n 0 types.old lasts.old }
+    ensures held { (ns : List Name) → length ns ≡ info.names → hold_with info.names 0 types.new lasts.new result ≡ hold_from ns old.now pack.now info offsets.now a.now outs.now n 0 types.old lasts.old }
 {
     for h in 0..n {
         type_holder(old, pack, info, offsets, a, outs, types, lasts, h)?;

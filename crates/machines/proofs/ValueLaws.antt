@@ -8,7 +8,7 @@ use lib.ListN.{get_or}
 use lib.Dec.{eqb}
 use Rattle.wire.specs.Bytes.{two}
 use Rattle.wire.specs.Writer.{State, puts}
-use Rattle.std.specs.Option.{is_none, is_some}
+use Rattle.std.specs.Option.{is_none, is_some, unwrap_or}
 use Rattle.std.specs.Prelude.{Option as Maybe, Some, None}
 use Rattle.pack_rules.specs.Names.{Name}
 use Rattle.pack_rules.specs.Read.{equation_in, expr_in, port_in}
@@ -53,14 +53,10 @@ module _ (ns : List Name) (s : List ℕ) (out : ℕ) where
   side-is at r i c e f g = on i _ _ _ e (on c _ _ _ f g)
 
   -- the bytes that are copied
-  pub side-copied : (b : List ℕ) (p at a e : ℕ) (g : Maybe ℕ) (z : State) → at ≡ p → g ≡ side_t ns s out at → g ≡ Some a → e ≡ end_of (expr_in ns s a) → b ≡ slice_of s a (e - a) → puts b z ≡ puts (side_bytes ns s out p) z
+  pub side-copied : (b : List ℕ) (p at a e : ℕ) (g : Maybe ℕ) (z : State) → at ≡ p → g ≡ side_t ns s out at → a ≡ unwrap_or g 0 → e ≡ end_of (expr_in ns s a) → b ≡ slice_of s a (e - a) → puts b z ≡ puts (side_bytes ns s out p) z
   unfolding side_bytes side_of
   side-copied b p at a e g z f d i h k =
-      ap (λ (x : List ℕ). puts x z) (k ∙ ap (λ (y : ℕ). slice_of s a (y - a)) h ∙ ap (side_of ns s out) (sym i ∙ d ∙ ap (side_t ns s out) f))
-
-  pub side-none : (p at : ℕ) (g : Maybe ℕ) (z : State) → at ≡ p → g ≡ side_t ns s out at → g ≡ None → z ≡ puts (side_bytes ns s out p) z
-  unfolding side_bytes side_of puts
-  side-none p at g z f d i = ap (λ (x : Maybe ℕ). puts (side_of ns s out x) z) (sym i ∙ d ∙ ap (side_t ns s out) f)
+      ap (λ (x : List ℕ). puts x z) (k ∙ ap (λ (y : ℕ). slice_of s a (y - a)) h ∙ ap (λ (y : ℕ). slice_of s y (end_of (expr_in ns s y) - y)) i ∙ ap (side_of ns s out) (d ∙ ap (side_t ns s out) f))
 
 -- the loop over a state's regions: one that does not give the output, one that does, and the end
 module _ (t : List ℕ) (f : ℕ → Maybe ℕ) where

@@ -1,7 +1,7 @@
 -- Internal: nothing here has to be believed; laws tie it to what docs/TRUSTED.md lists.
 -- The value of each output, read from the layout: a chain over the states of a region, in which a state's first covering region
 -- goes before its own equation. A right side is copied as it stands in the pack.
-use Rattle.std.specs.Option.{is_none}
+use Rattle.std.specs.Option.{is_none, unwrap_or}
 use Rattle.std.specs.Prelude.{Option, Some, None, ℕ, zero, suc, ◌+◌, ◌-◌, List, [], ◌∷◌, ◌++◌, cond, ◌&&◌, get_or, eqb}
 use Rattle.wire.specs.Bytes.{two}
 use Rattle.pack_rules.specs.Limits.{max_level}
@@ -26,10 +26,9 @@ module _ (ns : List Name) (s : List ℕ) (out : ℕ) where
   unfoldable pub side_t : ℕ → Option ℕ
   side_t at = with (number_in s at) λ i p. with (number_in s p) λ n q. side_from n q
 
-  -- the bytes of a right side that stands there
+  -- the bytes of a right side that stands there; of what stands at 0 where there is none
   unfoldable pub side_of : Option ℕ → List ℕ
-  side_of None = []
-  side_of (Some a) = slice_of s a (end_of (expr_in ns s a) - a)
+  side_of x = slice_of s (unwrap_or x 0) (end_of (expr_in ns s (unwrap_or x 0)) - unwrap_or x 0)
 
   -- of the state at the offset `at`
   unfoldable pub side_bytes : ℕ → List ℕ

@@ -46,18 +46,9 @@ fn put_own(
 ) -> Writer
     ensures { (ns : List Name) → length ns ≡ drawing.now.pack.names → (m : List ℕ) → state_of out.new m result ≡ puts (side_bytes ns drawing.now.pack.bytes.now x (get_or layout.now p 0)) (state_of out.old m writer) }
 {
-    match own_rhs(drawing, x, entry(layout, p)) {
-        None => writer,
-        Some(a) => put_bytes(
-            between(
-                drawing.pack.bytes,
-                a,
-                after_expr(drawing.pack.bytes, drawing.pack.names, a),
-            ),
-            out,
-            writer,
-        ),
-    }
+    let a = own_rhs(drawing, x, entry(layout, p)).unwrap_or(0);
+    let e = after_expr(drawing.pack.bytes, drawing.pack.names, a);
+    put_bytes(between(drawing.pack.bytes, a, e), out, writer)
 }
 
 // The first region of the state at the word p that gives x in all its states.
