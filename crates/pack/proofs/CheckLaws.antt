@@ -19,7 +19,7 @@ use Rattle.pack.proofs.RoundTrip.{body_in, read-value}
 use Rattle.pack_rules.specs.Names.{Name, member}
 use Rattle.pack_rules.specs.Syntax.{Package}
 use Rattle.pack_rules.specs.Read.{Reading, activation_in, bytes_after, deep_at, ends_early, enum_in, illegal_at, machine_in, name, name_section, names_after, node_in, origin_in, pack_at, read, reading_of, too_long, whole}
-use Rattle.pack_rules.specs.Outcome.{Outcome, answers, check, number_of, on_package, value_of}
+use Rattle.pack_rules.specs.Outcome.{Outcome, answers, check, number_of, on_package, returned, value_of}
 use Rattle.pack.specs.Verdict.{SectionsAt, count_of, empty_package, empty_record, judged_of, name_count, names_of, names_or, past_activations, past_enums, past_machines, past_names, past_nodes, past_origins, record_of, offset_of, sections_of, verdict_of}
 
 -- how many names the name section has
@@ -290,6 +290,23 @@ check-err s e h = let t = stopped-reading s e (λ p. answers 0 (length s)) h in 
 pub check-ok : (s : List ℕ) → Ok tt ≡ verdict_of (length s) (read s) → Checked s (Ok (length s))
 unfolding check on_package number_of value_of
 check-ok s h = let w = whole-reading s h in rw w.1 (refl, refl)
+
+-- a verdict as the check answers it, for n bytes
+unfoldable pub answer_of : ℕ → Result ⊤ CallError → Result ℕ CallError
+answer_of n (Ok u) = Ok n
+answer_of n (Err e) = Err e
+
+check-is : (s : List ℕ) (v : Result ⊤ CallError) → v ≡ verdict_of (length s) (read s) → Checked s (answer_of (length s) v)
+unfolding answer_of
+check-is s (Ok u) e = check-ok s e
+check-is s (Err x) e = check-err s x e
+
+-- the number and the value, in one word
+pub word-check : (s : List ℕ) (v : Result ⊤ CallError) (number value : ℕ) → v ≡ verdict_of (length s) (read s) → number ≡ number_for (answer_of (length s) v) → value ≡ value_for (answer_of (length s) v) → number * 4294967296 + value ≡ returned (check s)
+unfolding returned
+word-check s v n w e f g =
+    let h = check-is s v e in
+    λ i. (f ∙ h.0) i * 4294967296 + (g ∙ h.1) i
 
 -- both are small
 reading_small : (n : ℕ) (x : Answer Package) (e : CallError) → n ≤ 65536 → offset_in x ≤ n → Err e ≡ verdict_of n (reading_of n x) → error_value e ≤ 65536

@@ -1,13 +1,14 @@
--- Laws of states and regions, which are read by loops that call each other: what one skips is what its parts skip, one after the other.
-use Rattle.std.proofs.Common.{◌≡◌, ℕ, zero, suc, ◌-◌, ◌<◌, ◌≤◌, List, [], ◌∷◌, sym, refl, ap, ◌∙◌, arith, Ok, Err}
+-- One law for each production: what it skips is what its parts skip, one after the other. Of states and regions, which are read by
+-- loops that call each other, also what is so where reading stops within.
+use Rattle.std.proofs.Common.{◌≡◌, ℕ, zero, suc, ◌-◌, ◌<◌, ◌≤◌, List, [], ◌∷◌, length, sym, refl, ap, ◌∙◌, arith, Ok, Err}
 use Rattle.wire.specs.declared.answer.Stop.{Stop}
 use Rattle.wire.specs.declared.answer.Stop.TheVariants.{Deep}
 use Rattle.wire.specs.declared.answer.Number.{Number}
-use Rattle.wire.specs.Answer.{Answer, below, bind, counted, u16}
+use Rattle.wire.specs.Answer.{Answer, below, bind, counted, index, u16}
 use Rattle.wire.specs.Code.{Skipped, next, onward, read_of, rep, skip, skips}
-use Rattle.wire.proofs.Codes.{bind-steps, from-steps, last_step, listed-counted, listed-err, listed-ok, skip-read_ok, steps}
+use Rattle.wire.proofs.Codes.{bind-steps, from-steps, last_step, listed-counted, listed-err, listed-ok, next-cong, skip-map, skip-read_ok, steps}
 use Rattle.pack_rules.specs.Names.{Name}
-use Rattle.pack_rules.specs.Read.{OneRegion, equations_in, expr_in, name_in, optional_in, region_at, state_at, state_with, transition_in}
+use Rattle.pack_rules.specs.Read.{OneRegion, activation_in, branch_in, enum_in, equation_in, equations_in, expr_in, machine_in, name_in, names_in, node_in, optional_in, origin_in, port_in, ports_in, region_at, state_at, state_with, transition_in, type_in}
 
 -- a list whose count was read
 counted-ok : {A : Type 0} (f : ℕ → Answer A) (s : List ℕ) (at : ℕ) (n : Number) (r : Skipped) → Ok n ≡ read_of (u16 s at) → r ≡ rep (skips f) n.value n.next → r ≡ skip (counted f s at)
@@ -17,6 +18,33 @@ counted-err : {A : Type 0} (f : ℕ → Answer A) (s : List ℕ) (at : ℕ) (e :
 counted-err f s at e h = listed-err s (skips f) at e h ∙ listed-counted f s at
 
 module _ (ns : List Name) (s : List ℕ) where
+  -- names are skipped by their indexes
+  pub name-steps : (r : Skipped) → onward (index (length ns) s) r ≡ onward (name_in ns s) r
+  unfolding onward skips name_in
+  name-steps r = next-cong r _ _ (λ p e. sym (skip-map _ (index (length ns) s p)))
+
+  abbrev port_parts : List (ℕ → Skipped)
+  port_parts = skips (name_in ns s) ∷ skips (type_in ns s) ∷ []
+
+  port-parts : (p : ℕ) → skip (port_in ns s p) ≡ steps port_parts (Ok p)
+  unfolding port_in
+  port-parts p = bind-steps (name_in ns s) p _ _ (λ x0 p0. last_step (type_in ns s) p0 _)
+
+  pub port-steps : (r : Skipped) → onward (type_in ns s) (onward (name_in ns s) r) ≡ onward (port_in ns s) r
+  unfolding onward steps
+  port-steps r = sym (from-steps (port_in ns s) port_parts port-parts r)
+
+  abbrev equation_parts : List (ℕ → Skipped)
+  equation_parts = skips (names_in ns s) ∷ skips (expr_in ns s) ∷ []
+
+  equation-parts : (p : ℕ) → skip (equation_in ns s p) ≡ steps equation_parts (Ok p)
+  unfolding equation_in
+  equation-parts p = bind-steps (names_in ns s) p _ _ (λ x0 p0. last_step (expr_in ns s) p0 _)
+
+  pub equation-steps : (r : Skipped) → onward (expr_in ns s) (onward (names_in ns s) r) ≡ onward (equation_in ns s) r
+  unfolding onward steps
+  equation-steps r = sym (from-steps (equation_in ns s) equation_parts equation-parts r)
+
   abbrev transition_parts : List (ℕ → Skipped)
   transition_parts = skips (expr_in ns s) ∷ skips (name_in ns s) ∷ []
 
@@ -27,6 +55,72 @@ module _ (ns : List Name) (s : List ℕ) where
   pub transition-steps : (r : Skipped) → onward (name_in ns s) (onward (expr_in ns s) r) ≡ onward (transition_in ns s) r
   unfolding onward steps
   transition-steps r = sym (from-steps (transition_in ns s) transition_parts transition-parts r)
+
+  abbrev enum_parts : List (ℕ → Skipped)
+  enum_parts = skips (name_in ns s) ∷ skips (names_in ns s) ∷ []
+
+  enum-parts : (p : ℕ) → skip (enum_in ns s p) ≡ steps enum_parts (Ok p)
+  unfolding enum_in
+  enum-parts p = bind-steps (name_in ns s) p _ _ (λ x0 p0. last_step (names_in ns s) p0 _)
+
+  pub enum-steps : (r : Skipped) → onward (names_in ns s) (onward (name_in ns s) r) ≡ onward (enum_in ns s) r
+  unfolding onward steps
+  enum-steps r = sym (from-steps (enum_in ns s) enum_parts enum-parts r)
+
+  abbrev node_parts : List (ℕ → Skipped)
+  node_parts = skips (name_in ns s) ∷ skips (below 3 s) ∷ skips (ports_in ns s) ∷ skips (ports_in ns s) ∷ skips (ports_in ns s) ∷ skips (equations_in ns s) ∷ []
+
+  node-parts : (p : ℕ) → skip (node_in ns s p) ≡ steps node_parts (Ok p)
+  unfolding node_in
+  node-parts p = bind-steps (name_in ns s) p _ _ (λ x0 p0. bind-steps (below 3 s) p0 _ _ (λ x1 p1. bind-steps (ports_in ns s) p1 _ _ (λ x2 p2. bind-steps (ports_in ns s) p2 _ _ (λ x3 p3. bind-steps (ports_in ns s) p3 _ _ (λ x4 p4. last_step (equations_in ns s) p4 _)))))
+
+  pub node-steps : (r : Skipped) → onward (equations_in ns s) (onward (ports_in ns s) (onward (ports_in ns s) (onward (ports_in ns s) (onward (below 3 s) (onward (name_in ns s) r))))) ≡ onward (node_in ns s) r
+  unfolding onward steps
+  node-steps r = sym (from-steps (node_in ns s) node_parts node-parts r)
+
+  abbrev machine_parts : List (ℕ → Skipped)
+  machine_parts = skips (name_in ns s) ∷ skips (optional_in ns s) ∷ skips (ports_in ns s) ∷ skips (ports_in ns s) ∷ skips (ports_in ns s) ∷ skips (name_in ns s) ∷ skips (counted (state_at ns s) s) ∷ []
+
+  machine-parts : (p : ℕ) → skip (machine_in ns s p) ≡ steps machine_parts (Ok p)
+  unfolding machine_in
+  machine-parts p = bind-steps (name_in ns s) p _ _ (λ x0 p0. bind-steps (optional_in ns s) p0 _ _ (λ x1 p1. bind-steps (ports_in ns s) p1 _ _ (λ x2 p2. bind-steps (ports_in ns s) p2 _ _ (λ x3 p3. bind-steps (ports_in ns s) p3 _ _ (λ x4 p4. bind-steps (name_in ns s) p4 _ _ (λ x5 p5. last_step (counted (state_at ns s) s) p5 _))))))
+
+  pub machine-steps : (r : Skipped) → onward (counted (state_at ns s) s) (onward (name_in ns s) (onward (ports_in ns s) (onward (ports_in ns s) (onward (ports_in ns s) (onward (optional_in ns s) (onward (name_in ns s) r)))))) ≡ onward (machine_in ns s) r
+  unfolding onward steps
+  machine-steps r = sym (from-steps (machine_in ns s) machine_parts machine-parts r)
+
+  abbrev branch_parts : List (ℕ → Skipped)
+  branch_parts = skips (name_in ns s) ∷ skips (expr_in ns s) ∷ skips (equations_in ns s) ∷ []
+
+  branch-parts : (p : ℕ) → skip (branch_in ns s p) ≡ steps branch_parts (Ok p)
+  unfolding branch_in
+  branch-parts p = bind-steps (name_in ns s) p _ _ (λ x0 p0. bind-steps (expr_in ns s) p0 _ _ (λ x1 p1. last_step (equations_in ns s) p1 _))
+
+  pub branch-steps : (r : Skipped) → onward (equations_in ns s) (onward (expr_in ns s) (onward (name_in ns s) r)) ≡ onward (branch_in ns s) r
+  unfolding onward steps
+  branch-steps r = sym (from-steps (branch_in ns s) branch_parts branch-parts r)
+
+  abbrev activation_parts : List (ℕ → Skipped)
+  activation_parts = skips (name_in ns s) ∷ skips (name_in ns s) ∷ skips (ports_in ns s) ∷ skips (counted (branch_in ns s) s) ∷ skips (equations_in ns s) ∷ []
+
+  activation-parts : (p : ℕ) → skip (activation_in ns s p) ≡ steps activation_parts (Ok p)
+  unfolding activation_in
+  activation-parts p = bind-steps (name_in ns s) p _ _ (λ x0 p0. bind-steps (name_in ns s) p0 _ _ (λ x1 p1. bind-steps (ports_in ns s) p1 _ _ (λ x2 p2. bind-steps (counted (branch_in ns s) s) p2 _ _ (λ x3 p3. last_step (equations_in ns s) p3 _))))
+
+  pub activation-steps : (r : Skipped) → onward (equations_in ns s) (onward (counted (branch_in ns s) s) (onward (ports_in ns s) (onward (name_in ns s) (onward (name_in ns s) r)))) ≡ onward (activation_in ns s) r
+  unfolding onward steps
+  activation-steps r = sym (from-steps (activation_in ns s) activation_parts activation-parts r)
+
+  abbrev origin_parts : List (ℕ → Skipped)
+  origin_parts = skips (name_in ns s) ∷ skips (below 2 s) ∷ skips (name_in ns s) ∷ skips (u16 s) ∷ skips (u16 s) ∷ skips (names_in ns s) ∷ []
+
+  origin-parts : (p : ℕ) → skip (origin_in ns s p) ≡ steps origin_parts (Ok p)
+  unfolding origin_in
+  origin-parts p = bind-steps (name_in ns s) p _ _ (λ x0 p0. bind-steps (below 2 s) p0 _ _ (λ x1 p1. bind-steps (name_in ns s) p1 _ _ (λ x2 p2. bind-steps (u16 s) p2 _ _ (λ x3 p3. bind-steps (u16 s) p3 _ _ (λ x4 p4. last_step (names_in ns s) p4 _)))))
+
+  pub origin-steps : (r : Skipped) → onward (names_in ns s) (onward (u16 s) (onward (u16 s) (onward (name_in ns s) (onward (below 2 s) (onward (name_in ns s) r))))) ≡ onward (origin_in ns s) r
+  unfolding onward steps
+  origin-steps r = sym (from-steps (origin_in ns s) origin_parts origin-parts r)
 
 -- a state, given how a region is read; a region, which may not open with no level left
 module _ (ns : List Name) (s : List ℕ) (region : ℕ → Answer OneRegion) where
