@@ -296,7 +296,7 @@ unfoldable pub answer_of : ℕ → Result ⊤ CallError → Result ℕ CallError
 answer_of n (Ok u) = Ok n
 answer_of n (Err e) = Err e
 
-check-is : (s : List ℕ) (v : Result ⊤ CallError) → v ≡ verdict_of (length s) (read s) → Checked s (answer_of (length s) v)
+pub check-is : (s : List ℕ) (v : Result ⊤ CallError) → v ≡ verdict_of (length s) (read s) → Checked s (answer_of (length s) v)
 unfolding answer_of
 check-is s (Ok u) e = check-ok s e
 check-is s (Err x) e = check-err s x e

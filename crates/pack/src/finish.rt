@@ -64,14 +64,22 @@ impl CallError {
     }
 }
 
-// Number and value in one word, as the C interface returns them: the number times 2^32 plus the value.
+// A number of the table of answers and a value in one word: the number times 2^32 plus the value.
+pub fn answer_word(number: u64, value: u64) -> u64
+    requires { (number ≤ 9) × (value < 4294967296) }
+    ensures { result ≡ number * 4294967296 + value }
+{
+    number * 0x1_0000_0000 + value
+}
+
+// Number and value of what a call answers in one word, as the C interface returns them.
 pub fn returned_word(answer: Outcome) -> u64
     requires { value_for answer < 4294967296 }
     ensures { result ≡ number_for answer * 4294967296 + value_for answer }
 {
     match answer {
-        Ok(n) => n as u64,
-        Err(e) => e.number() * 0x1_0000_0000 + e.value(),
+        Ok(n) => answer_word(0, n as u64),
+        Err(e) => answer_word(e.number(), e.value()),
     }
 }
 
