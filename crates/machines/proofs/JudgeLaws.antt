@@ -4,8 +4,8 @@ use native.Mathlib.Omega.{arith}
 use mathlib.Core.List.{List}
 use mathlib.Core.Bool.{false, cond}
 use mathlib.Core.Path.{◌≡◌, refl, sym, ap, ◌∙◌}
-use lib.ListN.{get_or, take}
-use borrow.Author.Tests.{eq-eqb, le-leb, lt-leb, ne_eqb}
+use lib.ListN.{get_or, length, take}
+use borrow.Author.Tests.{eq-eqb, le-leb, le-ltb, lt-leb, lt-ltb, ne_eqb}
 use Rattle.std.specs.Prelude.{Ok, Err, Option, Some, None}
 use Rattle.pack_rules.specs.Names.{Name}
 use Rattle.pack_rules.specs.Read.{port_in}
@@ -87,7 +87,7 @@ module _ (ns : List Name) (s t : List ℕ) where
     rest = checked_j ns s t (checked_region ns s t 8 0) outputs regions
 
     abbrev again : Judged
-    again = unless_again qualified (duplicate_at (take letters qualified)) rest
+    again = unless_again qualified letters (duplicate_at (take letters qualified)) rest
 
     pub laid-empty : (e : ℕ) → e ≡ get_or t 6 0 → e ≡ 0 → Err no.NoStates ≡ laid_j ns s t qualified letters regions outputs
     unfolding laid_j
@@ -97,13 +97,21 @@ module _ (ns : List Name) (s t : List ℕ) where
     unfolding laid_j unless_again
     laid-again e d o a f g h k m =
         (λ i. Err (no.DuplicateState (m i)))
-        ∙ ap (λ y. unless_again qualified y rest) (sym k ∙ h) ∙ sym (ap (λ y. cond y (Err no.NoStates) again) (ne_eqb (get_or t 6 0) 0 (λ z. g (f ∙ z))))
+        ∙ ap (λ y. unless_again qualified letters y rest) (sym k ∙ h) ∙ sym (ap (λ y. cond y (Err no.NoStates) again) (ne_eqb (get_or t 6 0) 0 (λ z. g (f ∙ z))))
 
-    pub laid-rest : (e : ℕ) (o : Option ℕ) (c : Checked) (r : Judged) → e ≡ get_or t 6 0 → (e ≡ 0 → ⊥) → o ≡ duplicate_at (take letters qualified) → o ≡ None → c ≡ checked_region ns s t 8 0 → r ≡ checked_j ns s t c outputs regions → r ≡ laid_j ns s t qualified letters regions outputs
+    pub laid-short : (e : ℕ) (o : Option ℕ) (a : NameRef) → e ≡ get_or t 6 0 → (e ≡ 0 → ⊥) → o ≡ duplicate_at (take letters qualified) → o ≡ None → length qualified < letters → a ≡ again_called qualified (length qualified) → Err (no.DuplicateState a) ≡ laid_j ns s t qualified letters regions outputs
     unfolding laid_j unless_again
-    laid-rest e o c r f g h k m n =
+    laid-short e o a f g h k l m =
+        (λ i. Err (no.DuplicateState (m i)))
+        ∙ sym (ap (λ y. cond y (Err (no.DuplicateState (again_called qualified (length qualified)))) rest) (lt-ltb (length qualified) letters l))
+        ∙ ap (λ y. unless_again qualified letters y rest) (sym k ∙ h) ∙ sym (ap (λ y. cond y (Err no.NoStates) again) (ne_eqb (get_or t 6 0) 0 (λ z. g (f ∙ z))))
+
+    pub laid-rest : (e : ℕ) (o : Option ℕ) (c : Checked) (r : Judged) → e ≡ get_or t 6 0 → (e ≡ 0 → ⊥) → o ≡ duplicate_at (take letters qualified) → o ≡ None → letters ≤ length qualified → c ≡ checked_region ns s t 8 0 → r ≡ checked_j ns s t c outputs regions → r ≡ laid_j ns s t qualified letters regions outputs
+    unfolding laid_j unless_again
+    laid-rest e o c r f g h k l m n =
         n ∙ ap (λ y. checked_j ns s t y outputs regions) m
-        ∙ ap (λ y. unless_again qualified y rest) (sym k ∙ h) ∙ sym (ap (λ y. cond y (Err no.NoStates) again) (ne_eqb (get_or t 6 0) 0 (λ z. g (f ∙ z))))
+        ∙ sym (ap (λ y. cond y (Err (no.DuplicateState (again_called qualified (length qualified)))) rest) (le-ltb (length qualified) letters l))
+        ∙ ap (λ y. unless_again qualified letters y rest) (sym k ∙ h) ∙ sym (ap (λ y. cond y (Err no.NoStates) again) (ne_eqb (get_or t 6 0) 0 (λ z. g (f ∙ z))))
 
 -- resolving, and then the machine as it is laid out
 module _ (ns : List Name) (s offsets to : List ℕ) where

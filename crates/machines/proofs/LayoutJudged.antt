@@ -6,9 +6,9 @@ use mathlib.Core.Bool.{Bool, true, false, cond}
 use mathlib.Core.Option.{Option, none, some}
 use mathlib.Core.Logic.{inl, inr}
 use mathlib.Core.Path.{◌≡◌, refl, sym, ap, subst, ◌∙◌}
-use lib.ListN.{length, get_or, take, length-append}
-use lib.Dec.{eqb}
-use borrow.Author.Tests.{eq-eqb, ne_eqb}
+use lib.ListN.{length, get_or, take, length-append, length-take}
+use lib.Dec.{eqb, ltb}
+use borrow.Author.Tests.{eq-eqb, le-ltb, ne_eqb}
 use Rattle.wire.specs.Answer.{counted, many, u16, value}
 use Rattle.wire.specs.Lists.{All}
 use Rattle.wire.proofs.Answers.{bind-value, map-value}
@@ -203,14 +203,21 @@ module _ (s : List ℕ) (ns : List Name) (offsets : List ℕ) (fresh : Fresh [] 
   unfolding enc
   before-end d n a = omega (arith, a.offset, ap (λ (y : List Name). length (enc y)) a.names, ap length (enc-append a.before (n ∷ a.after)), length-append (enc a.before) (enc (n ∷ a.after)))
 
+  -- the table holds all letters
+  all-there : ltb (length b.qualified) b.c.letters ≡ false
+  all-there =
+      let l : length (take b.c.letters b.qualified) ≡ b.c.letters = ap length laid.letters ∙ sym laid.letters-end in
+      le-ltb (length b.qualified) b.c.letters (omega (arith, l, length-take b.c.letters b.qualified))
+
   abbrev second : Maybe ℕ → Judged
-  second d = unless_again b.qualified d rest
+  second d = unless_again b.qualified b.c.letters d rest
 
   again-said : (d : Maybe ℕ) → Said all (repeated [] all) d → Stands (first_of twice (first_of invalid missing)) (second d)
   unfolding as_refusal unless_again
   again-said d (inl (e, f)) =
       subst (λ y. Stands (first_of twice (first_of invalid missing)) (second y)) (sym f)
-      (stood-none s offsets b.qualified m (suc (size_s x.states)) twice (first_of invalid missing) rest (ap (as_refusal (λ n. duplicate_state x.name n)) e) valid-as)
+      (subst (λ y. Stands (first_of twice (first_of invalid missing)) (cond y (Err (no.DuplicateState (again_called b.qualified (length b.qualified)))) rest)) (sym all-there)
+      (stood-none s offsets b.qualified m (suc (size_s x.states)) twice (first_of invalid missing) rest (ap (as_refusal (λ n. duplicate_state x.name n)) e) valid-as))
   again-said o (inr (n, d, e, f, a)) =
       let l = before-end d n a in
       subst (λ y. Stands (first_of twice (first_of invalid missing)) (second y)) (sym f)

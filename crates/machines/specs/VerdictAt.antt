@@ -1,6 +1,6 @@
 -- Internal: nothing here has to be believed; laws tie it to what docs/TRUSTED.md lists.
 -- What the code judges of a machine, from its answers on the way: a kind and where the names stand.
-use Rattle.std.specs.Prelude.{ℕ, zero, suc, ◌+◌, List, false, cond, get_or, take, eqb, leb, Result, Ok, Err, Option, Some, None}
+use Rattle.std.specs.Prelude.{ℕ, zero, suc, ◌+◌, List, false, cond, length, get_or, take, eqb, leb, ltb, Result, Ok, Err, Option, Some, None}
 use Rattle.pack_rules.specs.Names.{Name}
 use Rattle.pack_rules.specs.Read.{port_in}
 use Rattle.pack_rules.specs.Limits.{absent, max_level}
@@ -63,10 +63,10 @@ unfoldable pub unless_missed : List ℕ → ℕ → Option ℕ → Judged → Ju
 unless_missed t x (Some p) j = Err (no.OutputUnassigned x (state_called t p))
 unless_missed t x None j = j
 
--- a name that stands twice, or else j
-unfoldable pub unless_again : List ℕ → Option ℕ → Judged → Judged
-unless_again qualified (Some d) j = Err (no.DuplicateState (again_called qualified d))
-unless_again qualified None j = j
+-- a name that stands twice in so many letters, or the end of a table that holds fewer, or else j
+unfoldable pub unless_again : List ℕ → ℕ → Option ℕ → Judged → Judged
+unless_again qualified letters (Some d) j = Err (no.DuplicateState (again_called qualified d))
+unless_again qualified letters None j = cond (ltb (length qualified) letters) (Err (no.DuplicateState (again_called qualified (length qualified)))) j
 
 module _ (ns : List Name) (s t : List ℕ) where
   -- n outputs from the offset p on: the first that a state does not give
@@ -89,7 +89,7 @@ module _ (ns : List Name) (s t : List ℕ) where
   unfoldable pub laid_j : List ℕ → ℕ → ℕ → ℕ → Judged
   laid_j qualified letters regions outputs =
       cond (eqb (get_or t 6 0) 0) (Err no.NoStates)
-      (unless_again qualified (duplicate_at (take letters qualified)) (checked_j (checked_region ns s t max_level 0) outputs regions))
+      (unless_again qualified letters (duplicate_at (take letters qualified)) (checked_j (checked_region ns s t max_level 0) outputs regions))
 
 module _ (ns : List Name) (s offsets to : List ℕ) where
   -- resolving comes first

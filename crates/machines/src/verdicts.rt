@@ -235,7 +235,8 @@ fn judge_checked(
     }
 }
 
-// A machine that is laid out in `letters` letters and so many regions.
+// A machine that is laid out in `letters` letters and so many regions. Where the table holds fewer letters, its end is refused as a name
+// that stands twice: not all names could be compared.
 fn judge_laid(
     drawing: &Drawing,
     layout: &[usize],
@@ -251,6 +252,9 @@ fn judge_laid(
     }
     if let Some(d) = duplicate_name(qualified, letters) {
         return Err(Refusal::DuplicateState(again_called(qualified, d)));
+    }
+    if qualified.len() < letters {
+        return Err(Refusal::DuplicateState(again_called(qualified, qualified.len())));
     }
     let c = validate_region(drawing, layout, Pack::LEVELS, 0);
     judge_checked(drawing, layout, c, outputs, regions)
