@@ -39,7 +39,7 @@ use Rattle.machines.specs.VerdictMeaning.{JudgedAs, RefusedFor}
 use Rattle.machines.specs.EmitMachineAt.{Long}
 use Rattle.machines.specs.WriteNodesAt.{sections_t}
 use Rattle.machines.specs.TableMeaning.{PackOf}
-use Rattle.machines.specs.ReportAt.{judged_bytes, EntersAll, bytes_t, entry_t, letters_t, of_refused, refusal_t}
+use Rattle.machines.specs.ReportAt.{judged_bytes, judged_row, EntersAll, bytes_t, entry_t, letters_t, of_refused, refusal_t}
 use Rattle.machines.specs.Verdicts.{SettledPack, Why, all_go, entry_at, judged as judged_so, unowned, verdicts, verdicts_of}
 use Rattle.machine_rules.specs.Call.{lower_package_machines, report_or_pack}
 use Rattle.machines.proofs.Reading.{machine-value, name-number, optional-some}
@@ -109,7 +109,7 @@ module _ (s : List ℕ) (k : Pack) (p : Package) (h : SectionsAt s k p) (bytes :
     one_entry x = ap (λ (l : List ℕ). x.kind ∷ l) (append-nil (enc x.names))
 
     refused-bytes : (qualified : List ℕ) (m : ℕ) (x : Refusal) (j : Judged) → RefusedFor s offsets qualified m x j → judged_bytes s offsets qualified m j ≡ entries (x ∷ [])
-    unfolding RefusedFor judged_bytes
+    unfolding RefusedFor judged_bytes judged_row
     refused-bytes qualified m x (Ok n) h = absurd h
     refused-bytes qualified m x (Err w) h = h.entry
 
@@ -123,7 +123,7 @@ module _ (s : List ℕ) (k : Pack) (p : Package) (h : SectionsAt s k p) (bytes :
 
     owner-entry : (i : ℕ) (d : MachineDef) (q : ℕ) (x : Refusal) (o : Name) → machine_in p.names s (get_or defs i 0) ≡ value d q → (get_or regcounts i 0 ≡ 0 → ⊥) → d.owner ≡ some o → x ≡ unknown_owner d.name o
         → (t reg qualified : List ℕ) → entry_t p.names s offsets to defs regcounts i t reg qualified ≡ x.kind ∷ enc x.names
-    unfolding entry_t letters_t refusal_t judged_bytes unknown_owner All
+    unfolding entry_t letters_t refusal_t judged_bytes judged_row unknown_owner All
     owner-entry i d q x o e g w f t reg qualified =
         let m = machine-value p.names s (get_or defs i 0) d q e in
         let a = name-number p.names s (get_or defs i 0) d.name m.to-owner m.name in

@@ -12,16 +12,15 @@ use Rattle.wire.specs.Bytes.{two}
 use Rattle.pack_rules.specs.Limits.{absent}
 use Rattle.pack_rules.specs.Names.{Name}
 use Rattle.wire.specs.Writer.{overwritten}
-use Rattle.std.specs.Prelude.{Ok, Err}
-use Rattle.machines.specs.declared.verdicts.Refusal.{Refusal}
+use Rattle.std.specs.Prelude.{Err}
 use Rattle.machines.specs.declared.verdicts.Refusal.TheVariants as no
 use Rattle.machines.specs.declared.verdicts.VerdictRow.{VerdictRow}
 use Rattle.wire.specs.declared.answer.Number.{Number}
 use Rattle.machines.specs.CheckedReads.{number_in}
 use Rattle.machines.specs.ReportEntries.{entry_bytes}
-use Rattle.machines.specs.VerdictAt.{Judged, board_at, judge_at, row_of}
+use Rattle.machines.specs.VerdictAt.{Judged, board_at, judge_at}
 use Rattle.machines.specs.EmitMachineAt.{Long}
-use Rattle.machines.specs.ReportAt.{judged_bytes, Enters, EntersAll, RoomAt, RoomForAll, bytes_t, entry_t, letters_t, of_refused, refusal_t, refused_entry_t}
+use Rattle.machines.specs.ReportAt.{judged_bytes, judged_row, Enters, EntersAll, RoomAt, RoomForAll, bytes_t, entry_t, letters_t, of_refused, refusal_t, refused_entry_t}
 use Rattle.machines.proofs.EntryLaws.{entry-most}
 use Rattle.machines.proofs.Overwriting.{over-more, over_none, over-then}
 
@@ -49,19 +48,11 @@ module _ (ns : List Name) (s offsets to defs regcounts : List ℕ) (i : ℕ) (t 
     unfolding letters_t
     letters-owner e = rw (ne_eqb (get_or regcounts i 0) 0 (λ z. e (b ∙ z)))
 
-  -- its entry, of a refusal and of none
-  module _ (at : ℕ) (m : Number) (l : List ℕ) (a : at ≡ get_or defs i 0) (b : m ≡ number_in s at) (d : l ≡ letters_t ns s offsets to defs regcounts i t reg qualified) where
-    entry-as : (j : Judged) → j ≡ refusal_t ns s offsets to defs regcounts i t reg qualified → judged_bytes s offsets l m.value j ≡ entry_t ns s offsets to defs regcounts i t reg qualified
-    unfolding entry_t
-    entry-as j c = λ w. judged_bytes s offsets (d w) ((b ∙ ap (number_in s) a) w).value (c w)
-
-    pub entry_of : (w : Refusal) (j : Judged) (y : VerdictRow) → j ≡ Err w → j ≡ refusal_t ns s offsets to defs regcounts i t reg qualified → y ≡ row_of w → entry_bytes s offsets l m.value y ≡ entry_t ns s offsets to defs regcounts i t reg qualified
-    unfolding judged_bytes
-    entry_of w j y f c e = ap (entry_bytes s offsets l m.value) e ∙ entry-as (Err w) (sym f ∙ c)
-
-    pub none-of : (n : ℕ) (j : Judged) → j ≡ Ok n → j ≡ refusal_t ns s offsets to defs regcounts i t reg qualified → [] ≡ entry_t ns s offsets to defs regcounts i t reg qualified
-    unfolding judged_bytes
-    none-of n j f c = entry-as (Ok n) (sym f ∙ c)
+  -- its entry
+  pub entry_of : (at : ℕ) (m : Number) (j : Judged) (y : VerdictRow) (l : List ℕ) → at ≡ get_or defs i 0 → m ≡ number_in s at → j ≡ refusal_t ns s offsets to defs regcounts i t reg qualified → y ≡ judged_row j → l ≡ letters_t ns s offsets to defs regcounts i t reg qualified
+      → entry_bytes s offsets l m.value y ≡ entry_t ns s offsets to defs regcounts i t reg qualified
+  unfolding entry_t judged_bytes
+  entry_of at m j y l a b c e d = λ w. entry_bytes s offsets (d w) ((b ∙ ap (number_in s) a) w).value ((e ∙ ap judged_row c) w)
 
   module _ (receivers : List ℕ) (e : ℕ) (a : e ≡ get_or receivers i 0) where
     pub refused-entry : e ≡ 65535 → entry_t ns s offsets to defs regcounts i t reg qualified ≡ refused_entry_t ns s offsets to defs regcounts receivers i t reg qualified

@@ -4,9 +4,10 @@ use Rattle.std.specs.Prelude.{ℕ, zero, suc, ◌+◌, ◌<◌, ◌≤◌, List,
 use Rattle.pack_rules.specs.Limits.{absent}
 use Rattle.pack_rules.specs.Names.{Name}
 use Rattle.machines.specs.declared.verdicts.Refusal.TheVariants as no
+use Rattle.machines.specs.declared.verdicts.VerdictRow.{VerdictRow}
 use Rattle.machines.specs.CheckedReads.{number_in}
 use Rattle.machines.specs.ReportEntries.{entry_bytes}
-use Rattle.machines.specs.VerdictAt.{Judged, board_at, judge_at, row_of}
+use Rattle.machines.specs.VerdictAt.{Judged, board_at, judge_at, no_name, refused_by, row_of}
 use Rattle.machines.specs.EmitMachineAt.{Long}
 
 -- bytes of n indexes from i on
@@ -18,10 +19,14 @@ bytes_t f (suc n) i = f i ++ bytes_t f n (suc i)
 unfoldable pub of_refused : List ℕ → (ℕ → List ℕ) → ℕ → List ℕ
 of_refused receivers f i = cond (eqb (get_or receivers i 0) absent) (f i) []
 
--- the entry of a machine of the name m, by what is judged of it: none where it has so many regions
+-- what an entry says of a machine by what is judged of it: of an accepted one the kind 0, and no name but its own
+unfoldable pub judged_row : Judged → VerdictRow
+judged_row (Ok n) = refused_by 0 no_name no_name
+judged_row (Err w) = row_of w
+
+-- the entry of a machine of the name m, by what is judged of it
 unfoldable pub judged_bytes : List ℕ → List ℕ → List ℕ → ℕ → Judged → List ℕ
-judged_bytes s offsets qualified m (Ok n) = []
-judged_bytes s offsets qualified m (Err w) = entry_bytes s offsets qualified m (row_of w)
+judged_bytes s offsets qualified m j = entry_bytes s offsets qualified m (judged_row j)
 
 module _ (ns : List Name) (s offsets to defs regcounts : List ℕ) where
   -- why the machine i is refused, with the letters of its names: where it has regions, its owner is not there

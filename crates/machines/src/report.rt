@@ -10,13 +10,13 @@ ghost use Rattle.machines.specs.Layout.{prefix_of};
 ghost use Rattle.machines.specs.ReportEntries.{called_of, entry_bytes, name_bytes, names_bytes};
 ghost use Rattle.pack_rules.specs.Names.{Name};
 ghost use Rattle.machines.specs.EmitMachineAt.{Long};
-ghost use Rattle.machines.specs.ReportAt.{EntersAll, RoomAt, RoomForAll, bytes_t, letters_t, of_refused, refusal_t, refused_entry_t};
+ghost use Rattle.machines.specs.ReportAt.{EntersAll, RoomAt, RoomForAll, bytes_t, judged_row, letters_t, of_refused, refusal_t, refused_entry_t};
 
 use crate::checked_read::number;
 use crate::drawing::NameTables;
 use crate::layout::{pack_name, part};
 use crate::table::entry;
-use crate::verdicts::{NameRef, Refusal, VerdictRow, judge};
+use crate::verdicts::{NameRef, Refusal, VerdictRow, judge, no_name, refused};
 use pack::record::Pack;
 use wire::writer::append;
 
@@ -187,6 +187,17 @@ fn refusal_of(
     Err(Refusal::UnknownOwner(o.value))
 }
 
+// What its entry says. An accepted machine has an entry only where the lent tables disagree: no receiver, and no regions either.
+#[tactic(auto, unfolding(crate::specs::ReportAt::judged_row))]
+fn judged_row(judged: Result<usize, Refusal>) -> VerdictRow
+    ensures { result ≡ judged_row judged }
+{
+    match judged {
+        Ok(_) => refused(0, no_name(), no_name()),
+        Err(r) => r.row(),
+    }
+}
+
 // How many bytes its entry takes: none where it is not refused.
 fn refusal_len(
     tables: &NameTables,
@@ -208,16 +219,13 @@ fn refusal_len(
     let at = entry(defs, i);
     let m = number(tables.drawing.pack.bytes, at);
     let j = refusal_of(tables, layout, rows, qualified, defs, regcounts, i);
-    match j {
-        Ok(_) => 0,
-        Err(r) => entry_len(
-            tables.drawing.pack.bytes,
-            tables.offsets,
-            qualified,
-            m.value,
-            r.row(),
-        ),
-    }
+    entry_len(
+        tables.drawing.pack.bytes,
+        tables.offsets,
+        qualified,
+        m.value,
+        judged_row(j),
+    )
 }
 
 // How many bytes the report of the first n machines takes.
@@ -266,18 +274,15 @@ fn put_refusal(
     let p = entry(defs, i);
     let m = number(tables.drawing.pack.bytes, p);
     let j = refusal_of(tables, layout, rows, qualified, defs, regcounts, i);
-    match j {
-        Ok(_) => at,
-        Err(r) => put_entry(
-            tables.drawing.pack.bytes,
-            tables.offsets,
-            qualified,
-            m.value,
-            r.row(),
-            report,
-            at,
-        ),
-    }
+    put_entry(
+        tables.drawing.pack.bytes,
+        tables.offsets,
+        qualified,
+        m.value,
+        judged_row(j),
+        report,
+        at,
+    )
 }
 
 // The report of the first n machines, of which so many are refused.
