@@ -15,7 +15,7 @@ use Rattle.machines.specs.declared.cover.OnlyLeft.{OnlyLeft}
 use Rattle.wire.specs.declared.answer.Number.{Number}
 use Rattle.machines.specs.ResolvedIn.{end_of}
 use Rattle.machines.specs.CheckedReads.{number_in, with}
-use Rattle.machines.specs.CoverAt.{all_miss, asked, assigned, first_miss, gives_t, miss_t, own_t, tells, uncovered_t}
+use Rattle.machines.specs.CoverAt.{all_miss, asked, assigned, first_miss, gives_t, miss_t, own_t, some_word, tells, uncovered_t}
 use Rattle.machines.proofs.CheckedReadLaws.{on}
 
 -- the loop over a state's equations: one that does not give the output, one that does, and the end
@@ -95,6 +95,11 @@ pub no-answer : (x : Maybe ℕ) → is_some x ≡ false → x ≡ None
 no-answer None e = refl
 no-answer (Some m) e = absurd (true≢false e)
 
+-- a word past the top region's is an answer
+pub word-some : (p : ℕ) → 0 < p → Some p ≡ some_word p
+unfolding some_word
+word-some p h = rw (ne_eqb p 0 (λ z. omega arith)) refl
+
 -- the loop over states: one that gives the output, one that does not, and the end
 module _ (t : List ℕ) (f : ℕ → Maybe ℕ) where
   pub first-went : (n p : ℕ) (m : Maybe ℕ) (b : Bool) (r : ℕ) (z : Maybe ℕ) → 0 < n → m ≡ f p → b ≡ is_some m → b ≡ false → r ≡ get_or t (p + 4) 0 → first_miss t f n p ≡ z → first_miss t f (n - 1) r ≡ z
@@ -155,7 +160,7 @@ module _ (ns : List Name) (s t : List ℕ) (out : ℕ) where
   unfolding miss_t
   state-own f at p o a b g = rw (own_at at p o true a b g) refl
 
-  pub state-alone : (f : ℕ → Maybe ℕ) (at p n : ℕ) (o : Bool) → at ≡ get_or t p 0 → o ≡ own_t ns s out at → o ≡ false → n ≡ get_or t (p + 5) 0 → n ≡ 0 → Some p ≡ miss_t ns s t out f p
+  pub state-alone : (f : ℕ → Maybe ℕ) (at p n : ℕ) (o : Bool) → at ≡ get_or t p 0 → o ≡ own_t ns s out at → o ≡ false → n ≡ get_or t (p + 5) 0 → n ≡ 0 → some_word p ≡ miss_t ns s t out f p
   unfolding miss_t
   state-alone f at p n o a b g e h = rw (own_at at p o false a b g, eq-eqb (get_or t (p + 5) 0) 0 (sym e ∙ h)) refl
 

@@ -26,9 +26,10 @@ use Rattle.machines.specs.ResolvedIn.{StateAt, end_of}
 use Rattle.machines.specs.CheckedReads.{number_in, with}
 use Rattle.machines.specs.Layout.{HeldR, HeldS, RegionRow, StateRow, g_end, g_more, h_end, h_more}
 use Rattle.machines.specs.EmitAt.{letters_at}
-use Rattle.machines.specs.CoverAt.{all_miss, asked, assigned, first_miss, gives_t, miss_t, missed, own_t, tells, uncovered_t}
+use Rattle.machines.specs.CoverAt.{all_miss, asked, assigned, first_miss, gives_t, miss_t, missed, own_t, some_word, tells, uncovered_t}
 use Rattle.machines.proofs.Reading.{many-cut, many-end, many_more, many-over, name-number}
 use Rattle.machines.proofs.CheckedReadLaws.{end-to, number-num, number-to}
+use Rattle.machines.proofs.CoverLaws.{word-some}
 use Rattle.machines.proofs.NamesPlaced.{alone}
 use Rattle.machines.proofs.EnumsEmitted.{state-letters}
 
@@ -188,23 +189,23 @@ module _ (ns : List Name) (s t reg qualified : List ℕ) (fresh : Fresh [] ns) (
 
   -- a state, by its regions
   state-told : {at tr a m e k v w : ℕ} {nm : Name} {ts : List Transition} (f : ℕ → Maybe ℕ) (p : ℕ) (es : List Equation) (x : Option Name) → StateRow t p at tr a m e k → StateAt ns s at nm es ts v w
-      → missed t qualified (cond (eqb k 0) (Some p) (all_miss t f k (p + 6) None)) ≡ x → missed t qualified (miss_t ns s t out f p) ≡ unless_covered (is_some (own_value o es)) x
+      → missed t qualified (cond (eqb k 0) (some_word p) (all_miss t f k (p + 6) None)) ≡ x → missed t qualified (miss_t ns s t out f p) ≡ unless_covered (is_some (own_value o es)) x
   unfolding miss_t
   state-told {at = at} f p es x row d h =
       let b = ap (own_t ns s out) row.drawn ∙ own-link ns s fresh out low at _ es _ _ _ d in
-      (λ i. missed t qualified (cond (b i) None (cond (eqb (row.regions i) 0) (Some p) (all_miss t f (row.regions i) (p + 6) None))))
+      (λ i. missed t qualified (cond (b i) None (cond (eqb (row.regions i) 0) (some_word p) (all_miss t f (row.regions i) (p + 6) None))))
       ∙ missed-own t qualified (is_some (own_value o es)) _ ∙ ap (unless_covered (is_some (own_value o es))) h
 
   -- the regions of a state: none; the first, by those after it; those after it
-  regions-none : (p : ℕ) (nn : Name) → letters_at t qualified p ≡ nn → missed t qualified (Some p) ≡ require_cover_regions o nn r_nil
+  regions-none : (p : ℕ) (nn : Name) → 0 < p → letters_at t qualified p ≡ nn → missed t qualified (some_word p) ≡ require_cover_regions o nn r_nil
   unfolding missed require_cover_regions
-  regions-none p nn e = ap some e
+  regions-none p nn h e = ap (missed t qualified) (sym (word-some p h)) ∙ ap some e
 
   regions-first : (f : ℕ → Maybe ℕ) (p k g e : ℕ) (nn full : Name) (h : Bool) (ss : ResolvedStates) (rest : ResolvedRegions) → get_or t (g + 4) 0 ≡ e → missed t qualified (f g) ≡ require_cover_states o ss → ((m : Maybe ℕ) → nothing m ≡ false → all_miss t f k e m ≡ cond (some_region_covers o rest) None m)
-      → missed t qualified (cond (eqb (suc k) 0) (Some p) (all_miss t f (suc k) g None)) ≡ require_cover_regions o nn (r_cons full h ss rest)
+      → missed t qualified (cond (eqb (suc k) 0) (some_word p) (all_miss t f (suc k) g None)) ≡ require_cover_regions o nn (r_cons full h ss rest)
   unfolding all_miss require_cover_regions
   regions-first f p k g e nn full h ss rest a b c =
-      ap (λ (x : Bool). missed t qualified (cond x (Some p) (all_miss t f (suc k) g None))) (ne_eqb (suc k) 0 (λ z. omega arith))
+      ap (λ (x : Bool). missed t qualified (cond x (some_word p) (all_miss t f (suc k) g None))) (ne_eqb (suc k) 0 (λ z. omega arith))
       ∙ missed-other t qualified (f g) (all_miss t f k (get_or t (g + 4) 0) (f g)) (some_region_covers o rest) (λ z. ap (λ (y : ℕ). all_miss t f k y (f g)) a ∙ c (f g) z)
       ∙ ap (λ (y : Option Name). unless_other y (some_region_covers o rest)) b
 
@@ -228,29 +229,32 @@ module _ (ns : List Name) (s t reg qualified : List ℕ) (fresh : Fresh [] ns) (
   unfolding uncovered_t
   uncovered-parts l g n x e h = ap (λ (y : ℕ). missed t qualified (first_miss t (miss_t ns s t out (uncovered_t ns s t out l)) y (g + 9))) e ∙ h
 
+  later : (p e : ℕ) → 0 < p → p + 6 ≤ e → 0 < e
+  later p e a b = omega arith
+
   mutual
     -- the answer of states that are held names the first that does not give the output
-    link_s : {pre : Name} {up l n p i q j : ℕ} (ss : ResolvedStates) → HeldS ns s t reg qualified pre up l n p i ss q j
+    link_s : {pre : Name} {up l n p i q j : ℕ} (ss : ResolvedStates) → HeldS ns s t reg qualified pre up l n p i ss q j → 0 < p
         → missed t qualified (first_miss t (miss_t ns s t out (uncovered_t ns s t out l)) n p) ≡ require_cover_states o ss
-    link_s s_nil (h_end a b) = states-none _ _
-    link_s (s_cons nn es ts rs rest) (h_more row d to f sl ms rg st) =
-        states-more _ _ _ _ nn es ts rs rest row.after (state-told _ _ es _ row d (link_r nn rs rg (state-letters t qualified _ nn row sl))) (link_s rest st)
+    link_s s_nil (h_end a b) h = states-none _ _
+    link_s (s_cons nn es ts rs rest) (h_more row d to f sl ms rg st) h =
+        states-more _ _ _ _ nn es ts rs rest row.after (state-told _ _ es _ row d (link_r nn rs rg h (state-letters t qualified _ nn row sl))) (link_s rest st (later _ _ h (end_r ns s t reg qualified rs rg)))
 
-    link_r : {up st l k p i q j : ℕ} (nn : Name) (rs : ResolvedRegions) → HeldR ns s t reg qualified up st l k p i rs q j → letters_at t qualified st ≡ nn
-        → missed t qualified (cond (eqb k 0) (Some st) (all_miss t (uncovered_t ns s t out l) k p None)) ≡ require_cover_regions o nn rs
-    link_r nn r_nil (g_end a b) e = regions-none _ nn e
-    link_r nn (r_cons full b ss rest) (g_more row rg lt f pr fu st more) e =
-        regions-first _ _ _ _ _ nn full b ss rest row.after (uncovered-parts _ _ _ _ row.states (link_s ss st)) (λ m z. link_more rest more m z)
+    link_r : {up st l k p i q j : ℕ} (nn : Name) (rs : ResolvedRegions) → HeldR ns s t reg qualified up st l k p i rs q j → 0 < st → letters_at t qualified st ≡ nn
+        → missed t qualified (cond (eqb k 0) (some_word st) (all_miss t (uncovered_t ns s t out l) k p None)) ≡ require_cover_regions o nn rs
+    link_r nn r_nil (g_end a b) h e = regions-none _ nn h e
+    link_r nn (r_cons full b ss rest) (g_more row rg lt f pr fu st more) h e =
+        regions-first _ _ _ _ _ nn full b ss rest row.after (uncovered-parts _ _ _ _ row.states (link_s ss st (omega arith))) (λ m z. link_more rest more m z)
 
     link_more : {up st l k p i q j : ℕ} (rs : ResolvedRegions) → HeldR ns s t reg qualified up st l k p i rs q j → (m : Maybe ℕ) → nothing m ≡ false
         → all_miss t (uncovered_t ns s t out l) k p m ≡ cond (some_region_covers o rs) None m
     link_more r_nil (g_end a b) m z = after_none _ _ m
     link_more (r_cons full b ss rest) (g_more row rg lt f pr fu st more) m z =
-        after_more _ _ _ _ m full b ss rest z row.after (uncovered-parts _ _ _ _ row.states (link_s ss st)) (link_more rest more m z)
+        after_more _ _ _ _ m full b ss rest z row.after (uncovered-parts _ _ _ _ row.states (link_s ss st (omega arith))) (link_more rest more m z)
 
   -- THE LAW: the answer of a region that is held names the first state that does not give the output
   pub uncovered-held : {x y a m e i n st up v l w q j : ℕ} {pre : Name} (p : ℕ) (ss : ResolvedStates) → RegionRow t p x y a m e i n st up → HeldS ns s t reg qualified pre v l n (p + 9) w ss q j → missed t qualified (uncovered_t ns s t out (suc l) p) ≡ require_cover_states o ss
-  uncovered-held p ss row st = uncovered-parts _ _ _ _ row.states (link_s ss st)
+  uncovered-held p ss row st = uncovered-parts _ _ _ _ row.states (link_s ss st (omega arith))
 
   pub covers-held : {x y a m e i n st up v l w q j : ℕ} {pre : Name} (p : ℕ) (ss : ResolvedStates) → RegionRow t p x y a m e i n st up → HeldS ns s t reg qualified pre v l n (p + 9) w ss q j → nothing (uncovered_t ns s t out (suc l) p) ≡ all_states_cover o ss
   covers-held p ss row st = gives_all _ ss (uncovered-held p ss row st)

@@ -35,7 +35,7 @@ use Rattle.wire.specs.Lists.{All, Bytes}
 use Rattle.pack_rules.specs.Legal.{Fresh, LegalName}
 use Rattle.pack_rules.specs.Report.{as_refusal, first_of}
 use Rattle.machine_rules.specs.Checks.{bad_initial, bad_target, check_no_states, collect_state_names, refusal_of, repeated, require_cover_regions, require_cover_states, uncovered, unless_covered, unless_other, validate_states}
-use Rattle.machines.specs.CoverAt.{all_miss, asked, first_miss, gives_t, miss_t, missed, own_t, tells, uncovered_t}
+use Rattle.machines.specs.CoverAt.{all_miss, asked, first_miss, gives_t, miss_t, missed, own_t, some_word, tells, uncovered_t}
 use Rattle.machines.specs.ValueAt.{entered_t, giving_from, in_state_t, output_t, outputs_t, port_outputs_t, side_bytes, side_from, side_of, side_t, value_t, values_t}
 use Rattle.machines.proofs.NamesPlaced.{SpotAt}
 use Rattle.machines.proofs.ChainsEmitted.{Alike}
@@ -188,12 +188,12 @@ unfolding name_at require_cover_states require_cover_regions unless_covered unle
 small-o = uncovered-machine ns s t reg qualified small-names 5 (omega arith) small 36 2 held-top
 
 small-g : (uncovered_t ns s t 2 8 0 ≡ Some 24) × (require_cover_states (103 ∷ []) small.states ≡ some (65 ∷ 95 ∷ 88 ∷ []))
-unfolding uncovered_t first_miss miss_t all_miss own_t gives_t tells asked end_of number_in sure_of read_of with equation_in names_in name_in expr_in expr_at expr_head expr_fields expr_rows expr_arity expr_of exprs_of expr_over literal literal_of flag_of name_at nth trees counted many index below guard bind map_a byte u16 require_cover_states require_cover_regions unless_covered unless_other some_region_covers first_of is_some own_value is_only eq_name
+unfolding uncovered_t first_miss miss_t some_word all_miss own_t gives_t tells asked end_of number_in sure_of read_of with equation_in names_in name_in expr_in expr_at expr_head expr_fields expr_rows expr_arity expr_of exprs_of expr_over literal literal_of flag_of name_at nth trees counted many index below guard bind map_a byte u16 require_cover_states require_cover_regions unless_covered unless_other some_region_covers first_of is_some own_value is_only eq_name
 small-g = (refl, refl)
 
 -- the equations: what is copied comes to the same as what is spelt
 small-equations : spell ns (regions_t s offsets t qualified ns reg 0 2 ++ port_outputs_t s t qualified ns 14) [] ≡ spell ns (each equation_items (equations_of small)) []
-unfolding port_outputs_t outputs_t output_t value_t values_t in_state_t entered_t giving_from side_bytes side_of side_t side_from uncovered_t first_miss miss_t all_miss own_t gives_t tells asked equations_of output_equations value_s value_r all_states_cover some_region_covers from_option is_some own_value is_only port_in equation_in names_in type_in first_type type_of type_over plain_types type_at type_head type_fields type_arity name_in nth counted regions_t region_t active_t state_t next_t next_rhs_t chain_t last_or test_t transitions_t moves_t move_t in_region letters_at pack_name raw_name slice_of prefix_of active_equation state_equation end_of number_in sure_of read_of with expr_in expr_at expr_head expr_fields expr_rows expr_arity expr_of exprs_of expr_over literal literal_of flag_of name_at trees many index below guard bind map_a byte u16 top_equations equations_s equations_r region_equations active_in state_rhs previous_next just_entered next_chain chain_step transitions_of is_name size_s size_r each list name_items equation_items expr_items lit_bytes flag_byte un_byte bin_byte bytes two spell spell_one and_then before old_in new_in lookup eq_name active_var state_var next_var sm_prefix decimal digits
+unfolding port_outputs_t outputs_t output_t value_t values_t in_state_t entered_t giving_from side_bytes side_of side_t side_from uncovered_t first_miss miss_t some_word all_miss own_t gives_t tells asked equations_of output_equations value_s value_r all_states_cover some_region_covers from_option is_some own_value is_only port_in equation_in names_in type_in first_type type_of type_over plain_types type_at type_head type_fields type_arity name_in nth counted regions_t region_t active_t state_t next_t next_rhs_t chain_t last_or test_t transitions_t moves_t move_t in_region letters_at pack_name raw_name slice_of prefix_of active_equation state_equation end_of number_in sure_of read_of with expr_in expr_at expr_head expr_fields expr_rows expr_arity expr_of exprs_of expr_over literal literal_of flag_of name_at trees many index below guard bind map_a byte u16 top_equations equations_s equations_r region_equations active_in state_rhs previous_next just_entered next_chain chain_step transitions_of is_name size_s size_r each list name_items equation_items expr_items lit_bytes flag_byte un_byte bin_byte bytes two spell spell_one and_then before old_in new_in lookup eq_name active_var state_var next_var sm_prefix decimal digits
 small-equations = refl
 
 -- and so it is by the law, for every writer

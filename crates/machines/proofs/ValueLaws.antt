@@ -19,7 +19,7 @@ use Rattle.wire.specs.declared.answer.Number.{Number}
 use Rattle.machines.specs.ResolvedIn.{end_of}
 use Rattle.machines.specs.CheckedReads.{number_in}
 use Rattle.machines.specs.Layout.{slice_of}
-use Rattle.machines.specs.CoverAt.{uncovered_t}
+use Rattle.machines.specs.CoverAt.{some_word, uncovered_t}
 use Rattle.machines.specs.EmitAt.{last_or, test_t}
 use Rattle.machines.specs.ValueAt.{into, entered_t, giving_from, in_state_t, output_t, outputs_t, port_outputs_t, side_bytes, side_from, side_of, side_t, value_t, values_t}
 use Rattle.machines.proofs.CoverLaws.{none-told}
@@ -65,13 +65,13 @@ module _ (t : List ℕ) (f : ℕ → Maybe ℕ) where
   giving-went zero g m b r z l e c h a d = absurd (omega arith)
   giving-went (suc n) g m b r z l e c h a d =
       let i : suc n - 1 ≡ n = omega arith in
-      (λ j. giving_from t f (i j) (a j)) ∙ sym (ap (λ (x : Bool). cond x (Some g) (giving_from t f n (get_or t (g + 4) 0))) (ap is_none (sym e) ∙ none-told m _ _ c h)) ∙ d
+      (λ j. giving_from t f (i j) (a j)) ∙ sym (ap (λ (x : Bool). cond x (some_word g) (giving_from t f n (get_or t (g + 4) 0))) (ap is_none (sym e) ∙ none-told m _ _ c h)) ∙ d
 
-  pub giving-found : (n g : ℕ) (m : Maybe ℕ) (b : Bool) (z : Maybe ℕ) → 0 < n → m ≡ f g → is_some m ≡ not b → b ≡ true → giving_from t f n g ≡ z → Some g ≡ z
+  pub giving-found : (n g : ℕ) (m : Maybe ℕ) (b : Bool) (z : Maybe ℕ) → 0 < n → m ≡ f g → is_some m ≡ not b → b ≡ true → giving_from t f n g ≡ z → some_word g ≡ z
   unfolding giving_from
   giving-found zero g m b z l e c h d = absurd (omega arith)
   giving-found (suc n) g m b z l e c h d =
-      sym (ap (λ (x : Bool). cond x (Some g) (giving_from t f n (get_or t (g + 4) 0))) (ap is_none (sym e) ∙ none-told m _ _ c h)) ∙ d
+      sym (ap (λ (x : Bool). cond x (some_word g) (giving_from t f n (get_or t (g + 4) 0))) (ap is_none (sym e) ∙ none-told m _ _ c h)) ∙ d
 
   pub giving-done : (n g : ℕ) (z : Maybe ℕ) → n ≤ 0 → giving_from t f n g ≡ z → None ≡ z
   unfolding giving_from

@@ -32,6 +32,7 @@ use Rattle.machines.proofs.Reading.{many-cut, many-end, many_more, many-over, na
 use Rattle.machines.proofs.CheckedReadLaws.{end-to, number-num, number-to}
 use Rattle.machines.proofs.EnumsEmitted.{id_r, id_s}
 use Rattle.machines.proofs.ChainsEmitted.{Alike, alike-by, last-alike, test-alike}
+use Rattle.machines.proofs.CoverLaws.{word-some}
 use Rattle.machines.proofs.Covered.{covers-held, end_r, end_s, lhs-link}
 
 -- what is given by neither of two is given by the third
@@ -126,12 +127,12 @@ module _ (ns : List Name) (s offsets t reg qualified old : List ℕ)
   value-own d i g f (some e) is v h a = a e refl
 
   -- the first of the regions that are left, or those after it
-  value-choice : (f : ℕ → Maybe ℕ) (v : ℕ → List Item) (k g e : ℕ) (is : List Item) (c : Bool) (a b : Expr) → get_or t (g + 4) 0 ≡ e → nothing (f g) ≡ c
+  value-choice : (f : ℕ → Maybe ℕ) (v : ℕ → List Item) (k g e : ℕ) (is : List Item) (c : Bool) (a b : Expr) → get_or t (g + 4) 0 ≡ e → nothing (f g) ≡ c → 0 < g
       → (c ≡ true → Alike old (v g) (expr_items a)) → (c ≡ false → Alike old (into is v (giving_from t f k e)) (expr_items b))
       → Alike old (into is v (giving_from t f (suc k) g)) (expr_items (cond c a b))
   unfolding giving_from
-  value-choice f v k g e is true a b h l x y = rw l (x refl)
-  value-choice f v k g e is false a b h l x y = rw (l, h) (y refl)
+  value-choice f v k g e is true a b h l z x y = rw (l, sym (word-some g z)) (x refl)
+  value-choice f v k g e is false a b h l z x y = rw (l, h) (y refl)
 
   value-regions : (d : Expr) (own : Option Expr) (i j : ℕ) (full : Name) (h : Bool) (ss : ResolvedStates) (rest : ResolvedRegions) → j ≡ suc i + size_s ss → cond (all_states_cover (name_at ns out) ss) (value_s (name_at ns out) d i (suc i) ss) (value_r (name_at ns out) d own j rest) ≡ value_r (name_at ns out) d own i (r_cons full h ss rest)
   unfolding value_r
@@ -198,7 +199,7 @@ module _ (ns : List Name) (s offsets t reg qualified old : List ℕ)
     link_r d i own is r_nil (g_end a b) h w c x = value-own d i _ _ own is (value_t s t qualified ns out _) c x
     link_r d i own is (r_cons full b ss rest) (g_more row rg lt f pr fu st mo) h w c x = λ z.
         let y = whole-regions full b ss rest w in
-        value-choice _ (value_t s t qualified ns out _) _ _ _ is (all_states_cover (name_at ns out) ss) (value_s (name_at ns out) d i (suc i) ss) (value_r (name_at ns out) d own _ rest) row.after (covers-held ns s t reg qualified fresh out low _ ss row st)
+        value-choice _ (value_t s t qualified ns out _) _ _ _ is (all_states_cover (name_at ns out) ss) (value_s (name_at ns out) d i (suc i) ss) (value_r (name_at ns out) d own _ rest) row.after (covers-held ns s t reg qualified fresh out low _ ss row st) h
         (λ g z. ap (λ (is : List Item). render old is z) (value-parts _ _ _ row.states) ∙ link_s d _ i (suc i) ss st row.number (more _ 9 h) (peopled ss y.0 st) y.1 g z)
         (λ g. link_r d _ own is rest mo (later _ 9 _ h (end_s ns s t reg qualified ss st)) y.2 (past-false (is_some own) (all_states_cover (name_at ns out) ss) (some_region_covers (name_at ns out) rest) (ap (λ (x : Bool). is_some own || x) (sym (covers-regions full b ss rest)) ∙ c) g) x) z
         ∙ ap (λ (x : Expr). render old (expr_items x) z) (value-regions d own i _ full b ss rest (id_s ns s t reg qualified ss st))

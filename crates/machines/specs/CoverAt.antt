@@ -33,6 +33,10 @@ module _ (ns : List Name) (s : List ℕ) where
   unfoldable pub own_t : ℕ → ℕ → Bool
   own_t out at = with (number_in s at) λ i p. with (number_in s p) λ n q. (tells (gives_t out) ◌||◌ n q false).yes
 
+-- the word p as an answer: the word 0, the top region's, is none
+unfoldable pub some_word : ℕ → Maybe ℕ
+some_word p = cond (eqb p 0) None (Some p)
+
 module _ (t : List ℕ) where
   -- the answer of n states from the word p on: the first that there is
   unfoldable pub first_miss : (ℕ → Maybe ℕ) → ℕ → ℕ → Maybe ℕ
@@ -49,7 +53,7 @@ module _ (t : List ℕ) where
 module _ (ns : List Name) (s t : List ℕ) (out : ℕ) where
   -- of the state at the word p, by the answers of its regions
   unfoldable pub miss_t : (ℕ → Maybe ℕ) → ℕ → Maybe ℕ
-  miss_t f p = cond (own_t ns s out (get_or t p 0)) None (cond (eqb (get_or t (p + 5) 0) 0) (Some p) (all_miss t f (get_or t (p + 5) 0) (p + 6) None))
+  miss_t f p = cond (own_t ns s out (get_or t p 0)) None (cond (eqb (get_or t (p + 5) 0) 0) (some_word p) (all_miss t f (get_or t (p + 5) 0) (p + 6) None))
 
   -- of the region at the word q, with so many levels left
   unfoldable pub uncovered_t : ℕ → ℕ → Maybe ℕ

@@ -12,7 +12,7 @@ use Rattle.pack_rules.specs.Write.{Item, raw}
 use Rattle.machines.specs.ResolvedIn.{end_of}
 use Rattle.machines.specs.CheckedReads.{number_in, with}
 use Rattle.machines.specs.Layout.{slice_of}
-use Rattle.machines.specs.CoverAt.{uncovered_t}
+use Rattle.machines.specs.CoverAt.{some_word, uncovered_t}
 use Rattle.machines.specs.EmitAt.{last_or, test_t}
 
 -- names, the pack's bytes, an output by its name's index
@@ -39,7 +39,7 @@ module _ (t : List ℕ) where
   -- the first of n regions from the word g on that has no answer
   unfoldable pub giving_from : (ℕ → Option ℕ) → ℕ → ℕ → Option ℕ
   giving_from f zero g = None
-  giving_from f (suc n) g = cond (is_none (f g)) (Some g) (giving_from f n (get_or t (g + 4) 0))
+  giving_from f (suc n) g = cond (is_none (f g)) (some_word g) (giving_from f n (get_or t (g + 4) 0))
 
   -- the region of the state at the word p that is entered for the output
   unfoldable pub entered_t : (ℕ → Option ℕ) → ℕ → Option ℕ

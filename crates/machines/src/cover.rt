@@ -7,7 +7,7 @@
 ghost use Rattle.std.specs.Prelude.{List, ◌≡◌, ◌<◌, length, is_some, IfSome};
 ghost use Rattle.pack_rules.specs.Names.{Name};
 ghost use Rattle.machines.specs.Memo.{regions_in};
-ghost use Rattle.machines.specs.CoverAt.{gives_t, miss_t, own_t, uncovered_t};
+ghost use Rattle.machines.specs.CoverAt.{gives_t, miss_t, own_t, some_word, uncovered_t};
 ghost use Rattle.machines.specs.AssignsMemo.{AssignsSound, HintOf, assigns_mark, hint_put};
 
 use crate::checked_read::number;
@@ -159,6 +159,14 @@ pub fn assigns_with_memo(drawing: &Drawing, hints: &mut [u16], out: usize, at: u
     assigns_by_mark(drawing, hints, out, at)
 }
 
+// The word p as an answer. At the word 0 stands the top region, which answers nothing: a link that leads there names none.
+#[tactic(auto, unfolding(crate::specs::CoverAt::some_word))]
+pub fn some_word(p: usize) -> Option<usize>
+    ensures { result ≡ some_word p }
+{
+    if p == 0 { None } else { Some(p) }
+}
+
 // Where the state at the word p does not give `out`, by an equation or by a region, the word of a state that does not: its first
 // region's, or its own where it has none.
 #[cycle(require_cover_region_require_cover_state)]
@@ -179,7 +187,7 @@ fn require_cover_state(
     }
     let n = layout_word(layout, p, 5);
     if n == 0 {
-        return Some(p);
+        return some_word(p);
     }
     let mut g = inner(layout, p);
     let mut miss = None;

@@ -9,7 +9,7 @@ ghost use Rattle.machines.specs.AssignsMemo.{AssignsSound};
 ghost use Rattle.machines.specs.ValueAt.{side_t, side_bytes, entered_t, in_state_t, value_t, output_t, port_outputs_t};
 
 use crate::checked_read::{after_expr, after_port, number};
-use crate::cover::{ASSIGNS_MEMO, require_cover_region};
+use crate::cover::{ASSIGNS_MEMO, require_cover_region, some_word};
 use crate::drawing::Drawing;
 use crate::layout::{between, first, inner, layout_word};
 use crate::next_state_chain::put_test;
@@ -51,7 +51,7 @@ fn put_own(
     put_bytes(between(drawing.pack.bytes, a, e), out, writer)
 }
 
-// The first region of the state at the word p that gives x in all its states.
+// The first region of the state at the word p that gives x in all its states; none where that is the word 0.
 fn entered(
     drawing: &Drawing,
     layout: &[usize],
@@ -68,7 +68,7 @@ fn entered(
     for _ in 0..layout_word(layout, p, 5) {
         let m = require_cover_region(drawing, layout, hints, x, levels, g);
         if m.is_none() {
-            return Some(g);
+            return some_word(g);
         }
         g = layout_word(layout, g, 4);
     }

@@ -19,7 +19,7 @@ pub require_cover_state-returns-then-assigns_with_memo : goal.require_cover_stat
 require_cover_state-returns-then-assigns_with_memo t c = record { value = λ ns e. state-own ns _ _ _ _ _ _ _ c.entry.ensures (c.assigns_with_memo.ensures.value ns e) c.if-assigns_with_memo.true; assigns_sound = c.assigns_with_memo.ensures.assigns_sound }
 
 pub require_cover_state-returns-then-n-eq0 : goal.require_cover_state-returns-then-n-eq0
-require_cover_state-returns-then-n-eq0 t c = record { value = λ ns e. state-alone ns _ _ _ _ _ _ _ _ c.entry.ensures (c.assigns_with_memo.ensures.value ns e) c.if-assigns_with_memo.false c.layout_word-n.ensures c.if-n-eq0.true; assigns_sound = c.assigns_with_memo.ensures.assigns_sound }
+require_cover_state-returns-then-n-eq0 t c = record { value = λ ns e. c.some_word.ensures ∙ state-alone ns _ _ _ _ _ _ _ _ c.entry.ensures (c.assigns_with_memo.ensures.value ns e) c.if-assigns_with_memo.false c.layout_word-n.ensures c.if-n-eq0.true; assigns_sound = c.assigns_with_memo.ensures.assigns_sound }
 
 pub require_cover_state-returns-then-is_none : goal.require_cover_state-returns-then-is_none
 require_cover_state-returns-then-is_none t c = record { value = λ ns e. all-given _ _ _ _ _ _ _ _ (some_left c.loop-test.true) (c.require_cover_region-m.ensures.value ns e) c.is_none.ensures c.if-is_none.true (c.loop.invariant.0 ns e) ∙ state-regions ns _ _ _ _ _ _ _ _ _ c.entry.ensures (c.assigns_with_memo.ensures.value ns e) c.if-assigns_with_memo.false c.layout_word-n.ensures c.if-n-eq0.false c.inner-g.ensures; assigns_sound = c.require_cover_region-m.ensures.assigns_sound }
