@@ -41,7 +41,7 @@ use Rattle.activations.specs.PackInfoAt.{Basis, ReadAt, Types}
 use Rattle.activations.specs.Fates.{Drawn}
 use Rattle.activations.specs.Verdicts.{LeftAs, quiet}
 use Rattle.activations.specs.AddedParts.{AllMade, IsMade, RowWritten, brought, equations_of, ports_of}
-use Rattle.activations.proofs.Prepared.{BegunAs, Makes, begun-equations, begun-here, begun-leaves, known, made-makes, name-here, variables-more}
+use Rattle.activations.proofs.Prepared.{BegunAs, Makes, begun-equations, begun-here, begun-leaves, made-makes, name-here, variables-more}
 use Rattle.activations.proofs.Splits.{among}
 
 extend-none : (n : Node) → extend [] [] n ≡ n
@@ -86,9 +86,6 @@ module _ (ns : List Name) (es : List Enum) (old s offsets : List ℕ) (b : PackI
   its : Makes es A n (ports_of (lowered es A n)) (equations_of (lowered es A n))
   its = made-makes es A n (ports_of (lowered es A n)) (equations_of (lowered es A n)) (made-is (lowered es A n) M)
 
-  pub held-here : x.hold.kind ≡ 0
-  held-here = (known ns es old s offsets b B at A act R n x G low its.ports its.equations its.holds its.filled).0
-
   leaves : (z : Left) → Leaves ns s ls z (act_locals_t ns s old b.made A.name offsets x.hold.env x.outs b.last x.hold.held x.rows act z)
   leaves z = subst (λ (l : List Port). Leaves ns s l z (act_locals_t ns s old b.made A.name offsets x.hold.env x.outs b.last x.hold.held x.rows act z)) (sym its.locals) (begun-leaves ns es old s offsets b B at A act R n x G low its.ports its.equations its.holds its.filled z)
 
@@ -125,9 +122,6 @@ module _ (ns : List Name) (es : List Enum) (old s offsets : List ℕ) (b : PackI
 
   named : a ≡ A.name
   named = name-here ns es old s offsets b B at A act R n a ea
-
-  pub row-held : x.hold.kind ≡ 0
-  row-held = let few = B.few in held-here ns es old s offsets b B at A act R n later T (omega arith) x begun (omega arith) M
 
   pub row-locals : (z u : Left) → z.later ≡ later → u ≡ act_locals_t ns s old b.made a offsets x.hold.env x.outs b.last x.hold.held x.rows act z
       → RowWritten ns es s old A n (each port_items (ports_of (lowered es A n))) z.state u.state u.later

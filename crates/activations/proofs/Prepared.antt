@@ -177,7 +177,7 @@ module _ (ns : List Name) (es : List Enum) (old s offsets : List ℕ) (b : PackI
 
   -- the tables once holders are known
   module _ (x : Preparation) (G : BegunAs ns es s A n x) (low : length x.hold.env ≤ 65536) (ps : List Port) (gs : List Equation) (H : holding es A n ≡ holders_made ps gs) (filled : has_empty_left A ≡ false) where
-    pub known : (x.hold.kind ≡ 0) × KnownAt ns s A.name x.hold.env x.hold.held x.rows (variables n ++ ps) × RowsFrom ns s x.hold.held 0 (asked A)
+    known : (x.hold.kind ≡ 0) × KnownAt ns s A.name x.hold.env x.hold.held x.rows (variables n ++ ps) × RowsFrom ns s x.hold.held 0 (asked A)
     known = held-known ns s A.name x.hold x.rows (variables n) (asked A) (holding es A n) ps gs G.held H
 
     pub begun-leaves : (z : Left)

@@ -1,10 +1,10 @@
 -- Internal: nothing here has to be believed; laws tie it to what docs/TRUSTED.md lists.
 -- An activation begun, as the code does it: the types of what it may read, its holders' rows, and what is refused of these.
-use Rattle.std.specs.Prelude.{ℕ, List, Result, Ok, Err, ◌≡◌}
+use Rattle.std.specs.Prelude.{ℕ, List}
 use Rattle.pack_rules.specs.Names.{Name}
 use Rattle.activations.specs.declared.pack_info.PackInfo.{PackInfo}
 use Rattle.activations.specs.declared.parts.Act.{Act}
-use Rattle.activations.specs.declared.checks.Refusal.{Refusal}
+use Rattle.activations.specs.declared.lower.Prepared.{Prepared}
 use Rattle.activations.specs.Cells.{clear_t, copy_t}
 use Rattle.activations.specs.TypesAt.{first_ports_t}
 use Rattle.activations.specs.LastsAt.{Rows, find_all_lasts_t, rows_of}
@@ -17,14 +17,9 @@ pub record Preparation : Type 0 where
   pub hold : Hold
   pub rows : ℕ
 
--- how many holders there are, where that is answered, else n
-unfoldable pub rows_or : ℕ → Result ℕ Refusal → ℕ
-rows_or n (Ok k) = k
-rows_or n (Err r) = n
-
--- the same from the tables and the answer of the code
-abbrev pub PreparedAs : ℕ → List ℕ → List ℕ → List ℕ → Result ℕ Refusal → Preparation → Type 0
-PreparedAs names env outs lasts r z = record { outs = outs; hold = hold_with names 0 env lasts r; rows = rows_or z.rows r } ≡ z
+-- the same from the tables and the answer of the code, where there are so many names
+abbrev pub preparation_of : ℕ → List ℕ → List ℕ → List ℕ → Prepared → Preparation
+preparation_of names env outs lasts r = record { outs = outs; hold = hold_with names 0 env lasts r.verdict; rows = r.rows }
 
 module _ (ns : List Name) (old s : List ℕ) (b : PackInfo) (offsets : List ℕ) (a : Name) where
   -- with the rows and the outputs' types

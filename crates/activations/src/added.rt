@@ -121,9 +121,7 @@ fn put_row_locals(
     }
     let act = act_of(pack, info.names, acts, i);
     let a = pack_name(pack, offsets, act.name);
-    let Ok(rows) = prepare(old, pack, info, offsets, a, act, later, types, outs, lasts) else {
-        return writer;
-    };
+    let rows = prepare(old, pack, info, offsets, a, act, later, types, outs, lasts).rows;
     let p = Passed {
         w: writer,
         count: 0,
@@ -164,9 +162,7 @@ fn put_row_equations(
     }
     let act = act_of(pack, info.names, acts, i);
     let a = pack_name(pack, offsets, act.name);
-    let Ok(rows) = prepare(old, pack, info, offsets, a, act, later, types, outs, lasts) else {
-        return writer;
-    };
+    let rows = prepare(old, pack, info, offsets, a, act, later, types, outs, lasts).rows;
     let v = put_act_equations(
         old, pack, info, offsets, a, act, lasts, rows, types, outs, reads, sampled, out, made,
         writer,

@@ -1,12 +1,12 @@
 // One activation: what it needs is prepared (types, the variables that `last` asks for, their holders), then its equations are written
 // in the order of the Rust: holders, flags, guards, scopes, merges. It is prepared anew for judging, for locals and for equations, so
 // that every table is that of one activation.
-ghost use Rattle.std.specs.Prelude.{IfOk, List, ◌≡◌, ◌<◌, ◌^◌, ◌≤◌, length};
+ghost use Rattle.std.specs.Prelude.{List, ◌≡◌, ◌<◌, ◌^◌, ◌≤◌, length};
 ghost use Rattle.wire.specs.Bytes.{word_range};
 ghost use Rattle.pack_rules.specs.Names.{Name};
 ghost use Rattle.pack_rules.specs.Limits.{max_bytes};
 ghost use Rattle.activations.specs.Refusing.{OfVariable};
-ghost use Rattle.activations.specs.PreparedAt.{PreparedAs, prepared_t};
+ghost use Rattle.activations.specs.PreparedAt.{preparation_of, prepared_t};
 ghost use Rattle.wire.specs.Writer.{state_of};
 ghost use Rattle.pack_rules.specs.Syntax.{Expr};
 ghost use Rattle.activations.specs.EquationsAt.{act_equations_t};
@@ -25,8 +25,14 @@ use wire::writer::Writer;
 
 // --- An activation prepared: the types of what it may read, the variables that `last` asks for, and their holders.
 
-// Answers how many holders there are. `later` has the types of the owner's variables.
-#[tactic(auto, unfolding(crate::specs::Refusing::OfVariable))]
+// How many holders there are, also where one of them is refused.
+#[derive(Clone, Copy)]
+pub struct Prepared {
+    pub rows: usize,
+    pub verdict: Result<(), Refusal>,
+}
+
+// `later` has the types of the owner's variables.
 pub fn prepare(
     old: &[u8],
     pack: &[u8],
@@ -38,17 +44,17 @@ pub fn prepare(
     types: &mut [u16],
     outs: &mut [u16],
     lasts: &mut [u16],
-) -> Result<usize, Refusal>
+) -> Prepared
     requires { (length pack.now ≤ max_bytes) × (info.names ≤ word_range) }
-    ensures few { IfOk result (λ n. n ≤ 8192) }
-    ensures alone { OfVariable result }
-    ensures begun { (ns : List Name) → length ns ≡ info.names → PreparedAs info.names types.new outs.new lasts.new result (prepared_t ns old.now pack.now info offsets.now a.now act later.now types.old outs.old lasts.old) }
+    ensures few { result.rows ≤ 8192 }
+    ensures alone { OfVariable result.verdict }
+    ensures begun { (ns : List Name) → length ns ≡ info.names → preparation_of info.names types.new outs.new lasts.new result ≡ prepared_t ns old.now pack.now info offsets.now a.now act later.now types.old outs.old lasts.old }
 {
     copy(later, types, info.names);
     note_outputs(pack, info.names, outs, act.outputs);
     let rows = find_all_lasts(pack, info, lasts, act);
-    type_holders(old, pack, info, offsets, a, outs, types, lasts, rows)?;
-    Ok(rows)
+    let verdict = type_holders(old, pack, info, offsets, a, outs, types, lasts, rows);
+    Prepared { rows, verdict }
 }
 
 // --- The equations of an activation: holders, flags, guards, scopes, merges.

@@ -104,10 +104,12 @@ pub fn judge_act(
 {
     checks(pack, info, types, outs, act)?;
     let a = pack_name(pack, offsets, act.name);
-    let rows = prepare(old, pack, info, offsets, a, act, later, types, outs, lasts)?;
+    let prepared = prepare(old, pack, info, offsets, a, act, later, types, outs, lasts);
+    prepared.verdict?;
     if has_empty_left(pack, info.names, act) {
         return Err(Refusal::EmptyLeft);
     }
+    let rows = prepared.rows;
     let locals = count_and_type_locals(
         old, pack, info, a, offsets, lasts, rows, types, outs, act, reads, sampled, later,
     );
