@@ -50,6 +50,9 @@ copied_more l qualified u src at a k p b e q f g =
     ∙ sets-append l at (values src a k) (get_or src (a + k) 0 ∷ []) (at + k) (ap (λ (j : ℕ). at + j) (sym (length-values src a k)))
     ∙ ap (sets l at) (sym (values-snoc src a k) ∙ ap (values src a) (sym i))
 
+pub kept-letter : (l qualified : List ℕ) (at : ℕ) (vs : List ℕ) (j b : ℕ) → qualified ≡ sets l at vs → j < at → b ≡ get_or qualified j 0 → b ≡ get_or l j 0
+kept-letter l qualified at vs j b e h f = f ∙ ap (λ (r : List ℕ). get_or r j 0) e ∙ sets-before l at vs j h
+
 -- values that all stand there, and copied at once
 pub values-are : (l : List ℕ) (a n : ℕ) → a + n ≤ length l → values l a n ≡ take n (drop a l)
 unfolding values
@@ -57,11 +60,14 @@ values-are l a zero h = refl
 values-are l a (suc n) h =
     ap (λ (r : List ℕ). get_or l a 0 ∷ r) (values-are l (suc a) n (omega arith)) ∙ ap (take (suc n)) (sym (drop-cons l a 0 (omega arith)))
 
-pasted : (l : List ℕ) (at a m : ℕ) → a + m ≤ length l → at + m ≤ length l → paste l at (drop a l) (a + m - a) ≡ sets l at (values l a m)
+pub pasted : (l : List ℕ) (at a m : ℕ) → a + m ≤ length l → at + m ≤ length l → paste l at (drop a l) (a + m - a) ≡ sets l at (values l a m)
 pasted l at a m h k =
     let n : a + m - a ≡ m = omega arith in
     ap (paste l at (drop a l)) n
     ∙ sym (sets-eq (values l a m) l at (omega (arith, length-values l a m)) ∙ (λ i. take at l ++ values-are l a m h i ++ drop (at + length-values l a m i) l))
+
+pub all-copied : (l u : List ℕ) (at a m k : ℕ) → k ≤ m → m ≤ k → a + m ≤ at → at + prefix_len m ≤ length l → m ≤ prefix_len m → u ≡ sets l at (values l a k) → u ≡ paste l at (drop a l) (a + m - a)
+all-copied l u at a m k x y h r p e = let i : k ≡ m = omega arith in e ∙ ap (λ (j : ℕ). sets l at (values l a j)) i ∙ sym (pasted l at a m (omega arith) (omega arith))
 
 -- the prefix
 pub lead-none : (m : ℕ) → m ≡ 0 → 0 ≡ prefix_len m

@@ -100,7 +100,8 @@ pub fn next_to(receivers: &[usize], n: usize, k: usize, i: usize) -> usize
     i.max(n)
 }
 
-// How many equations the machine i brings to the node k.
+// How many equations the machine i brings to the node k. Inlined, since all machines are asked for each node.
+#[inline(always)]
 pub fn adds_equations(
     pack: &CheckedPack,
     defs: &[usize],
@@ -118,6 +119,7 @@ pub fn adds_equations(
 }
 
 // How many locals it brings there.
+#[inline(always)]
 fn adds_locals(
     pack: &CheckedPack,
     defs: &[usize],

@@ -32,7 +32,8 @@ pub struct Inside {
 }
 
 impl<'a, 'b> Drawing<'a, 'b> {
-    // Past the equation at `at`.
+    // Past the equation at `at`. Inlined, since a state's equations are gone through once for each output.
+    #[inline(always)]
     pub fn end_of(&self, at: usize) -> usize
         ensures { (ns : List Name) → length ns ≡ self.now.pack.names → result ≡ end_of (equation_in ns self.now.pack.bytes.now at) }
     {

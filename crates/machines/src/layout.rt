@@ -100,7 +100,7 @@ fn fits(len: usize, a: usize, m: usize, at: usize, n: usize) -> bool
     prefix_len(m) < len - at - n
 }
 
-// The prefix: m letters from a on, and `_`.
+// The prefix: m letters from a on, and `_`. One by one: `copy_within` would have the C archive ask its caller for `memmove`.
 fn put_prefix(qualified: &mut [u8], a: usize, m: usize, at: usize)
     requires { (a + m ≤ at) × (at + prefix_len m ≤ length qualified.old) }
     ensures { qualified.new ≡ sets qualified.old at (under qualified.old a m) }
@@ -108,7 +108,9 @@ fn put_prefix(qualified: &mut [u8], a: usize, m: usize, at: usize)
     if m == 0 {
         return;
     }
-    qualified.copy_within(a..a + m, at);
+    for k in 0..m {
+        qualified[at + k] = qualified[a + k];
+    }
     qualified[at + m] = b'_';
 }
 
