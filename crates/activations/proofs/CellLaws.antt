@@ -1,11 +1,12 @@
 -- Laws for tables of 16-bit words.
 use Prim.Native.Nat.{ℕ, zero, suc, ◌+◌, ◌-◌, ◌<◌, ◌≤◌, min}
+use native.Mathlib.Nat.{zero-add}
 use native.Mathlib.Omega.{arith}
 use mathlib.Core.List.{List}
 use mathlib.Core.Logic.{⊎_elim}
-use mathlib.Core.Path.{◌≡◌, refl, sym, ◌∙◌}
+use mathlib.Core.Path.{◌≡◌, refl, sym, ap, ◌∙◌}
 use lib.ListN.{length, get_or, set, get_or-eq_default, take, drop, replicate, length-append, length-drop}
-use lib.Seq.{get_or-set_other}
+use lib.Seq.{get_or-set_other, paste}
 use Rattle.std.proofs.lemmas.List.{same_lists, places, get_or_default, length-replicate}
 use mathlib.Core.List.{◌++◌}
 use Rattle.wire.proofs.Writers.{lt-or-le}
@@ -48,3 +49,11 @@ copied from to z y n e k m l c d =
     (rw (c, d) (grind (arith, places)))
     (λ j b u. rw (c, d) (⊎_elim (λ (g : j < k). grind (arith, places)) (λ (g : k ≤ j). let o : get_or from j 0 ≡ 0 = get_or-eq_default from 0 (omega arith) in rw o (grind (arith, places))) (lt-or-le j k)))
     (λ j u. rw (c, d) (grind (arith, places)))
+
+-- the same by a loop that copies k cells
+pub copied-over : (from to u z : List ℕ) (n e k i : ℕ) → e ≡ min n (length to) → k ≡ min e (length from) → i ≤ k → k ≤ i → u ≡ paste to 0 from i → z ≡ replicate (e - k) 0
+    → take k u ++ (z ++ drop (e - k) (drop k u)) ≡ copy_t from n to
+copied-over from to u z n e k i m l p q r d =
+    let x : i ≡ k = omega arith in
+    let v : u ≡ take k from ++ drop k to = r ∙ ap (λ j. paste to 0 from j) x ∙ ap (λ j. take k from ++ drop j to) (zero-add k) in
+    rw v (copied from to z (take k from) n e k m l refl d)

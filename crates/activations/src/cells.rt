@@ -40,6 +40,8 @@ pub fn copy(from: &[u16], to: &mut [u16], n: usize)
 {
     let end = n.min(to.len());
     let known = end.min(from.len());
-    to[..known].copy_from_slice(&from[..known]);
+    for i in 0..known {
+        to[i] = from[i];
+    }
     to[known..end].fill(0);
 }

@@ -48,15 +48,17 @@ pub fn put_u16(out: &mut [u8], w: Writer, k: usize) -> Writer
     put_byte(out, a, (k / 256 % 256) as u8)
 }
 
-// Copies src over what dst holds from `at` on, and says where it ends.
+// Copies src over what dst holds from `at` on, and says where it ends. One by one: the library's copy would have the C archive ask its
+// caller for `memmove`.
 pub fn append(src: &[u8], dst: &mut [u8], at: usize) -> usize
     requires { at + length src.now ≤ length dst.old }
     ensures value { result ≡ at + length src.now }
     ensures dst_after { dst.new ≡ overwritten at src.now dst.old }
 {
-    let end = at + src.len();
-    dst[at..end].copy_from_slice(src);
-    end
+    for j in 0..src.len() {
+        dst[at + j] = src[j];
+    }
+    at + src.len()
 }
 
 // The bytes of src, copied at once.
