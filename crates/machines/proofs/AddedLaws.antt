@@ -61,6 +61,9 @@ total-skip f n j (suc m) i e h = total-one f n i (h i (omega arith) (omega arith
 pub total_first : (f : ℕ → ℕ) (n j : ℕ) → 0 ≤ j → ((p : ℕ) → 0 ≤ p → p < j → 0 ≡ f p) → 0 + total_t f (n - j) j ≡ total_t f n 0
 total_first f n j l h = ap (λ y. 0 + y) (sym (total-skip f n j j 0 (omega arith) h)) ∙ total-start f n
 
+pub total-next : (f : ℕ → ℕ) (n i c d j z : ℕ) → i < n → d ≡ f i → i + 1 ≤ j → ((p : ℕ) → i + 1 ≤ p → p < j → 0 ≡ f p) → c + total_t f (n - i) i ≡ z → (c + d) + total_t f (n - j) j ≡ z
+total-next f n i c d j z l e k h q = ap (λ y. (c + d) + y) (sym (total-skip f n j (j - (i + 1)) (i + 1) (omega arith) h)) ∙ total-more f n i c d z l e q
+
 -- a sum with one more at the end
 pub total-end : (f : ℕ → ℕ) (n i : ℕ) → total_t f (suc n) i ≡ total_t f n i + f (i + n)
 unfolding total_t
@@ -112,6 +115,20 @@ each-one f c i e = go (c - i) refl
 pub each-skip : (f : ℕ → List Item) (c j m i : ℕ) → i + m ≡ j → ((p : ℕ) → i ≤ p → p < j → f p ≡ []) → each_t f (c - i) i ≡ each_t f (c - j) j
 each-skip f c j zero i e h = let d : i ≡ j = omega arith in ap (λ (y : ℕ). each_t f (c - y) y) d
 each-skip f c j (suc m) i e h = each-one f c i (h i (omega arith) (omega arith)) ∙ each-skip f c j m (suc i) (omega arith) (λ p l q. h p (omega arith) q)
+
+-- a loop that writes items until the writer is full, past indexes without any: its start, one more, and the end
+pub each_first : (old : List ℕ) (f : ℕ → List Item) (n j : ℕ) (s : State) → 0 ≤ j → ((p : ℕ) → 0 ≤ p → p < j → f p ≡ []) → render old (each_t f (n - j) j) s ≡ render old (each_t f n 0) s
+each_first old f n j s l h = let e : n - 0 ≡ n = omega arith in ap (λ x. render old x s) (sym (each-skip f n j j 0 (omega arith) h) ∙ ap (λ (y : ℕ). each_t f y 0) e)
+
+pub each_next : (old : List ℕ) (f : ℕ → List Item) (i c d j : ℕ) (o m : List ℕ) (w : Writer) (s z : State) → i < c → state_of o m w ≡ render old (f i) s → d ≡ cond w.full 0 c
+    → i + 1 ≤ j → ((p : ℕ) → i + 1 ≤ p → p < j → f p ≡ []) → render old (each_t f (c - i) i) s ≡ z → render old (each_t f (d - j) j) (state_of o m w) ≡ z
+each_next old f i c d j o m w s z l e g k h q =
+    ap (λ x. render old x (state_of o m w)) (sym (each-skip f d j (j - (i + 1)) (i + 1) (omega arith) h))
+    ∙ each_left old f i (c - i) (d - (i + 1)) o m w s z (omega arith) e (rest w.full g) q
+  where
+    rest : (b : Bool) → d ≡ cond b 0 c → d - (i + 1) ≡ cond b 0 (c - i - 1)
+    rest true x = omega arith
+    rest false x = omega arith
 
 pub each_over : (old : List ℕ) (f : ℕ → List Item) (i c : ℕ) (s z : State) → c ≤ i → render old (each_t f (c - i) i) s ≡ z → s ≡ z
 each_over old f i c s z l h = each_none old f i (c - i) s z (omega arith) h

@@ -1,5 +1,5 @@
 -- Laws for the code that lays machines out again and writes their equations and enums.
-use Prim.Native.Nat.{suc, ℕ, ◌+◌, ◌<◌}
+use Prim.Native.Nat.{suc, ℕ, ◌+◌, ◌-◌, ◌<◌, ◌≤◌}
 use native.Mathlib.Omega.{arith}
 use mathlib.Core.List.{List, [], ◌++◌}
 use mathlib.Core.Bool.{Bool, true, false, cond}
@@ -7,7 +7,8 @@ use mathlib.Core.Path.{◌≡◌, refl, sym, ap, ◌∙◌}
 use lib.ListN.{length, get_or}
 use lib.Dec.{eqb}
 use borrow.Author.Tests.{eq-eqb, ne_eqb}
-use Rattle.wire.specs.Writer.{State}
+use Rattle.wire.specs.declared.writer.Writer.{Writer}
+use Rattle.wire.specs.Writer.{State, state_of}
 use Rattle.pack_rules.specs.Names.{Name}
 use Rattle.pack_rules.specs.Write.{Item}
 use Rattle.pack.specs.Intern.{render}
@@ -23,7 +24,7 @@ use Rattle.machines.specs.VerdictAt.{lay_at}
 use Rattle.machines.specs.AddedAt.{each_t}
 use Rattle.machines.specs.EmitMachineAt.{AllWrite, Long, Writes, added_at, enums_at, equations_at}
 use Rattle.machines.specs.WriteNodesAt.{added_equations_t}
-use Rattle.machines.proofs.AddedLaws.{each_more}
+use Rattle.machines.proofs.AddedLaws.{each_first, each_more, each_next}
 
 -- tables of the same lengths
 pub long_kept : (t reg qualified u v l : List ℕ) → length u ≡ length t → length v ≡ length reg → length l ≡ length qualified → Long t reg qualified → Long u v l
@@ -88,12 +89,16 @@ module _ (ns : List Name) (sb offsets to old defs : List ℕ) (n i : ℕ) (t reg
       go true = wrote (equations_at ns sb offsets to) eqs h y
       go false = refl
 
-  pub equations-more : (eqs : ℕ → List Item) (receivers : List ℕ) (k c d : ℕ) (x s z : State) → AllWrite old (equations_at ns sb offsets to) defs n eqs → c ≡ suc d → x ≡ render old (added_at ns sb offsets to defs receivers k i t reg qualified) s
-      → render old (each_t (added_equations_t receivers eqs k) c i) s ≡ z → render old (each_t (added_equations_t receivers eqs k) d (i + 1)) x ≡ z
-  equations-more eqs receivers k c d x s z h l e = each_more old (added_equations_t receivers eqs k) i c d x s z l (e ∙ wrote-brought eqs receivers k h s)
+  pub equations-next : (eqs : ℕ → List Item) (receivers : List ℕ) (k c d j : ℕ) (o m : List ℕ) (w : Writer) (s z : State) → AllWrite old (equations_at ns sb offsets to) defs n eqs → i < c → state_of o m w ≡ render old (added_at ns sb offsets to defs receivers k i t reg qualified) s → d ≡ cond w.full 0 c
+      → i + 1 ≤ j → ((p : ℕ) → i + 1 ≤ p → p < j → get_or receivers p 0 ≡ k → ⊥) → render old (each_t (added_equations_t receivers eqs k) (c - i) i) s ≡ z → render old (each_t (added_equations_t receivers eqs k) (d - j) j) (state_of o m w) ≡ z
+  equations-next eqs receivers k c d j o m w s z h l e g r q = each_next old (added_equations_t receivers eqs k) i c d j o m w s z l (e ∙ wrote-brought eqs receivers k h s) g r (λ p a b. no-equations receivers eqs k p (q p a b))
 
   enums-written : (ens : ℕ → List Item) (a : ℕ) (s w : State) → AllWrite old (enums_at ns sb offsets to) defs n ens → a ≡ get_or defs i 0 → w ≡ render old (enums_at ns sb offsets to a t reg qualified) s → w ≡ render old (ens i) s
   enums-written ens a s w h ea e = e ∙ ap (λ x. render old (enums_at ns sb offsets to x t reg qualified) s) ea ∙ wrote (enums_at ns sb offsets to) ens h s
 
   pub enums-more : (ens : ℕ → List Item) (a c d : ℕ) (x s z : State) → AllWrite old (enums_at ns sb offsets to) defs n ens → c ≡ suc d → a ≡ get_or defs i 0 → x ≡ render old (enums_at ns sb offsets to a t reg qualified) s → render old (each_t ens c i) s ≡ z → render old (each_t ens d (i + 1)) x ≡ z
   enums-more ens a c d x s z h l ea e = each_more old ens i c d x s z l (enums-written ens a s x h ea e)
+
+-- where such a loop begins
+pub equations-first : (old receivers : List ℕ) (eqs : ℕ → List Item) (k n j : ℕ) (s : State) → 0 ≤ j → ((p : ℕ) → 0 ≤ p → p < j → get_or receivers p 0 ≡ k → ⊥) → render old (each_t (added_equations_t receivers eqs k) (n - j) j) s ≡ render old (each_t (added_equations_t receivers eqs k) n 0) s
+equations-first old receivers eqs k n j s l h = each_first old (added_equations_t receivers eqs k) n j s l (λ p a b. no-equations receivers eqs k p (h p a b))

@@ -101,3 +101,10 @@ pub qualified-is : (sb offsets t qualified n : List ℕ) (q x : ℕ) (s : State)
 unfolding in_region
 qualified-is sb offsets t qualified n q x s e =
     ap (λ (k : List ℕ). puts k (puts (prefix_of (letters_at t qualified q)) s)) e ∙ sym (puts-append (prefix_of (letters_at t qualified q)) (pack_name sb offsets x) s)
+
+pub left-most : (w : Writer) (n k : ℕ) → k ≡ cond w.full 0 n → k ≤ n
+left-most w n k e = go w.full e
+  where
+    go : (b : Bool) → k ≡ cond b 0 n → k ≤ n
+    go true x = omega arith
+    go false x = omega arith

@@ -17,7 +17,7 @@ ghost use Rattle.pack.specs.Intern.{render};
 
 use crate::checked_read::{CheckedPack, number};
 use crate::emit_region::{put_inner_locals, put_region_locals};
-use crate::layout::{between, pack_name};
+use crate::layout::{between, pack_name, remaining};
 use crate::table::{entry, to_outputs};
 use pack::check::reached;
 use pack::parts::skip_ports;
@@ -100,8 +100,7 @@ pub fn next_to(receivers: &[usize], n: usize, k: usize, i: usize) -> usize
     i.max(n)
 }
 
-// How many equations the machine i brings to the node k. Inlined, since all machines are asked for each node.
-#[inline(always)]
+// How many equations the machine i brings to the node k.
 pub fn adds_equations(
     pack: &CheckedPack,
     defs: &[usize],
@@ -119,7 +118,6 @@ pub fn adds_equations(
 }
 
 // How many locals it brings there.
-#[inline(always)]
 fn adds_locals(
     pack: &CheckedPack,
     defs: &[usize],
@@ -149,8 +147,10 @@ pub fn added_equations(
     ensures { (result ≤ 1048576 * n) × ((ns : List Name) → length ns ≡ pack.now.names → result ≡ total_t (adds_equations_t ns pack.now.bytes.now defs.now receivers.now regcounts.now k) n 0) }
 {
     let mut c = 0;
-    for i in 0..n {
+    let mut i = next_to(receivers, n, k, 0);
+    while i < n {
         c += adds_equations(pack, defs, receivers, regcounts, k, i);
+        i = next_to(receivers, n, k, i + 1);
     }
     c
 }
@@ -168,8 +168,10 @@ pub fn added_locals(
     ensures { (result ≤ 1048576 * n) × ((ns : List Name) → length ns ≡ pack.now.names → result ≡ total_t (adds_locals_t ns pack.now.bytes.now defs.now receivers.now regcounts.now k) n 0) }
 {
     let mut c = 0;
-    for i in 0..n {
+    let mut i = next_to(receivers, n, k, 0);
+    while i < n {
         c += adds_locals(pack, defs, receivers, regcounts, k, i);
+        i = next_to(receivers, n, k, i + 1);
     }
     c
 }
@@ -337,13 +339,14 @@ pub fn put_all_locals(
     ensures { (ns : List Name) → length ns ≡ pack.now.names → state_of out.new made.new result ≡ render old.now (each_t (added_locals_t ns pack.now.bytes.now defs.now receivers.now regcounts.now offsets.now k) n 0) (state_of out.old made.old writer) }
 {
     let mut v = writer;
-    for i in 0..n {
-        if v.full {
-            return v;
-        }
+    let mut c = n;
+    let mut i = next_to(receivers, c, k, 0);
+    while i < c {
         v = put_added_locals(
             old, pack, offsets, defs, receivers, regcounts, k, i, out, made, v,
         );
+        c = remaining(v, c);
+        i = next_to(receivers, c, k, i + 1);
     }
     v
 }

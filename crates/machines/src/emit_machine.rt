@@ -8,10 +8,11 @@ ghost use Rattle.machines.specs.AddedAt.{each_t};
 ghost use Rattle.machines.specs.EmitMachineAt.{AllWrite, Long, added_at, enums_at, equations_at};
 ghost use Rattle.machines.specs.WriteNodesAt.{added_equations_t};
 
+use crate::added::next_to;
 use crate::checked_read::number;
 use crate::drawing::Drawing;
 use crate::emit_region::{emit_regions, put_enums};
-use crate::layout::{layout_machine, pack_name};
+use crate::layout::{layout_machine, pack_name, remaining};
 use crate::table::{entry, to_initial, to_outputs};
 use crate::value_of::put_outputs;
 use wire::writer::Writer;
@@ -126,14 +127,15 @@ pub fn put_all_equations(
     ensures { (ns : List Name) → length ns ≡ drawing.now.pack.names → (eqs : ℕ → List Item) → AllWrite old.now (equations_at ns drawing.now.pack.bytes.now offsets.now machines.now) defs.now n eqs → state_of out.new made.new result ≡ render old.now (each_t (added_equations_t receivers.now eqs k) n 0) (state_of out.old made.old writer) }
 {
     let mut v = writer;
-    for i in 0..n {
-        if v.full {
-            return v;
-        }
+    let mut c = n;
+    let mut i = next_to(receivers, c, k, 0);
+    while i < c {
         v = put_added_equations(
             old, drawing, offsets, machines, layout, rows, qualified, defs, receivers, k, i, out,
             made, v,
         );
+        c = remaining(v, c);
+        i = next_to(receivers, c, k, i + 1);
     }
     v
 }

@@ -1,4 +1,4 @@
-use Prim.Native.Nat.{◌+◌, ◌-◌, ◌*◌, ◌≤◌}
+use Prim.Native.Nat.{◌+◌, ◌*◌, ◌-◌, ◌≤◌}
 use mathlib.Core.List.{List}
 use mathlib.Core.Path.{◌≡◌}
 use lib.ListN.{length}
@@ -7,4 +7,7 @@ use Rattle.machines.specs.AddedAt.{adds_equations_t, total_t}
 use Rattle.machines.proofs.added.added_equations.Given as goal
 
 abbrev pub invariant-loop-i : goal.invariant-loop-i
-invariant-loop-i l = (l.c ≤ 1048576 * l.i) × ((ns : List Name) → length ns ≡ l.pack.names → l.c + total_t (adds_equations_t ns l.pack.bytes.now l.defs l.receivers l.regcounts l.k) (l.n - l.i) l.i ≡ total_t (adds_equations_t ns l.pack.bytes.now l.defs l.receivers l.regcounts l.k) l.n 0)
+invariant-loop-i l = (l.c ≤ 1048576 * l.i) × (l.c ≤ 1048576 * l.n) × ((ns : List Name) → length ns ≡ l.pack.names → l.c + total_t (adds_equations_t ns l.pack.bytes.now l.defs l.receivers l.regcounts l.k) (l.n - l.i) l.i ≡ total_t (adds_equations_t ns l.pack.bytes.now l.defs l.receivers l.regcounts l.k) l.n 0)
+
+abbrev pub decreases-loop-i : goal.decreases-loop-i
+decreases-loop-i l = l.n - l.i
