@@ -9,7 +9,6 @@ use lib.ListN.{length, take}
 use Rattle.wire.specs.Writer.{st, state_of}
 use Rattle.wire.specs.declared.writer.Writer.{Writer}
 use Rattle.wire.proofs.Writers.{lt-or-le, take_part}
-use Rattle.pack.proofs.NameLaws.{same-is}
 use Rattle.pack_rules.specs.Names.{Name, eq_name}
 use Rattle.pack_rules.specs.Forms.{name_at}
 use Rattle.pack_rules.specs.Legal.{place}
@@ -46,6 +45,14 @@ module _ (t : Name → ℕ) (names : ℕ) (made : Bool) (buf : List ℕ) (w : Wr
   pub built-part : (e r : ℕ) → not w.full ≡ true → made ≡ true → e ≡ min w.at (length buf) → r ≡ t (take e buf) → r ≡ place_built t names made (state_of buf [] w)
   unfolding place_built state_of
   built-part e r f g h i = let k = off w.full f in rw (k, g) (i ∙ ap t (take_part buf w.at e h))
+
+-- what the library's comparison of two slices says of names
+same-is : (a b : List ℕ) → pointwise eqb a b ≡ eq_name a b
+unfolding eq_name
+same-is [] [] = refl
+same-is [] (y ∷ ys) = refl
+same-is (x ∷ xs) [] = refl
+same-is (x ∷ xs) (y ∷ ys) = ap (λ (t : Bool). eqb x y && t) (same-is xs ys)
 
 pub made_is : (s offsets : List ℕ) (k : ℕ) (x : List ℕ) (r : Bool) → x ≡ pack_name s offsets k → r ≡ starts_with eqb x act_prefix → r ≡ made_at s offsets k
 unfolding made_at is_made act_prefix slice_of

@@ -34,7 +34,7 @@ pub fn clear(t: &mut [u16], n: usize)
     t[..end].fill(0);
 }
 
-// The first n cells, over those of another table.
+// The first n cells, over those of another table. One by one: the library's copy would have the C archive ask its caller for `memmove`.
 pub fn copy(from: &[u16], to: &mut [u16], n: usize)
     ensures { to.new ≡ copy_t from.now n to.old }
 {

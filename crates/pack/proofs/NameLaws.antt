@@ -2,14 +2,15 @@
 use Rattle.std.proofs.Common.{◌≡◌, ℕ, zero, suc, ◌+◌, ◌-◌, ◌<◌, ◌≤◌, Bool, true, false, cond, not, ◌&&◌, ◌||◌, eqb, ltb, leb, List, [], ◌∷◌, ◌++◌, length, get_or, take, drop, sym, refl, ap, ◌∙◌, ⊎_elim, add-one, arith, length-drop, drop_of_length-le, length-take, take_all, drop-cons, le-ltb, lt-ltb, ne_eqb, le-leb, leb-true}
 use mathlib.Core.Bool.{and_assoc, and-eq-true_iff, and-true, or_assoc}
 use borrow.Author.Tests.{lt-leb}
-use lib.Pointwise.{pointwise}
 use Rattle.std.specs.Prelude.{Ok, Err}
 use Rattle.wire.specs.declared.answer.Stop.{Stop}
 use Rattle.wire.specs.declared.answer.Stop.TheVariants.{Illegal}
-use Rattle.wire.specs.Answer.{Answer, bind, byte, deep, early, guard, illegal, many, u16, value}
-use Rattle.pack_rules.specs.Read.{char, name, name_byte, name_bytes, name_section, names_after, size}
-use Rattle.wire.specs.Code.{Skipped, next, read_of, skip}
+use Rattle.wire.specs.declared.answer.Number.{Number}
+use Rattle.wire.specs.Answer.{Answer, bind, byte, deep, early, guard, illegal, many, value}
+use Rattle.pack_rules.specs.Read.{char, name, name_byte, name_bytes, names_after, size}
+use Rattle.wire.specs.Code.{read_of, skip}
 use Rattle.wire.proofs.Answers.{bind-value, byte-value, guard-value}
+use Rattle.wire.proofs.Codes.{read_found}
 use Rattle.wire.proofs.Writers.{lt-or-le}
 use Rattle.pack_rules.specs.Names.{eq_name, member}
 use Rattle.pack.specs.RawNames.{Inside, one_of, raw_end, raw_name, raw_names}
@@ -85,42 +86,11 @@ bytes-parts n (suc i) zero l = absurd (omega arith)
 bytes-parts [] (suc i) (suc j) l = refl
 bytes-parts (b ∷ n) (suc i) (suc j) l = and_assoc (name_byte b) (name_bytes (take j n)) (name_bytes (drop i n)) ∙ ap (λ (x : Bool). name_byte b && x) (bytes-parts n i j (omega arith))
 
-bytes-none : (k : ℕ) → name_bytes (take k []) ≡ true
-unfolding name_bytes
-bytes-none zero = refl
-bytes-none (suc k) = refl
-
-bytes-then : (n : List ℕ) (i k : ℕ) → name_bytes (take i n) && name_bytes (take k (drop i n)) ≡ name_bytes (take (k + i) n)
-unfolding name_bytes
-bytes-then n zero k = let m : k ≡ k + 0 = omega arith in ap (λ (x : ℕ). name_bytes (take x n)) m
-bytes-then [] (suc i) k = bytes-none k ∙ sym (bytes-none (k + suc i))
-bytes-then (b ∷ n) (suc i) k =
-    let m : suc (k + i) ≡ k + suc i = omega arith in
-    and_assoc (name_byte b) (name_bytes (take i n)) (name_bytes (take k (drop i n))) ∙ ap (λ (x : Bool). name_byte b && x) (bytes-then n i k) ∙ ap (λ (x : ℕ). name_bytes (take x (b ∷ n))) m
-
 pub bytes-last : (n : List ℕ) (b : ℕ) (r : Bool) → r ≡ name_bytes (take (length n - b) (drop b n)) → r ≡ name_bytes (drop b n)
 bytes-last n b r e = e ∙ ap name_bytes (take_all (length n - b) (drop b n) (omega (arith, length-drop b n)))
 
 pub bytes-ends : (n : List ℕ) (i j : ℕ) (x y : Bool) → x ≡ name_bytes (take j n) → y ≡ name_bytes (take (length n - i) (drop i n)) → i ≤ j → x && y ≡ name_bytes n
 bytes-ends n i j x y e f l = (λ k. e k && bytes-last n i y f k) ∙ bytes-parts n i j l
-
-pub bytes-block : (n : List ℕ) (i j : ℕ) (a x z : Bool) → j ≡ i + 16 → x ≡ name_bytes (take (i + 16 - i) (drop i n)) → a ≡ name_bytes (take i n) && z → a && x ≡ name_bytes (take j n) && z
-bytes-block n i j a x z h e f =
-    let k : i + 16 - i ≡ 16 = omega arith in
-    let m : 16 + i ≡ j = omega arith in
-    (λ j. f j && (e ∙ ap (λ (y : ℕ). name_bytes (take y (drop i n))) k) j)
-    ∙ turn (name_bytes (take i n)) z (name_bytes (take 16 (drop i n)))
-    ∙ ap (λ (y : Bool). y && z) (bytes-then n i 16 ∙ ap (λ (y : ℕ). name_bytes (take y n)) m)
-  where
-    turn : (t u v : Bool) → t && u && v ≡ t && v && u
-    turn true true true = refl
-    turn true true false = refl
-    turn true false true = refl
-    turn true false false = refl
-    turn false u v = refl
-
-pub bytes-all : (n : List ℕ) (i : ℕ) (a : Bool) → length n - 16 ≤ i → a ≡ name_bytes (take i n) && name_bytes (drop (length n - 16) n) → a ≡ name_bytes n
-bytes-all n i a l e = e ∙ bytes-parts n (length n - 16) i l
 
 char-there : (s : List ℕ) (at : ℕ) → at < length s → name_byte (get_or s at 0) ≡ true → char s at ≡ value (get_or s at 0) (at + 1)
 unfolding char byte guard
@@ -134,6 +104,11 @@ chars-there s (suc n) at l e =
     let b : (name_byte (get_or s at 0) ≡ true) × (name_bytes (take n (drop (at + 1) s)) ≡ true) = (and-eq-true_iff _ _).0 (sym (ap (λ (x : List ℕ). name_bytes (take (suc n) x)) d) ∙ e) in
     let k : at + 1 + n ≡ at + suc n = omega arith in
     rw (char-there s at (omega arith) b.0, chars-there s n (at + 1) (omega arith) b.1, d, k)
+
+-- a length byte that is not 0
+pub size-found : (s : List ℕ) (at : ℕ) (n : Number) → Ok n ≡ read_of (byte s at) → 0 < n.value → Ok n ≡ read_of (size s at)
+unfolding size guard read_of
+size-found s at n h z = rw (read_found (byte s at) n h, lt-ltb 0 n.value z)
 
 -- characters that are all there and all a name's
 pub spelled-skip : (s : List ℕ) (n at : ℕ) → leb (at + n) (length s) && name_bytes (take n (drop at s)) ≡ true → skip (many (char s) n at) ≡ Ok (at + n)
@@ -282,11 +257,3 @@ reading-repeated s count q n p x to b r l e f g =
 
 pub reading-done : (s : List ℕ) (count q n p : ℕ) → NamesRead s count q n p → count ≤ n → Ok p ≡ skip (names_after s [] count q)
 reading-done s count q n p r l = sym (names-done s (raw_names s n q) (count - n) p (omega arith)) ∙ r.same
-
--- what `==` of two slices says of names
-pub same-is : (a b : List ℕ) → pointwise eqb a b ≡ eq_name a b
-unfolding eq_name
-same-is [] [] = refl
-same-is [] (y ∷ ys) = refl
-same-is (x ∷ xs) [] = refl
-same-is (x ∷ xs) (y ∷ ys) = ap (λ (t : Bool). eqb x y && t) (same-is xs ys)

@@ -54,20 +54,17 @@ fn both_ends(n: &[u8], k: usize) -> bool
     first & last
 }
 
-// The same of 16 bytes or more, as the last 16 and those before them by 16.
+// The same of 16 bytes or more, as the last 16 and, before them, a multiple of 16.
 fn by_blocks(n: &[u8]) -> bool
     requires { 16 ≤ length n.now }
     ensures { result ≡ name_bytes n.now }
 {
-    let b = n.len() - 16;
-    let mut all = each_byte(&n[b..]);
-    for k in 0..(n.len() - 1) / 16 {
-        all = all & each_byte(&n[16 * k..16 * k + 16]);
-    }
-    all
+    let first = each_byte(&n[..16 * ((n.len() - 1) / 16)]);
+    let last = each_byte(&n[n.len() - 16..]);
+    first & last
 }
 
-// The same of any: parts of 4, 8 or 16 bytes take one step each, where a rest would be gone through byte by byte.
+// The same of any, in parts of 4, 8 or a multiple of 16 bytes: these take few steps, where a rest would be gone through byte by byte.
 fn name_bytes(n: &[u8]) -> bool
     ensures { result ≡ name_bytes n.now }
 {
@@ -129,16 +126,18 @@ fn skip_chars(pack: &[u8], count: usize, q: usize) -> Skipped
     Ok(p)
 }
 
-// A name. Its characters are gone through one by one only to find which of them is wrong.
+// A name. One that is there and spelled as a name is passed over in one step; only one that is not is read once more, to find what is
+// wrong.
 pub fn skip_name(pack: &[u8], at: usize) -> Skipped
     ensures { result ≡ skip (name pack.now at) }
 {
-    let size = read_size(pack, at)?;
-    if spelled(pack, size.value, size.next) {
-        Ok(size.next + size.value)
-    } else {
-        skip_chars(pack, size.value, size.next)
+    if let Ok(size) = read_byte(pack, at) {
+        if 0 < size.value && spelled(pack, size.value, size.next) {
+            return Ok(size.next + size.value);
+        }
     }
+    let size = read_size(pack, at)?;
+    skip_chars(pack, size.value, size.next)
 }
 
 // Whether the names whose length bytes stand at a and at b are the same.

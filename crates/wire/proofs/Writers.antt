@@ -6,7 +6,6 @@ use native.Mathlib.Omega.{arith}
 use mathlib.Core.Logic.{⊎_elim, ◌⊎◌, inl, inr}
 use mathlib.Core.Bool.{Bool, true, false, cond}
 use mathlib.Core.Path.{◌≡◌, refl, sym, ap, ◌∙◌}
-use borrow.Rule.Slice.PartMut.{put_mid}
 use mathlib.Core.List.{List, [], ◌∷◌, ◌++◌, append-nil, append_assoc}
 use lib.ListN.{length, take, drop, set, get_or, length-set, drop_of_length-le, length-drop, length-append}
 use lib.Seq.{take-suc-set, length-take-le, take_all, drop-length, drop-drop, take-length, append_snoc, paste, paste-suc, take-append_seam}
@@ -120,11 +119,6 @@ take_min a o = ⊎_elim
     (λ (g : length o < a). let e : min a (length o) ≡ length o = omega arith in rw (e, take-length, take_all a o (omega arith)))
     (λ (g : a ≤ length o). let e : min a (length o) ≡ a = omega arith in rw e)
     (lt-or-le (length o) a)
-
--- a part of a buffer, written over
-pub mid-over : (at n : ℕ) (d xs ys : List ℕ) → n ≡ length xs → ys ≡ xs → put_mid at n d ys ≡ overwritten at xs d
-unfolding overwritten
-mid-over at n d xs ys e f = rw (e, f, drop-drop (length xs) at d)
 
 pub bytes-full : (o m xs : List ℕ) (w : Writer) → w.full ≡ true → state_of o m w ≡ puts xs (state_of o m w)
 unfolding state_of
